@@ -4,8 +4,10 @@ use Rattle.std.specs.Prelude.{unwrap_or}
 use Rattle.std.specs.Option.{option_map}
 use Rattle.std.specs.FinMap as fm
 use Rattle.std.proofs.lemmas.List.{get_or-set_same}
+use Rattle.lwc_base.specs.declared.key.Key.TheVariants.{Slot}
 use Rattle.lwc_base.specs.declared.name.Name.{Name}
 use Rattle.lwc_base.specs.declared.right.Right.{Right}
+use Rattle.lwc_base.specs.Cells.{slot_at, value_at, value_of}
 use Rattle.lwc_base.specs.Registers.{fresh_registers}
 use Rattle.lwc_base.specs.World.{World, Context, Group, change_context, changed_context, change_group, changed_group, context, group, is_live, new_context, new_group}
 use Rattle.ctx_table.specs.NameTables.{ArePlaced, NameTable}
@@ -54,6 +56,11 @@ module _ (s : Parts) where
   pub context-found : (c : Name) (i : ℕ) → fm.get s.contexts.map c ≡ Some i → context now c ≡ context_at s i
   unfolding context
   context-found c i found = ap (λ o. unwrap_or o (new_context 0 (fresh_registers 0))) (get-context c ∙ ap (option_map (context_at s)) found)
+
+  -- and the value in a slot of it is what the slot of the place has
+  pub slot-found : (c : Name) (i n : ℕ) → fm.get s.contexts.map c ≡ Some i → value_of now (Slot n) (s.rows i (Slot n)) ≡ slot_at now c n
+  unfolding value_at
+  slot-found c i n found = ap (λ (x : Context). value_of now (Slot n) (x.cell (Slot n))) (sym (context-found c i found))
 
   -- and so is a group
   pub group-found : (g : Name) (j : ℕ) → fm.get s.groups.map g ≡ Some j → group now g ≡ group_at s j

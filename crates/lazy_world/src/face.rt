@@ -66,17 +66,19 @@ impl World for LazyWorld {
     }
 
     fn set_slot(&mut self, c: Name, n: u8, value: Lent<'_>) {
+        let i = self.world.place(c);
         // What the old descriptor is of may have lost its only link.
-        let cut = self.world.link(c, n);
+        let cut = self.world.linked(i, n);
         self.add_cached_root(cut);
-        self.world.set_slot(c, n, value);
+        self.world.set_slot(c, i, n, value);
     }
 
     fn dup_slot(&mut self, c: Name, from: u8, to: u8) {
+        let i = self.world.place(c);
         // As in `set_slot`.
-        let lost = self.world.link(c, to);
+        let lost = self.world.linked(i, to);
         self.add_cached_root(lost);
-        self.world.dup_slot(c, from, to);
+        self.world.dup_slot(c, i, from, to);
     }
 
     fn lowest_empty(&self, c: Name) -> Option<u8> {

@@ -5,7 +5,7 @@ ghost use Rattle.lwc_base.specs.declared.descriptor.TheConstants.{SLOTS};
 ghost use Rattle.lwc_base.specs.declared.limits.TheConstants.{MOST_ROOTS};
 ghost use Rattle.lwc_base.specs.declared.key.Key.TheVariants.{Slot};
 ghost use Rattle.lwc_base.specs.declared.name.Name.{Name};
-ghost use Rattle.lwc_base.specs.Cells.{slot_at, value_of};
+ghost use Rattle.lwc_base.specs.Cells.{value_of};
 ghost use Rattle.lwc_base.specs.Life.{Reaches, is_among, is_reached, links, reap};
 ghost use Rattle.lwc_base.specs.World.{is_live};
 ghost use Rattle.world_face.specs.Calls.{IsLive};
@@ -50,15 +50,6 @@ impl PlacedWorld {
             Lent::Ctx { name, .. } => Some(name),
             _ => None,
         }
-    }
-
-    /// The context that a slot of a context has a descriptor of, if it has one.
-    pub(crate) fn link(&self, c: Name, n: u8) -> Option<Name>
-        requires live { IsLive (seen self.now) c }
-        requires slot { n < SLOTS }
-        ensures { result ≡ context_of (slot_at (seen self.now) c n) }
-    {
-        self.linked(self.place(c), n)
     }
 
     /// Whether a slot of the context at a place has a descriptor of a context. It looks at the last
@@ -191,18 +182,18 @@ impl PlacedWorld {
         self.contexts.place(c).is_some()
     }
 
-    /// Whether a context is not live, or near the roots.
+    /// Whether a context is near the roots, or not live. Mostly it is near them, so that is looked at first.
     fn is_settled(&self, roots: &[Name], c: Name) -> bool
         requires { All (λ root. IsLive (seen self.now) root) roots.now }
         ensures { result ≡ true → is_live (seen self.now) c ≡ true → Reaches (seen self.now) roots.now c }
     {
-        if !self.is_live(c) {
-            return true;
-        }
         if is_among(roots, c) {
             return true;
         }
-        self.places.may_name(c) && self.is_next(roots, c)
+        if self.places.may_name(c) && self.is_next(roots, c) {
+            return true;
+        }
+        !self.is_live(c)
     }
 
     /// The garbage among contexts of some names.

@@ -1,4 +1,5 @@
-ghost use Rattle.std.specs.Prelude.{◌≡◌, ◌<◌, ◌^◌};
+ghost use Rattle.std.specs.Prelude.{◌≡◌, ◌<◌, ◌^◌, Some};
+ghost use Rattle.std.specs.FinMap as fm;
 ghost use Rattle.lwc_base.specs.declared.descriptor.TheConstants.{SLOTS};
 ghost use Rattle.lwc_base.specs.declared.limits.TheConstants.{MOST_THREADS};
 
@@ -15,8 +16,8 @@ impl PlacedWorld {
     ghost use Rattle.lwc_base.specs.World.{add_context, change_group, new_context, next_context};
     ghost use Rattle.world_face.specs.Calls.{HasPlace, IsLive};
     ghost use Rattle.lazy_world.specs.KeyValues.{HasSlot, key_in, value_in};
-    ghost use Rattle.lazy_world.specs.Seen.{KeepsStore};
-    ghost use Rattle.lazy_world.specs.Worlds.{seen};
+    ghost use Rattle.lazy_world.specs.Seen.{KeepsStore, count};
+    ghost use Rattle.lazy_world.specs.Worlds.{parts, seen};
 
     /// Puts a value under a key of a group.
     fn put_common(&mut self, g: Name, value: KeyValue<'_>)
@@ -30,43 +31,44 @@ impl PlacedWorld {
         }
     }
 
-    /// Puts a value under a key of a context, where the old one is.
+    /// Puts a value under a key of the context at a place, where the old one is.
     #[inline(always)]
-    fn put(&mut self, c: Name, value: KeyValue<'_>)
-        requires live { IsLive (seen self.old) c }
+    fn put(&mut self, c: Name, i: usize, value: KeyValue<'_>)
+        requires found { fm.get (parts self.old).contexts.map c ≡ Some i }
+        requires inside { i < count self.old.places }
         requires slot { HasSlot value }
         ensures { seen self.new ≡ put_at (seen self.old) c (key_in value.entry) (value_in value.entry) }
     {
-        let i = self.place(c);
         match self.places.group(i, value) {
             None => self.places.put(i, value),
             Some(g) => self.put_common(g, value),
         }
     }
 
-    /// Puts another descriptor into a slot of the context.
-    pub(crate) fn set_slot(&mut self, c: Name, n: u8, value: Lent<'_>)
-        requires live { IsLive (seen self.old) c }
+    /// Puts another descriptor into a slot of the context at a place.
+    pub(crate) fn set_slot(&mut self, c: Name, i: usize, n: u8, value: Lent<'_>)
+        requires found { fm.get (parts self.old).contexts.map c ≡ Some i }
+        requires inside { i < count self.old.places }
         requires within { n < SLOTS }
         ensures put { seen self.new ≡ put_slot (seen self.old) c n (descriptor_of value.entry) }
     {
-        self.put(c, KeyValue::Slot(n, value));
+        self.put(c, i, KeyValue::Slot(n, value));
     }
 
-    /// Puts the descriptor in the slot `from` of the context into its slot `to` too. Where both slots are the
-    /// context's own, they share it.
-    pub(crate) fn dup_slot(&mut self, c: Name, from: u8, to: u8)
-        requires live { IsLive (seen self.old) c }
+    /// Puts the descriptor in the slot `from` of the context at a place into its slot `to` too. Where both slots
+    /// are the context's own, they share it.
+    pub(crate) fn dup_slot(&mut self, c: Name, i: usize, from: u8, to: u8)
+        requires found { fm.get (parts self.old).contexts.map c ≡ Some i }
+        requires inside { i < count self.old.places }
         requires from { from < SLOTS }
         requires to { to < SLOTS }
         ensures put { seen self.new ≡ put_slot (seen self.old) c to (slot_at (seen self.old) c from) }
     {
-        let i = self.place(c);
         if self.places.are_own(i, from, to) {
             self.places.copy_slot(i, to, i, from);
         } else {
             let value = owned(self.slot_at(i, from));
-            self.set_slot(c, to, value.lend());
+            self.set_slot(c, i, to, value.lend());
         }
     }
 
@@ -75,7 +77,8 @@ impl PlacedWorld {
         requires { IsLive (seen self.old) c }
         ensures { seen self.new ≡ put_uid (seen self.old) c uid }
     {
-        self.put(c, KeyValue::Cred(uid));
+        let i = self.place(c);
+        self.put(c, i, KeyValue::Cred(uid));
     }
 
     /// Keeps registers for a thread in the context, in place of those that it kept for it.

@@ -1,13 +1,16 @@
 use Rattle.std.proofs.Common.{ap, subst, sym, ◌∙◌}
+use Rattle.fd_table.specs.Slots.{context_of}
 use Rattle.lwc_base.specs.Cells.{put_slot, slot_at}
 use Rattle.lwc_base.specs.World.{World}
 use Rattle.lazy_world.specs.declared.world.PlacedWorld.{PlacedWorld}
 use Rattle.lazy_world.specs.CachedRoots.{AreReached, with_cached_root}
-use Rattle.lazy_world.specs.Worlds.{seen}
+use Rattle.lazy_world.specs.Worlds.{parts, seen}
 use Rattle.lazy_world.proofs.CachedRootLemmas.{reached-put}
+use Rattle.lazy_world.proofs.WorldLemmas.{slot-found}
 use Rattle.lazy_world.proofs.face.LazyWorldWorld.dup_slot.Goals as goal
 
 pub invariant_of-self : goal.invariant_of-self
+unfolding seen parts
 invariant_of-self c =
     let old = c.args.self.now in
     let value = slot_at (seen old.world) c.args.c c.args.from in
@@ -15,7 +18,8 @@ invariant_of-self c =
     record {
       reached = λ known.
           subst (AreReached (seen c.dup_slot.new.self)) (sym (c.add_cached_root.ensures.cached_roots known))
-          (subst (λ (w : World). AreReached w (with_cached_root old.cached_roots.items c.link-lost.result)) (sym put)
+          (subst (λ (w : World). AreReached w (with_cached_root old.cached_roots.items c.linked-lost.result)) (sym put)
           (reached-put (seen old.world) old.cached_roots.items (old.reached (c.add_cached_root.ensures.kept known))
-          c.args.c c.args.to value c.link-lost.result c.link-lost.ensures));
+          c.args.c c.args.to value c.linked-lost.result
+          (c.linked-lost.ensures ∙ ap context_of (slot-found (parts old.world) c.args.c c.place-i.result c.args.to c.place-i.ensures.found))));
     }

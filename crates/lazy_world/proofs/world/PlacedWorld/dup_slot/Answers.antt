@@ -3,10 +3,9 @@ use Rattle.lwc_base.specs.declared.cell.Cell.{Cell}
 use Rattle.lwc_base.specs.declared.cell.Cell.TheVariants.{Own, Common}
 use Rattle.lwc_base.specs.declared.descriptor.Descriptor.{Descriptor}
 use Rattle.lwc_base.specs.declared.key.Key.TheVariants as key
-use Rattle.lwc_base.specs.Cells.{put_slot, slot_at, value_at, value_of}
+use Rattle.lwc_base.specs.Cells.{put_slot, value_of}
 use Rattle.lwc_base.specs.Keys.{with_key}
-use Rattle.lwc_base.specs.declared.name.Name.{Name}
-use Rattle.lwc_base.specs.World.{Context, World, context}
+use Rattle.lwc_base.specs.World.{World}
 use Rattle.fd_table.specs.Slots.{is_common}
 use Rattle.lazy_world.specs.declared.key_value.KeyValue.TheVariants as values
 use Rattle.lazy_world.specs.declared.world.PlacedWorld.{PlacedWorld}
@@ -14,9 +13,10 @@ use Rattle.lazy_world.specs.Cells.{put_row}
 use Rattle.lazy_world.specs.KeyValues.{group_in}
 use Rattle.lazy_world.specs.Seen.{rows}
 use Rattle.lazy_world.specs.Sound.{IsSound}
-use Rattle.lazy_world.specs.States.{context_at, world_of}
+use Rattle.lazy_world.specs.States.{world_of}
 use Rattle.lazy_world.specs.Worlds.{parts, seen}
 use Rattle.lazy_world.proofs.KeyLemmas.{lent_for, lent_is, put-own, put_value, sound-own}
+use Rattle.lazy_world.proofs.WorldLemmas.{slot-found}
 use Rattle.lazy_world.proofs.world.PlacedWorld.dup_slot.Goals as goal
 
 own_cell : (w : World) (n : ℕ) (cell : Cell Descriptor) → is_common cell ≡ false → cell ≡ Own (value_of w (key.Slot n) cell)
@@ -39,17 +39,12 @@ own_row w i from to own =
     ap (λ (cell : Cell Descriptor). put_row (rows w.places) i (with_key Cell (key.Slot to) cell (rows w.places i)))
     (own_cell (seen w) from (rows w.places i (key.Slot from)) own ∙ ap Own (sym (lent_is (value w i from))))
 
--- it is the value in that slot of the context
-at_place : (w : PlacedWorld) (c : Name) (i n : ℕ) → context (seen w) c ≡ context_at (parts w) i → value w i n ≡ slot_at (seen w) c n
-unfolding parts value_at
-at_place w c i n is = ap (λ (x : Context). value_of (seen w) (key.Slot n) (x.cell (key.Slot n))) (sym is)
-
 pub invariant_of-self : goal.invariant_of-self
 unfolding parts
 invariant_of-self c =
     let w = c.args.self.now in
     let s = parts w in
-    let i = c.place-i.result in
+    let i = c.args.i in
     let own = c.are_own.ensures.slot c.if-are_own.true in
     let other = c.are_own.ensures.other c.if-are_own.true in
     let are = c.copy_slot.ensures.rows ∙ own_row w i c.args.from c.args.to own in
@@ -59,7 +54,7 @@ invariant_of-self c =
       count = c.copy_slot.ensures.count ∙ w.count;
       frames = c.copy_slot.ensures.frames ∙ w.frames;
       sound = subst IsSound (sym (λ e. record s { rows = are e; rights = c.copy_slot.ensures.store.rights e }))
-          (sound-own s w.sound w.placed c.args.c i c.place-i.ensures.found (values.Slot c.args.to (lent_for (value w i c.args.from))) c.requires.to
+          (sound-own s w.sound w.placed c.args.c i c.requires.found (values.Slot c.args.to (lent_for (value w i c.args.from))) c.requires.to
           (no_group (rows w.places i (key.Slot c.args.to)) other));
     }
 
@@ -68,22 +63,23 @@ unfolding seen parts
 returns-then-are_own c =
     let w = c.args.self.now in
     let s = parts w in
-    let i = c.place-i.result in
+    let i = c.args.i in
     let own = c.are_own.ensures.slot c.if-are_own.true in
     let other = c.are_own.ensures.other c.if-are_own.true in
     let are = c.copy_slot.ensures.rows ∙ own_row w i c.args.from c.args.to own in
     record {
       put = (λ e. world_of (record s { rows = are e; rights = c.copy_slot.ensures.store.rights e }))
-          ∙ put-own s w.sound w.placed c.args.c i c.place-i.ensures.found (values.Slot c.args.to (lent_for (value w i c.args.from))) c.requires.to
+          ∙ put-own s w.sound w.placed c.args.c i c.requires.found (values.Slot c.args.to (lent_for (value w i c.args.from))) c.requires.to
           (no_group (rows w.places i (key.Slot c.args.to)) other)
-          ∙ ap (put_slot (seen w) c.args.c c.args.to) (lent_is (value w i c.args.from) ∙ at_place w c.args.c i c.args.from c.place-i.ensures.context);
+          ∙ ap (put_slot (seen w) c.args.c c.args.to) (lent_is (value w i c.args.from) ∙ slot-found s c.args.c i c.args.from c.requires.found);
     }
 
 pub returns-else-are_own : goal.returns-else-are_own
+unfolding seen parts
 returns-else-are_own c =
     let w = c.args.self.now in
     record {
       put = c.set_slot.ensures.put
           ∙ ap (put_slot (seen w) c.args.c c.args.to)
-          (c.lend.ensures ∙ c.owned-value.ensures ∙ c.slot_at.ensures ∙ at_place w c.args.c c.place-i.result c.args.from c.place-i.ensures.context);
+          (c.lend.ensures ∙ c.owned-value.ensures ∙ c.slot_at.ensures ∙ slot-found (parts w) c.args.c c.args.i c.args.from c.requires.found);
     }
