@@ -223,8 +223,8 @@ plain_call number =
     else (if number == 10 then Some calls.Exit
     else None)))))))))
 
--- a plain call with its arguments: a getuid answers with the uid, an exit with the thread's code, and no call is
--- refused
+-- a plain call with its arguments: a getuid answers with the uid, an exit with the thread's code; where there is no
+-- call, that is refused
 unfoldable pub plain : World → Channels → CallContexts → ℕ → Option PlainCall → List ℕ → Outcome
 plain w io targets job None args = record { answer = Refused BadCall; world = w; io = io }
 plain w io targets job (Some calls.Open) args = opening w io targets (slice_index args 0)

@@ -20,8 +20,8 @@ pub struct CallContexts {
     pub cred: Name,
 }
 
-/// Makes a plain call over three contexts, for a job, with its three arguments (`plain`); no call is refused. The
-/// only error is out of memory, and then nothing has changed.
+/// Makes a plain call over three contexts, for a job, with its three arguments (`plain`). Where there is none, the
+/// answer is the refusal of a bad call. The only error is out of memory, and then nothing has changed.
 #[tactic(auto, unfolding(crate::specs::Plain::plain))]
 pub fn plain<W: World>(
     world: &mut W,
