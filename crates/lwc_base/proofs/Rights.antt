@@ -1,5 +1,5 @@
 -- The rights of pages after each change of a world, and the pages that a store leaves.
-use Rattle.std.proofs.Common.{◌≡◌, ◌≢◌, ◌⊎◌, ℕ, zero, suc, ◌+◌, ◌/◌, ◌<◌, ◌≤◌, refl, sym, ap, ◌∙◌, true, Option, Some, List, [], ◌∷◌, length, arith, rules}
+use Rattle.std.proofs.Common.{◌≡◌, ◌≢◌, ◌⊎◌, ℕ, zero, suc, ◌+◌, ◌/◌, ◌%◌, ◌<◌, ◌≤◌, refl, sym, ap, ◌∙◌, true, Option, None, Some, List, [], ◌∷◌, length, arith, rules}
 use Rattle.std.proofs.lemmas.Bool.Decides.{nat_tests}
 use Rattle.std.specs.List.{list_all, range_with_len}
 use Rattle.lwc_base.specs.declared.cell.Cell.{Cell}
@@ -11,16 +11,17 @@ use Rattle.lwc_base.specs.declared.key.Key.{Key}
 use Rattle.lwc_base.specs.declared.key.Key.TheVariants.{Page}
 use Rattle.lwc_base.specs.declared.name.Name.{Name}
 use Rattle.lwc_base.specs.declared.page.PageValue.{PageValue}
+use Rattle.lwc_base.specs.declared.page.PageValue.TheVariants.{Zero}
 use Rattle.lwc_base.specs.declared.page.TheConstants.{PAGE_BYTES}
 use Rattle.lwc_base.specs.declared.regs.Regs.{Regs}
 use Rattle.lwc_base.specs.declared.right.Right.{Right}
 use Rattle.lwc_base.specs.declared.right.Right.TheVariants.{Write, Read}
-use Rattle.lwc_base.specs.Cells.{put_at, put_page, with_cell, with_value}
+use Rattle.lwc_base.specs.Cells.{page_at, put_at, put_page, value_at, with_cell, with_value}
 use Rattle.lwc_base.specs.Clones.{IsClone}
 use Rattle.lwc_base.specs.Facts.{AddsContext, ChangesContext}
 use Rattle.lwc_base.specs.Keys.{ValueOf}
 use Rattle.lwc_base.specs.Mapping.{map_pages, unmap_pages, with_pages}
-use Rattle.lwc_base.specs.Memory.{touched}
+use Rattle.lwc_base.specs.Memory.{byte_at, touched}
 use Rattle.lwc_base.specs.Modes.{mode, mode_or_copy, number_of}
 use Rattle.lwc_base.specs.Overlay.{IsOverlay, overlaid_right, overlay, with_overlay}
 use Rattle.lwc_base.specs.Ranges.{has_page, is_page}
@@ -36,6 +37,7 @@ use Rattle.lwc_base.proofs.Lookups.{adds-add_context, changes-change_context, ch
 use Rattle.lwc_base.proofs.Orders.{cases_name}
 use Rattle.lwc_base.proofs.Puts.{after_put_at}
 use Rattle.lwc_base.proofs.Saving.{saves}
+use Rattle.lwc_base.proofs.Small.{zeros_at}
 use Rattle.lwc_base.proofs.Sharing.{shares-share}
 use Rattle.lwc_base.proofs.Stored.{first_touched, is_done, touched-covers, touched-range, touched_count}
 
@@ -90,6 +92,22 @@ module _ (w : World) (c : Name) (from to : ℕ) where
   pub right-not_unmapped : (d : Name) (p : ℕ) → (d ≢ c) ⊎ ((p < from) ⊎ (to ≤ p)) → right_at (unmap_pages w c from to) d p ≡ right_at w d p
   unfolding unmap_pages
   right-not_unmapped d p = right-outside w c from to _ d p
+
+  present-within : (value : Option PageValue) (p : ℕ) → is_live w c ≡ true → from ≤ p → p < to → page_at (change_context w c (with_pages from to value)) c p ≡ value
+  unfolding value_at
+  present-within value p live low high = let changes = changes-change_context w c (with_pages from to value) in grind (arith, nat_tests, changes.changed live)
+
+  pub page-mapped : (p : ℕ) → is_live w c ≡ true → from ≤ p → p < to → page_at (map_pages w c from to) c p ≡ Some Zero
+  unfolding map_pages
+  page-mapped p = present-within (Some Zero) p
+
+  pub page-unmapped : (p : ℕ) → is_live w c ≡ true → from ≤ p → p < to → page_at (unmap_pages w c from to) c p ≡ None
+  unfolding unmap_pages
+  page-unmapped p = present-within None p
+
+  pub byte-mapped : (at : ℕ) → is_live w c ≡ true → from ≤ at / PAGE_BYTES → at / PAGE_BYTES < to → byte_at (map_pages w c from to) c at ≡ 0
+  unfolding byte_at
+  byte-mapped at live low high = grind (arith, page-mapped (at / PAGE_BYTES) live low high, zeros_at (at % PAGE_BYTES))
 
 -- ---- clones and overlays
 
@@ -227,5 +245,7 @@ module _ (w v : World) (c : Name) (job : ℕ) (piece : Piece) (done : store w c 
       ap (λ (u : World). right_at u e p) is.after ∙ ap (λ f. f p) (rights-after_store w c job piece e)
 
 pub ruleset rights_stay = (rights-put_at, rights-after_store, rights-share, rights-save)
+
+pub ruleset pages_of_ranges = (page-mapped, page-unmapped, byte-mapped)
 
 pub ruleset rights_of_ranges = (right-mapped, right-unmapped, right-not_mapped, right-not_unmapped)

@@ -7,6 +7,7 @@ pub mod cloning;
 pub mod facts;
 pub mod jobs;
 pub mod life;
+pub mod mapping;
 pub mod modes;
 pub mod overlaying;
 pub mod ranges;
@@ -38,6 +39,7 @@ pub use life::{
     contexts_keep_the_contexts_that_they_name, reached_contexts_are_those_with_a_chain,
     what_is_dropped_is_named_by_nothing,
 };
+pub use mapping::a_mapped_page_reads_zeros;
 pub use modes::an_item_gives_its_mode;
 pub use overlaying::{an_overlay_changes_what_it_names, an_overlay_copies_or_shares};
 pub use ranges::one_run_is_one_range;
