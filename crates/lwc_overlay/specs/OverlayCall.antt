@@ -53,6 +53,7 @@ overlay w c job regs = ended w c job regs (first_refusal (refusals w c job regs)
 
 -- the items may be taken over from a context through a capability
 pub record MayTake (w : World) (c : Name) (job : ℕ) (l : Name × Cap) (items : List Item) : Type 0 where
+  pub covered : covers w.size.pages l.1 items ≡ true
   pub group : needs_group w l.0 items ≡ true → groups_of w job < MOST_GROUPS_OF_JOB
   pub few : AreFew (ranges_after_overlay w c l.0 job items)
 
