@@ -1,5 +1,5 @@
 -- Items that no row refuses.
-use Rattle.std.proofs.Common.{◌≡◌, ◌*◌, ◌≤◌, ◌++◌, ℕ, Bool, List, [], Some, None, Ok, ap, arith, false, is_none, is_some, length, true}
+use Rattle.std.proofs.Common.{◌≡◌, refl, ◌*◌, ◌≤◌, ◌++◌, ℕ, Bool, List, [], Some, None, Ok, ap, arith, false, length, true}
 use Rattle.std.proofs.lemmas.List.FromFn.{length-map-range_with_len}
 use Rattle.call_items.specs.Asked.{asked, item_bytes, item_refusals, items_of}
 use Rattle.lwc_base.specs.declared.limits.TheConstants.{MOST_ITEMS}
@@ -45,22 +45,21 @@ unfolding item_refusals
 rest_clear w c call at count rows none = grind arith
 
 -- of no items no byte is asked for
-none_asked : (w : World) (c : Name) (at : ℕ) → is_some (bytes_for w c at 0) ≡ true → asked w c at 0 ≡ []
-unfolding item_bytes bytes_for load
-none_asked w c at some = grind arith
+none_asked : (w : World) (c : Name) (at : ℕ) → asked w c at 0 ≡ []
+unfolding item_bytes bytes_for
+none_asked w c at = refl
 
--- so no item is, if the address is within the memory
-pub no_items : (w : World) (c : Name) (call : SpecCall) (at : ℕ) → is_some (bytes_for w c at 0) ≡ true → items_of w c call at 0 ≡ []
+-- so no item is
+pub no_items : (w : World) (c : Name) (call : SpecCall) (at : ℕ) → items_of w c call at 0 ≡ []
 unfolding items_of items_in items.spelled
-no_items w c call at some = ap (λ bytes. items_in call bytes) (none_asked w c at some)
+no_items w c call at = ap (λ bytes. items_in call bytes) (none_asked w c at)
 
 -- and no row of the table holds
-pub no_items_pass : (w : World) (c : Name) (call : SpecCall) (at : ℕ) (rows : List (Bool × Refusal)) → is_some (bytes_for w c at 0) ≡ true →
+pub no_items_pass : (w : World) (c : Name) (call : SpecCall) (at : ℕ) (rows : List (Bool × Refusal)) →
     first_refusal (item_refusals w c call at 0 ++ rows) ≡ first_refusal rows
-unfolding item_refusals item_bytes all_taken all_within items.spelled
-no_items_pass w c call at rows some =
-    let none : is_none (bytes_for w c at 0) ≡ false = grind arith in
-    let taken : all_taken call (asked w c at 0) ≡ true = ap (λ bytes. all_taken call bytes) (none_asked w c at some) in
-    let within : all_within w.size.pages (items_of w c call at 0) ≡ true = ap (λ items. all_within w.size.pages items) (no_items w c call at some) in
-    let alone : has_overlap (items_of w c call at 0) ≡ false = ap (λ items. has_overlap items) (no_items w c call at some) in
-    cc (none, taken, within, alone)
+unfolding item_refusals item_bytes bytes_for all_taken all_within items.spelled
+no_items_pass w c call at rows =
+    let taken : all_taken call (asked w c at 0) ≡ true = ap (λ bytes. all_taken call bytes) (none_asked w c at) in
+    let within : all_within w.size.pages (items_of w c call at 0) ≡ true = ap (λ items. all_within w.size.pages items) (no_items w c call at) in
+    let alone : has_overlap (items_of w c call at 0) ≡ false = ap (λ items. has_overlap items) (no_items w c call at) in
+    cc (taken, within, alone)

@@ -4,12 +4,12 @@ use Rattle.lwc_base.specs.Refusals.{first_refusal}
 use Rattle.call_items.proofs.NotRefused.{no_items, no_items_pass}
 use Rattle.call_items.proofs.asking.items_for.Goals as goal
 
-pub returns-clause-passed : goal.returns-clause-passed
-returns-clause-passed g c rows =
+pub returns-then-count-eq0-clause-passed : goal.returns-then-count-eq0-clause-passed
+returns-then-count-eq0-clause-passed g c rows =
     subst (λ count. first_refusal (item_refusals (g.W.World.seen c.args.world.now) c.args.c c.args.call c.args.at count ++ rows) ≡ first_refusal rows)
-    (omega (arith, c.if-count-gt0.false)) (no_items_pass (g.W.World.seen c.args.world.now) c.args.c c.args.call c.args.at rows (sym c.bytes_for.ensures.present ∙ c.if-not-bytes_for.false))
+    (omega (arith, c.if-count-eq0.true)) (no_items_pass (g.W.World.seen c.args.world.now) c.args.c c.args.call c.args.at rows)
 
-pub returns-clause-items : goal.returns-clause-items
-returns-clause-items g c =
+pub returns-then-count-eq0-clause-items : goal.returns-then-count-eq0-clause-items
+returns-then-count-eq0-clause-items g c =
     subst (λ count. c.args.items.now ≡ items_of (g.W.World.seen c.args.world.now) c.args.c c.args.call c.args.at count)
-    (omega (arith, c.if-count-gt0.false)) (c.requires.none ∙ sym (no_items (g.W.World.seen c.args.world.now) c.args.c c.args.call c.args.at (sym c.bytes_for.ensures.present ∙ c.if-not-bytes_for.false)))
+    (omega (arith, c.if-count-eq0.true)) (c.requires.none ∙ sym (no_items (g.W.World.seen c.args.world.now) c.args.c c.args.call c.args.at))
