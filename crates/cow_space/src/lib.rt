@@ -1,6 +1,6 @@
 //! The pages of contexts and of groups alike, by place: the cell of each page, over one store of pages that
 //! are shared until they are written. A copy shares the nodes and frames of what it copies, a page gets a
-//! frame of its own when it is written, and a present page that was never written takes no frame and no node.
+//! frame of its own when it is written, and a present page that was never written takes no frame.
 #![tactic(auto)]
 
 pub mod cells;

@@ -41,7 +41,7 @@ fn change<L: Ledger>(
     places.change(i, page_runs, &[], steps);
 }
 
-/// CallContexts places, of which the first has pages 2 to 7, and bytes at page 5.
+/// Three places, of which the first has pages 2 to 7, and bytes at page 5.
 fn written<L: Ledger>(
     rt: &impl Abort,
     alloc: Global,

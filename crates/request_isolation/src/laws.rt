@@ -96,14 +96,15 @@ pub fn ample_frames_are_ample()
         (replicate steps 0)) 0 → ⊥ }
 {}
 
-/// A step takes a frame by a store alone: one that does not store leaves no more in use, and a call that reads
-/// leaves as many as its store. So the most frames that a request takes by itself are those after a step of it, or
-/// directly after a store.
+/// A step takes a frame by a store alone: one that does not store leaves no more in use, and a call that
+/// reads leaves as many as its store. So the most frames that a request takes by itself are those after a step
+/// of it, or directly after a store.
 pub fn stores_alone_take_frames()
     ensures step { (inputs : Inputs) (steps : List ℕ) (t : ℕ) → CanOpen inputs →
         (IsStoring (run (start inputs) steps) t → ⊥) →
         used (acted_world (run (start inputs) steps) t) ≤ frames_of (run (start inputs) steps) }
     ensures read { (w : World) (io : Channels) (job : ℕ) (targets : CallContexts) (args : List ℕ) →
         (used (plain w io targets job (Some plain_calls.Read) args).world ≡ used w)
-        ⊎ (used (plain w io targets job (Some plain_calls.Read) args).world ≡ used (world_after w (store_of_read w io targets job args))) }
+        ⊎ (used (plain w io targets job (Some plain_calls.Read) args).world
+            ≡ used (world_after w (store_of_read w io targets job args))) }
 {}

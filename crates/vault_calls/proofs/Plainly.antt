@@ -77,10 +77,6 @@ after-blank v w ReadOnly = refl
 after-blank v w Full = refl
 after-blank v w (Done u) = refl
 
-either-blank : (v : Name) (b : Bool) (x y z u : Outcome) → x ≡ blank_outcome v z → y ≡ blank_outcome v u → cond b x y ≡ blank_outcome v (cond b z u)
-either-blank v true x y z u first second = first
-either-blank v false x y z u first second = second
-
 module _ (v : Name) (w : World) (io : Channels) (job : ℕ) (targets : CallContexts) (outside : AreOutside v targets) where
   value-blank : (n : ℕ) → descriptor_for (blank v w) targets.slots n ≡ descriptor_for w targets.slots n
   value-blank n = descriptor-blank v w targets.slots n
