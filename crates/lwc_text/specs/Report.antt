@@ -34,9 +34,23 @@ report_of m most steps =
     threads_text m ++ contexts_text m.environment.world ++ groups_line (fm.len m.environment.world.groups)
     ++ replies_text m ++ tail_lines m.environment.channels.console (frames_of m) most steps
 
+-- the report of a machine without the lines of replies
+unfoldable pub rest_of : Machine → ℕ → List ℕ → List ℕ
+rest_of m most steps =
+    threads_text m ++ contexts_text m.environment.world ++ groups_line (fm.len m.environment.world.groups)
+    ++ tail_lines m.environment.channels.console (frames_of m) most steps
+
 -- the report of the run of these steps from the start
 abbrev pub report_after : Inputs → List ℕ → List ℕ
 report_after inputs steps = report_of (run (start inputs) steps) (peak (start inputs) steps) steps
+
+-- the same without the lines of replies
+abbrev pub rest_after : Inputs → List ℕ → List ℕ
+rest_after inputs steps = rest_of (run (start inputs) steps) (peak (start inputs) steps) steps
+
+-- the lines of the same report, those of replies first
+unfoldable pub stream_text : Inputs → List ℕ → List ℕ
+stream_text inputs steps = replies_text (run (start inputs) steps) ++ rest_after inputs steps
 
 -- the report of the steps of a schedule that are kept
 unfoldable pub report_of_schedule : Inputs → List ℕ → List ℕ

@@ -24,7 +24,7 @@ pub use lines::{
 };
 pub use numbers::number_of;
 pub use replaying::{make_steps, report_of_schedule};
-pub use reporting::{context_lines, report};
+pub use reporting::{context_lines, report, rest_of_report};
 pub use requests::read_requests;
 pub use schedule::{Schedule, read_schedule, read_schedule_within};
 pub use vault::{MOST_VAULT_BYTES, read_vault};

@@ -1,8 +1,12 @@
 //! The report of a run.
 
 ghost use Rattle.std.specs.Prelude.{◌≡◌, ◌++◌, [], IfOk, OnOk};
+ghost use Rattle.std.specs.FinMap as fm;
 ghost use Rattle.kernel_core.specs.Kernel.{machine_of};
-ghost use Rattle.lwc_text.specs.Report.{contexts_text, replies_text, report_after, threads_text};
+ghost use Rattle.kernel_core.specs.Runs.{frames_of, peak};
+ghost use Rattle.kernel_core.specs.Start.{start};
+ghost use Rattle.lwc_text.specs.Lines.{groups_line, tail_lines};
+ghost use Rattle.lwc_text.specs.Report.{contexts_text, replies_text, report_after, rest_after, threads_text};
 
 use crate::lines::{context_line, groups_line, reply_line, tail_lines, thread_lines};
 use kernel_core::Kernel;
@@ -17,19 +21,48 @@ use world_face::World;
 pub fn report<W: World>(alloc: Global, k: &Kernel<W>) -> Result<Vec<u8>, OutOfMemory>
     ensures exact { IfOk result (λ text. text.items ≡ report_after k.now.inputs k.now.steps) }
 {
+    let mut text = world_text(alloc, k)?;
+    reply_lines(&mut text, k)?;
+    last_lines(&mut text, k)?;
+    Ok(text)
+}
+
+/// The report of a run without the lines of replies. The only error is out of memory.
+#[tactic(auto, unfolding(crate::specs::Report::rest_of, kernel_core::specs::Kernel::machine_of))]
+pub fn rest_of_report<W: World>(alloc: Global, k: &Kernel<W>) -> Result<Vec<u8>, OutOfMemory>
+    ensures exact { IfOk result (λ text. text.items ≡ rest_after k.now.inputs k.now.steps) }
+{
+    let mut text = world_text(alloc, k)?;
+    last_lines(&mut text, k)?;
+    Ok(text)
+}
+
+/// The lines of all threads and contexts, and that of the groups.
+fn world_text<W: World>(alloc: Global, k: &Kernel<W>) -> Result<Vec<u8>, OutOfMemory>
+    ensures { IfOk result (λ text. text.items ≡ threads_text (machine_of k.now)
+        ++ contexts_text (machine_of k.now).environment.world
+        ++ groups_line (fm.len (machine_of k.now).environment.world.groups)) }
+{
     let world = k.world();
     let mut text = threads_text(alloc, k)?;
     context_lines(&mut text, world)?;
     groups_line(&mut text, world.group_count())?;
-    reply_lines(&mut text, k)?;
+    Ok(text)
+}
+
+/// Appends the last five lines.
+fn last_lines<W: World>(out: &mut Vec<u8>, k: &Kernel<W>) -> Result<(), OutOfMemory>
+    ensures { OnOk result (out.new.items ≡ out.old.items
+        ++ tail_lines (machine_of k.now).environment.channels.console (frames_of (machine_of k.now))
+        (peak (start k.now.inputs) k.now.steps) k.now.steps) }
+{
     tail_lines(
-        &mut text,
+        out,
         k.channels().console(),
-        world.used(),
+        k.world().used(),
         k.peak(),
         k.schedule(),
-    )?;
-    Ok(text)
+    )
 }
 
 /// The lines of all threads.
