@@ -40,7 +40,7 @@ use Rattle.vault_view.proofs.Changes.{asks-alike, blanks-alike, changes-alike}
 use Rattle.vault_calls.proofs.Named.{descriptor-blank, first-append, item_refusals-blank, items-blank, link_or, none-append, nothing-covered, slot_refusals-blank}
 use Rattle.vault_calls.specs.Outside.{IsOutside, LacksKeys, blank_end}
 use Rattle.vault_view.specs.Blank.{blank}
-use Rattle.vault_view.specs.Facts.{MayTake}
+use Rattle.vault_view.specs.Facts.{TakesNothingOf}
 
 -- the context that a descriptor names, and else another one
 abbrev target_or : Name → Descriptor → Name
@@ -185,13 +185,13 @@ module _ (v c : Name) (job : ℕ) (w : World) (outside : IsOutside v c job w) (r
     shut is = link-shut v c (descriptor_for w c (slice_index regs.r 1)) outside.context (outside.shut (slice_index regs.r 1)) is
 
     -- where items are covered, they are taken from elsewhere, or there are none
-    may_take : first_refusal (item_rows spec_call.Overlay) ≡ None → covers w.size.pages l.1 list ≡ true → MayTake v l.0 list
+    may_take : first_refusal (item_rows spec_call.Overlay) ≡ None → covers w.size.pages l.1 list ≡ true → TakesNothingOf v l.0 list
     may_take none covered = cases_name l.0 v
         (λ is. inr (nothing-covered w.size.pages l.1 list outside.pages.1 (shut is)
         (spec_asked w c spec_call.Overlay (slice_index regs.r 2) (slice_index regs.r 3) [] (ap first_refusal (append-nil (item_rows spec_call.Overlay)) ∙ none)) covered))
         (λ other. inl other)
 
-    giver-blank : MayTake v l.0 list → giver_rows (blank v w) ≡ giver_rows w
+    giver-blank : TakesNothingOf v l.0 list → giver_rows (blank v w) ≡ giver_rows w
     unfolding overlaying.giver_refusals
     giver-blank may = λ i.
         (not (covers w.size.pages l.1 list), NotCovered)
@@ -226,7 +226,7 @@ module _ (v c : Name) (job : ℕ) (w : World) (outside : IsOutside v c job w) (r
         ∙ first-append slot_rows (item_rows spec_call.Overlay ++ giver_rows (blank v w)) (item_rows spec_call.Overlay ++ giver_rows w)
         (λ _. first-append (item_rows spec_call.Overlay) (giver_rows (blank v w)) (giver_rows w) first_giver)
 
-    rows_none : first_refusal (overlaying.refusals w c job regs) ≡ None → MayTake v l.0 list
+    rows_none : first_refusal (overlaying.refusals w c job regs) ≡ None → TakesNothingOf v l.0 list
     unfolding overlaying.refusals
     rows_none none =
         let after = (none-append slot_rows (item_rows spec_call.Overlay ++ giver_rows w) none).1 in

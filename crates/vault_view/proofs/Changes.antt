@@ -38,7 +38,7 @@ use Rattle.job_view.proofs.Tables.{changed_entry, get-changed_entry}
 use Rattle.vault_view.proofs.Counts.{keys-blank, groups_of-blank, live_of-blank, parting-blank, reap-blank, used-blank}
 use Rattle.vault_view.proofs.Asked.{enters-blank, slot_cell-blank, bytes-blank, cell-blank, context-blank, get-blank, live-blank, lowest-blank, needs-blank, present-blank, ranges-blank, slot-blank, summary-blank, value-blank, writable-blank}
 use Rattle.vault_view.specs.Blank.{blank, blank_cell, blank_context, blank_contexts, blank_stored}
-use Rattle.vault_view.specs.Facts.{AsksAlike, BlanksAlike, ChangesAlike, MayTake}
+use Rattle.vault_view.specs.Facts.{AsksAlike, BlanksAlike, ChangesAlike, TakesNothingOf}
 
 -- two changes of one entry, in either order, where they commute if they are of the same name
 either_order : {X : Type 0} (f g : X → X) (s t : Bool) (o : Option X) → (s ≡ true → t ≡ true → (x : X) → g (f x) ≡ f (g x)) →
@@ -310,7 +310,7 @@ module _ (v : Name) where
     unfolding overlay mode
     overlay_none u d job = ap (λ s. change_context s c (with_overlay s d [])) (share-none u d job)
 
-    pub overlay-blank : (d : Name) (job : ℕ) (items : List Item) → MayTake v d items → overlay (blank v w) c d job items ≡ blank v (overlay w c d job items)
+    pub overlay-blank : (d : Name) (job : ℕ) (items : List Item) → TakesNothingOf v d items → overlay (blank v w) c d job items ≡ blank v (overlay w c d job items)
     overlay-blank d job items (inl source) = overlay_from-blank d job items source
     overlay-blank d job items (inr none) =
         subst (λ list. overlay (blank v w) c d job list ≡ blank v (overlay w c d job list)) (sym none)
@@ -327,7 +327,7 @@ module _ (v : Name) where
               ∙ cloned-blank s c outside items (context s c).entry) i),
         ))
 
-    pub ranges_overlaid-blank : (d : Name) (job : ℕ) (items : List Item) → MayTake v d items → ranges_after_overlay (blank v w) c d job items ≡ ranges_after_overlay w c d job items
+    pub ranges_overlaid-blank : (d : Name) (job : ℕ) (items : List Item) → TakesNothingOf v d items → ranges_after_overlay (blank v w) c d job items ≡ ranges_after_overlay w c d job items
     unfolding ranges_after_overlay
     ranges_overlaid-blank d job items source =
         let after : World = overlay w c d job items in

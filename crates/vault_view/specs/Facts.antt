@@ -23,8 +23,8 @@ use Rattle.lwc_base.specs.declared.regs.Regs.{Regs}
 use Rattle.vault_view.specs.Blank.{blank, blank_context, blank_stored}
 
 -- items are taken from another context than the blank one, or there are none
-abbrev pub MayTake : Name → Name → List Item → Type 0
-MayTake v d items = (d ≢ v) ⊎ (items ≡ [])
+abbrev pub TakesNothingOf : Name → Name → List Item → Type 0
+TakesNothingOf v d items = (d ≢ v) ⊎ (items ≡ [])
 
 -- what is asked of a context
 pub record AsksAlike (v c : Name) (w : World) : Type 0 where
@@ -32,7 +32,7 @@ pub record AsksAlike (v c : Name) (w : World) : Type 0 where
   pub bytes : (at count : ℕ) → bytes_for (blank v w) c at count ≡ bytes_for w c at count
   pub cloned : (job : ℕ) (items : List Item) →
       ranges_after_clone (blank v w) c job items ≡ ranges_after_clone w c job items
-  pub overlaid : (d : Name) (job : ℕ) (items : List Item) → MayTake v d items →
+  pub overlaid : (d : Name) (job : ℕ) (items : List Item) → TakesNothingOf v d items →
       ranges_after_overlay (blank v w) c d job items ≡ ranges_after_overlay w c d job items
 
 -- what changes a context
@@ -44,7 +44,7 @@ pub record ChangesAlike (v c : Name) (w : World) : Type 0 where
   pub save : (t : ℕ) (regs : Regs) → save (blank v w) c t regs ≡ blank v (save w c t regs)
   pub clone : (job : ℕ) (items : List Item) (entry : Regs) → job ≢ v.job →
       clone_context (blank v w) c job items entry ≡ blank v (clone_context w c job items entry)
-  pub overlay : (d : Name) (job : ℕ) (items : List Item) → MayTake v d items →
+  pub overlay : (d : Name) (job : ℕ) (items : List Item) → TakesNothingOf v d items →
       overlay (blank v w) c d job items ≡ blank v (overlay w c d job items)
 
 -- what is so of each context, the blank one too, and of the whole world
