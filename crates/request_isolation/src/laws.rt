@@ -106,5 +106,5 @@ pub fn stores_alone_take_frames()
     ensures read { (w : World) (io : Channels) (job : ℕ) (targets : CallContexts) (args : List ℕ) →
         (used (plain w io targets job (Some plain_calls.Read) args).world ≡ used w)
         ⊎ (used (plain w io targets job (Some plain_calls.Read) args).world
-            ≡ used (world_after w (store_of_read w io targets job args))) }
+        ≡ used (world_after w (store_of_read w io targets job args))) }
 {}
