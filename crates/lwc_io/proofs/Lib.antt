@@ -1,2 +1,2 @@
 pub mod Outputs
-mod Walks
+pub mod Walks

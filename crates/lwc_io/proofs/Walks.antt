@@ -1,4 +1,4 @@
--- A step that both proofs of `src/log.rt` take. Assumes `Logic`.
+-- A step that the proofs of logs take, here and in `thread_carrier`. Assumes `Logic`.
 use Rattle.std.proofs.Common.{List, [], ◌∷◌, refl}
 use seplogic.Ra.Ura.{Ura}
 use mir.Val.{Val, vstruct, vnil}

@@ -1,4 +1,4 @@
-//! The outside as its callers see it: files to read, a sink to write to, and a gate to wait at.
+//! The outside as its callers see it: files to read, and a sink to write to.
 #![tactic(auto)]
 
 mod log;
@@ -11,7 +11,7 @@ mod tests;
 mod writing;
 
 pub use memory::{MemoryFiles, MemorySink, NamedFile};
-pub use outside::{Failed, Files, Gate, OpenGate, Sink};
+pub use outside::{Failed, Files, Sink};
 pub use real::{RealFiles, RealSink};
 pub use sure::{SureFiles, SureSink};
 pub use writing::write_whole;

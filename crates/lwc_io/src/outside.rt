@@ -2,7 +2,6 @@ ghost use Rattle.std.specs.Prelude.{◌≡◌, ℕ, ◌<◌, ◌≤◌, List, le
 ghost use Rattle.lwc_io.specs.Outside.{CountsOneFault, FilesView, IsPiece, SinkView, appended, given_by};
 ghost use Rattle.lwc_io.specs.Outside.{with_fetch};
 
-use std::sync::Wait;
 use thiserror::Error;
 
 /// A call to the outside failed, and was counted there as a fault.
@@ -57,31 +56,4 @@ pub trait Sink {
         ensures never_decreases { (seen self.old).faults ≤ (seen self.new).faults }
         ensures cause { OnErr result (CountsOneFault (seen self.old).faults (seen self.new).faults) }
         ensures no_fault { OnOk result ((seen self.new).faults ≡ (seen self.old).faults) };
-}
-
-/// Where threads may be made to wait before their turns, and where it is seen which requests they finish.
-pub trait Gate: Sync {
-    /// The leave to come to the gate. A call that is not given it cannot wait there.
-    ghost leave: { Self → Type 0 };
-
-    /// Called before a thread takes a turn; the first turn of each thread is turn 0. It promises
-    /// nothing, and may wait.
-    fn before<R: Wait>(&self, rt: &R, thread: u32, turn: u64)
-        requires leave { leave self.now };
-
-    /// Called after a turn that finished a request. It promises nothing, and may wait.
-    fn finished<R: Wait>(&self, _rt: &R, _thread: u32, _request: u16)
-        requires leave { leave self.now }
-    {}
-}
-
-/// A gate at which nobody waits.
-#[derive(Clone, Copy, Debug, PartialEq, Eq, Default)]
-pub struct OpenGate;
-
-impl Gate for OpenGate {
-    ghost leave = { λ _. Unit {0} };
-
-    /// Returns at once.
-    fn before<R: Wait>(&self, _rt: &R, _thread: u32, _turn: u64) {}
 }

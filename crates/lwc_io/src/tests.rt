@@ -1,6 +1,6 @@
 use crate::{
-    Failed, Files, Gate, MemoryFiles, MemorySink, NamedFile, OpenGate, RealFiles, RealSink, Sink,
-    SureFiles, SureSink,
+    Failed, Files, MemoryFiles, MemorySink, NamedFile, RealFiles, RealSink, Sink, SureFiles,
+    SureSink,
 };
 use std::process::Abort;
 use std::test::Fail;
@@ -97,8 +97,6 @@ fn a_sink_that_takes_nothing_fails(rt: HostRuntime) -> Result<(), Fail> {
     let mut full = RealSink::new(none.as_mut_slice());
     check_writes(&rt, &mut full, b"x", &[Err(Failed)]);
     check_writes(&rt, &mut SureSink, b"xyz", &[Ok(3)]);
-    OpenGate.before(&rt, 0, 0);
-    OpenGate.finished(&rt, 0, 0);
     Ok(())
 }
 
