@@ -5,4 +5,4 @@ mod Sent
 mod Serving
 mod Shown
 mod Turns
-mod Written
+pub mod Written

@@ -19,8 +19,8 @@ finished_send = search (sendable, crosses) depth 80 fits 20000
 puts_send : (T : RattleType) → IsSend T → IsSend (puts.the_row T)
 puts_send T s = search (sendable, crosses, seat.the_send) depth 80 fits 20000
 
-pub worker_send : (W : RattleType) (g : world.Ghosts W.Denot) → IsSend W → IsSend (worker.the_row W g)
-worker_send W g s = search (sendable, crosses, carried_send, puts_send, finished_send) depth 80 fits 20000
+pub worker_send : (W L : RattleType) (g : world.Ghosts W.Denot) → IsSend W → IsSend L → IsSend (worker.the_row W L g)
+worker_send W L g s l = search (sendable, crosses, carried_send, puts_send, finished_send) depth 80 fits 20000
 
 pub queue_sync : (T : RattleType) → IsSend T → IsSync (queue.the_row T)
 queue_sync T s = search (sendable, crosses, shared.the_sync, lease.the_sync) depth 80 fits 20000

@@ -1,22 +1,24 @@
 //! The workers in threads of their own, and the caller beside them.
-ghost use Rattle.std.specs.Prelude.{◌≡◌, List, All, length, map, Some, slice_get};
+ghost use Rattle.std.specs.Prelude.{◌≡◌, ◌++◌, List, All, length, map, Some, slice_get};
 ghost use Rattle.atomic_table.specs.Seated.{TableId};
 ghost use Rattle.lwc_io.specs.Outside.{SinkView};
 ghost use Rattle.lwc_stream.specs.Crews.{HasServed, HaveServed, IsFresh};
 ghost use Rattle.lwc_stream.specs.Streams.{HasShown};
+ghost use Rattle.thread_carrier.specs.Growth.{visited};
 
 use crate::desk::Desk;
 use crate::news::News;
 use crate::queue::ReplyQueue;
 use crate::worker::{Worker, serve};
 use lwc_base::MOST_THREADS;
-use lwc_io::{Gate, Sink};
+use lwc_io::Sink;
 use process_core::Process;
 use snapshot_host::Finished;
 use std::snapshot::Snapshot;
 use std::sync::Wait;
 use std::thread;
 use std::thread::{Promise, Scope, Threads};
+use thread_carrier::Gate;
 use world_face::World;
 
 /// Carries all threads to their ends, each in a thread of the host's own where one can be made. It may wait.
@@ -26,23 +28,25 @@ fn serve_all<R: Threads + Wait + Sync, W: World, G: Gate>(
     queues: &[ReplyQueue<Finished>],
     news: &News,
     gate: &G,
-    mut workers: Vec<Worker<W>>,
-) -> Vec<Worker<W>>
+    mut workers: Vec<Worker<W, G::Log>>,
+) -> Vec<Worker<W, G::Log>>
     requires leave { G.leave gate.now }
     requires fresh { All (λ w. IsFresh process.now w.pass w.puts) workers.items }
     requires queues { map (λ w. w.puts.queue) workers.items ≡ queues.now }
-    ensures { HaveServed (λ w. w.pass) (λ w. w.puts) process.now workers.items result.items }
+    ensures { HaveServed (λ w. w.pass) (λ w. w.puts) (λ w. G.visits w.log) process.now workers.items result.items }
 {
     thread::for_each_mut(
         rt,
         workers.as_mut_slice(),
         MOST_THREADS as usize,
-        &|i: usize, worker: &mut Worker<W>|
+        &|i: usize, worker: &mut Worker<W, G::Log>|
             requires { G.leave gate.now × IsFresh process.now worker.now.pass worker.now.puts
                 × (slice_get queues.now i ≡ Some worker.now.puts.queue) }
             ensures { HasServed process.entry.now worker.exit.now.pass worker.exit.now.puts
                 × (worker.exit.now.pass.held.number ≡ worker.entry.now.pass.held.number)
-                × (worker.exit.now.puts.queue ≡ worker.entry.now.puts.queue) }
+                × (worker.exit.now.puts.queue ≡ worker.entry.now.puts.queue)
+                × (G.visits worker.exit.now.log ≡ G.visits worker.entry.now.log
+                ++ visited process.entry.now.name worker.exit.now.pass) }
         {
             let Some(queue) = queues.get(i) else {
                 unreachable!();
@@ -56,15 +60,16 @@ fn serve_all<R: Threads + Wait + Sync, W: World, G: Gate>(
 
 /// What workers return has served.
 #[derive(Drop)]
-struct Service<W: World> {
+struct Service<W: World, G: Gate> {
     process: Snapshot<Process<W>>,
-    before: Snapshot<Vec<Worker<W>>>,
+    before: Snapshot<Vec<Worker<W, G::Log>>>,
 }
 
-impl<W: World> Promise<Vec<Worker<W>>> for Service<W> {
+impl<W: World, G: Gate> Promise<Vec<Worker<W, G::Log>>> for Service<W, G> {
     ghost use Rattle.lwc_stream.specs.Crews.{HaveServed};
 
-    ghost kept_by = { λ p r. HaveServed (λ w. w.pass) (λ w. w.puts) p.process.value p.before.value.items r.items };
+    ghost kept_by = { λ p r. HaveServed (λ w. w.pass) (λ w. w.puts) (λ w. G.visits w.log)
+        p.process.value p.before.value.items r.items };
 }
 
 /// What the caller does while workers go on.
@@ -137,27 +142,27 @@ fn go_in<
     news: &'s News,
     gate: &'s G,
     caller: S,
-    workers: Vec<Worker<W>>,
-) -> (Vec<Worker<W>>, A)
+    workers: Vec<Worker<W, G::Log>>,
+) -> (Vec<Worker<W, G::Log>>, A)
     requires leave { G.leave gate.now }
     requires fresh { All (λ w. IsFresh process.now w.pass w.puts) workers.items }
     requires queues { map (λ w. w.puts.queue) workers.items ≡ queues.now }
     requires can { S.can_go caller queues.now }
-    ensures served { HaveServed (λ w. w.pass) (λ w. w.puts) process.now workers.items result.0.items }
+    ensures served { HaveServed (λ w. w.pass) (λ w. w.puts) (λ w. G.visits w.log) process.now workers.items result.0.items }
     ensures gives { S.gives caller result.1 }
 {
     let count = workers.len();
-    let promise = Service {
+    let promise = Service::<W, G> {
         process: Snapshot::of(process),
         before: Snapshot::of(&workers),
     };
     let started = scope.spawn_with(
         promise,
-        move || -> Vec<Worker<W>>
+        move || -> Vec<Worker<W, G::Log>>
             requires { G.leave gate.now
                 × All (λ w. IsFresh process.now w.pass w.puts) workers.items
                 × (map (λ w. w.puts.queue) workers.items ≡ queues.now) }
-            ensures { HaveServed (λ w. w.pass) (λ w. w.puts) process.entry.now workers.items result.items }
+            ensures { HaveServed (λ w. w.pass) (λ w. w.puts) (λ w. G.visits w.log) process.entry.now workers.items result.items }
         { serve_all(rt, process, queues, news, gate, workers) },
     );
     match started {
@@ -180,13 +185,13 @@ fn go_beside<R: Threads + Wait + Sync, W: World, G: Gate, S: Beside<Output = A> 
     queues: &[ReplyQueue<Finished>],
     gate: &G,
     caller: S,
-    workers: Vec<Worker<W>>,
-) -> (Vec<Worker<W>>, A)
+    workers: Vec<Worker<W, G::Log>>,
+) -> (Vec<Worker<W, G::Log>>, A)
     requires leave { G.leave gate.now }
     requires fresh { All (λ w. IsFresh process.now w.pass w.puts) workers.items }
     requires queues { map (λ w. w.puts.queue) workers.items ≡ queues.now }
     requires can { S.can_go caller queues.now }
-    ensures served { HaveServed (λ w. w.pass) (λ w. w.puts) process.now workers.items result.0.items }
+    ensures served { HaveServed (λ w. w.pass) (λ w. w.puts) (λ w. G.visits w.log) process.now workers.items result.0.items }
     ensures gives { S.gives caller result.1 }
 {
     let news = News::new();
@@ -194,12 +199,12 @@ fn go_beside<R: Threads + Wait + Sync, W: World, G: Gate, S: Beside<Output = A> 
     thread::scope(
         thread::scope_env(),
         rt,
-        move |scope| -> (Vec<Worker<W>>, A)
+        move |scope| -> (Vec<Worker<W, G::Log>>, A)
             requires { G.leave gate.now
                 × All (λ w. IsFresh process.now w.pass w.puts) workers.items
                 × (map (λ w. w.puts.queue) workers.items ≡ queues.now)
                 × S.can_go caller queues.now }
-            ensures { HaveServed (λ w. w.pass) (λ w. w.puts) process.entry.now workers.items result.0.items
+            ensures { HaveServed (λ w. w.pass) (λ w. w.puts) (λ w. G.visits w.log) process.entry.now workers.items result.0.items
                 × S.gives caller result.1 }
         { go_in(scope, rt, process, queues, news, gate, caller, workers) },
     )
@@ -218,13 +223,13 @@ pub(crate) fn serve_beside<R: Threads + Wait + Sync, W: World, G: Gate, O: Sink>
     gate: &G,
     out: &mut O,
     desk: Desk,
-    workers: Vec<Worker<W>>,
-) -> (Vec<Worker<W>>, Desk)
+    workers: Vec<Worker<W, G::Log>>,
+) -> (Vec<Worker<W, G::Log>>, Desk)
     requires leave { G.leave gate.now }
     requires fresh { All (λ w. IsFresh process.now w.pass w.puts) workers.items }
     requires queues { map (λ w. w.puts.queue) workers.items ≡ queues.now }
     requires takes { map (λ e. e.queue) desk.takes.items ≡ queues.now }
-    ensures served { HaveServed (λ w. w.pass) (λ w. w.puts) process.now workers.items result.0.items }
+    ensures served { HaveServed (λ w. w.pass) (λ w. w.puts) (λ w. G.visits w.log) process.now workers.items result.0.items }
     ensures queues { map (λ e. e.queue) result.1.takes.items ≡ queues.now }
     ensures places { length result.1.waiting.places ≡ length desk.waiting.places }
     ensures shown { (before : SinkView) →

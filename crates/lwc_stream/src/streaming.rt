@@ -1,26 +1,29 @@
 //! A stream as a whole.
-ghost use Rattle.std.specs.Prelude.{◌≡◌, ◌<◌, ◌≤◌, [], true, All, Bool, IfOk, List, OnErr, length, map, vec_capacity};
+ghost use Rattle.std.specs.Prelude.{◌≡◌, ◌<◌, ◌≤◌, ◌+◌, ◌++◌, [], true, All, Bool, IfOk, List, OnErr};
+ghost use Rattle.std.specs.Prelude.{length, map, vec_capacity};
 ghost use Rattle.kernel_core.specs.Machine.{has_ended};
 ghost use Rattle.lwc_io.specs.Outside.{SinkView};
 ghost use Rattle.lwc_stream.specs.Replies.{AreShown, IsWritten, finished_by, lines_of};
 ghost use Rattle.lwc_stream.specs.Streams.{HasShown};
 ghost use Rattle.process_core.specs.Running.{AreAllOf};
 ghost use Rattle.snapshot_host.specs.declared.finishing.Finished.{Finished};
+ghost use Rattle.thread_carrier.specs.Growth.{grown};
 
 use crate::crew::serve_beside;
 use crate::desk::{Desk, show_ready, take_rest};
-use crate::ends::Takes;
+use crate::ends::{Puts, Takes};
 use crate::queue::ReplyQueue;
 use crate::waiting::Waiting;
 use crate::worker::Worker;
 use crate::writer::LineWriter;
 use lwc_base::OutOfMemory;
-use lwc_io::{Gate, Sink};
+use lwc_io::Sink;
 use process_core::{Process, ProcessPasses};
 use snapshot_host::Finished;
 use std::alloc::Global;
 use std::sync::Wait;
 use std::thread::Threads;
+use thread_carrier::Gate;
 use world_face::World;
 
 /// What a stream leaves: whether a write failed, and all passes.
@@ -35,93 +38,130 @@ pub struct Streamed<W: World> {
 /// writes no more, and goes on to the end. It hands all passes back, and may wait.
 ///
 /// Each thread is carried by a worker of its own where one can be started, and comes to the gate before each
-/// turn, and again after one that finished a request. A line may be written while workers go on: no clause
-/// says so, tests show it.
+/// turn, and tells it of each request that it finished: the log at the place of its pass grows by these visits.
+/// Further logs stay as they are. A line may be written while workers go on: no clause says so, tests show it.
 ///
 /// # Errors
 ///
-/// The only error is out of memory. It comes before any turn and any write; the passes are then given up.
+/// The only error is out of memory. No thread has come to the gate then, nothing was written, and the logs are as
+/// before; the passes are given up.
 pub fn stream_all<R: Threads + Wait + Sync, W: World, G: Gate, O: Sink>(
     rt: &R,
     alloc: Global,
     process: &Process<W>,
     passes: ProcessPasses<W>,
     gate: &G,
+    logs: &mut Vec<G::Log>,
     requests: u32,
     out: &mut O,
 ) -> Result<Streamed<W>, OutOfMemory>
     requires leave { G.leave gate.now }
     requires all { AreAllOf process.now passes.items }
     requires fresh { All (λ p. p.held.seen ≡ []) passes.items }
+    requires logs { length passes.items ≤ length logs.old.items }
     ensures all { IfOk result (λ s. AreAllOf process.now s.passes.items) }
+    ensures numbers { IfOk result (λ s. map (λ p. p.held.number) s.passes.items
+        ≡ map (λ p. p.held.number) passes.items) }
     ensures ended { IfOk result (λ s. All (λ p. has_ended p.last.status ≡ true) s.passes.items) }
     ensures written { IfOk result (λ s. (shown : List Finished)
         × AreShown (map (finished_by process.now.name) s.passes.items) requests shown
         × IsWritten s.failed (O.seen out.old) (O.seen out.new) (lines_of shown)) }
+    ensures visits { IfOk result (λ s. map G.visits logs.new.items
+        ≡ grown process.now.name (map G.visits logs.old.items) s.passes.items) }
     ensures unwritten { OnErr result (O.seen out.new ≡ O.seen out.old) }
+    ensures unvisited { OnErr result (logs.new ≡ logs.old) }
 {
     let taken = Vec::with_capacity(alloc, passes.len())?;
     let waiting = Waiting::open(alloc, requests as usize)?;
     let writer = LineWriter::open(alloc)?;
     let room = (requests as usize).max(1);
-    let (queues, takes, workers) = hire(alloc, passes, room)?;
+    let (queues, puts, takes) = open_queues(alloc, passes.len(), room)?;
+    let workers = hire(alloc, passes, puts, logs)?;
     let desk = Desk {
         takes,
         waiting,
         writer,
     };
     let (workers, desk) = serve_beside(rt, process, queues.as_slice(), gate, out, desk, workers);
-    Ok(finish(rt, queues, workers, desk, taken, out))
+    Ok(finish(rt, queues, workers, desk, taken, logs, out))
 }
 
-/// Workers with these passes, each with a queue that has room for this many replies, and the ends at which
-/// replies are taken from them. The only error is out of memory.
-fn hire<W: World>(
+/// Queues, each with room for this many replies, and their ends. The only error is out of memory.
+fn open_queues(
     alloc: Global,
-    mut passes: ProcessPasses<W>,
+    count: usize,
     room: usize,
 ) -> Result<
     (
         Vec<ReplyQueue<Finished>>,
+        Vec<Puts<Finished>>,
         Vec<Takes<Finished>>,
-        Vec<Worker<W>>,
     ),
     OutOfMemory,
 >
     requires room { 0 < room }
-    ensures passes { IfOk result (λ h. map (λ w. w.pass) h.2.items ≡ passes.items) }
-    ensures queues { IfOk result (λ h. map (λ w. w.puts.queue) h.2.items ≡ h.0.items) }
-    ensures takes { IfOk result (λ h. map (λ e. e.queue) h.1.items ≡ h.0.items) }
-    ensures unput { IfOk result (λ h. All (λ w. w.puts.values ≡ []) h.2.items) }
-    ensures untaken { IfOk result (λ h. All (λ e. e.values ≡ []) h.1.items) }
+    ensures count { IfOk result (λ q. length q.1.items ≡ count) }
+    ensures puts { IfOk result (λ q. map (λ e. e.queue) q.1.items ≡ q.0.items) }
+    ensures takes { IfOk result (λ q. map (λ e. e.queue) q.2.items ≡ q.0.items) }
+    ensures unput { IfOk result (λ q. All (λ e. e.values ≡ []) q.1.items) }
+    ensures untaken { IfOk result (λ q. All (λ e. e.values ≡ []) q.2.items) }
 {
     let mut queues = Vec::new(alloc);
-    let mut ends = Vec::new(alloc);
-    let mut workers = Vec::new(alloc);
+    let mut puts = Vec::new(alloc);
+    let mut takes = Vec::new(alloc);
+    'queues: for _ in 0..count {
+        let (queue, putting, taking) = ReplyQueue::open(alloc, room)?;
+        queues.push(queue)?;
+        puts.push(putting)?;
+        takes.push(taking)?;
+    }
+    Ok((queues, puts, takes))
+}
+
+/// Workers with these passes, these ends of queues, and the logs that come first. The only error is out of memory;
+/// the logs are then as before.
+fn hire<W: World, L: Drop>(
+    alloc: Global,
+    mut passes: ProcessPasses<W>,
+    mut ends: Vec<Puts<Finished>>,
+    logs: &mut Vec<L>,
+) -> Result<Vec<Worker<W, L>>, OutOfMemory>
+    requires ends { length ends.items ≡ length passes.items }
+    requires logs { length passes.items ≤ length logs.old.items }
+    ensures passes { IfOk result (λ workers. map (λ w. w.pass) workers.items ≡ passes.items) }
+    ensures ends { IfOk result (λ workers. map (λ w. w.puts) workers.items ≡ ends.items) }
+    ensures logs { IfOk result (λ workers.
+        map (λ w. w.log) workers.items ++ logs.new.items ≡ logs.old.items) }
+    ensures room { vec_capacity logs.new ≡ vec_capacity logs.old }
+    ensures same { OnErr result (logs.new ≡ logs.old) }
+{
+    let mut workers = Vec::with_capacity(alloc, passes.len())?;
     'passes: while !passes.is_empty() {
         let pass = passes.remove(0);
-        let (queue, puts, takes) = ReplyQueue::open(alloc, room)?;
-        queues.push(queue)?;
-        ends.push(takes)?;
-        workers.push(Worker { pass, puts })?;
+        let puts = ends.remove(0);
+        let log = logs.remove(0);
+        workers.push_reserved(Worker { pass, puts, log });
     }
-    Ok((queues, ends, workers))
+    Ok(workers)
 }
 
 /// Takes and shows what is left when all workers have ended.
-fn finish<R: Wait, W: World, O: Sink>(
+fn finish<R: Wait, W: World, L: Drop, O: Sink>(
     rt: &R,
     queues: Vec<ReplyQueue<Finished>>,
-    workers: Vec<Worker<W>>,
+    workers: Vec<Worker<W, L>>,
     desk: Desk,
     taken: ProcessPasses<W>,
+    logs: &mut Vec<L>,
     out: &mut O,
 ) -> Streamed<W>
     requires queues { map (λ w. w.puts.queue) workers.items ≡ queues.items }
     requires takes { map (λ e. e.queue) desk.takes.items ≡ queues.items }
     requires empty { taken.items ≡ [] }
     requires room { length workers.items ≤ vec_capacity taken }
+    requires places { length logs.old.items + length workers.items ≤ vec_capacity logs.old }
     ensures passes { result.passes.items ≡ map (λ w. w.pass) workers.items }
+    ensures logs { logs.new.items ≡ map (λ w. w.log) workers.items ++ logs.old.items }
     ensures written { (before : SinkView) →
         HasShown (map (λ e. e.values) desk.takes.items) desk.waiting desk.writer before (O.seen out.old) →
         (shown : List Finished)
@@ -135,37 +175,44 @@ fn finish<R: Wait, W: World, O: Sink>(
     } = desk;
     let mut waiting = waiting;
     let mut writer = writer;
-    let passes = take_left(rt, queues, workers, takes, &mut waiting, taken);
+    let passes = take_left(rt, queues, workers, takes, &mut waiting, taken, logs);
     show_ready(&mut waiting, &mut writer, out);
     let failed = writer.has_failed();
     Streamed { failed, passes }
 }
 
-/// Takes what is left in all queues, and gives the passes of the workers back in their order.
-fn take_left<R: Wait, W: World>(
+/// Takes what is left in all queues, and gives the passes of the workers back in their order. The workers' logs come
+/// before the others again.
+fn take_left<R: Wait, W: World, L: Drop>(
     rt: &R,
     mut queues: Vec<ReplyQueue<Finished>>,
-    mut workers: Vec<Worker<W>>,
+    mut workers: Vec<Worker<W, L>>,
     mut ends: Vec<Takes<Finished>>,
     waiting: &mut Waiting,
     mut taken: ProcessPasses<W>,
+    logs: &mut Vec<L>,
 ) -> ProcessPasses<W>
     requires queues { map (λ w. w.puts.queue) workers.items ≡ queues.items }
     requires takes { map (λ e. e.queue) ends.items ≡ queues.items }
     requires empty { taken.items ≡ [] }
     requires room { length workers.items ≤ vec_capacity taken }
+    requires places { length logs.old.items + length workers.items ≤ vec_capacity logs.old }
     ensures passes { result.items ≡ map (λ w. w.pass) workers.items }
+    ensures logs { logs.new.items ≡ map (λ w. w.log) workers.items ++ logs.old.items }
     ensures shown { (failed : Bool) (before now : SinkView) →
         HasShown (map (λ e. e.values) ends.items) waiting.old failed before now →
         HasShown (map (λ w. w.puts.values) workers.items) waiting.new failed before now }
     ensures places { length waiting.new.places ≡ length waiting.old.places }
 {
+    let others = logs.len();
     'workers: while !workers.is_empty() {
-        let Worker { pass, puts } = workers.remove(0);
+        let Worker { pass, puts, log } = workers.remove(0);
         let queue = queues.remove(0);
         let takes = ends.remove(0);
         take_rest(rt, &queue, puts, takes, waiting);
         taken.push_reserved(pass);
+        logs.push_reserved(log);
     }
+    logs.rotate_left(others);
     taken
 }

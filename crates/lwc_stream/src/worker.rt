@@ -1,34 +1,37 @@
 //! A worker that carries a thread, and hands on what its steps finish.
-ghost use Rattle.std.specs.Prelude.{◌≡◌, ◌++◌, [], MatchOption};
+ghost use Rattle.std.specs.Prelude.{◌≡◌, ◌++◌};
 ghost use Rattle.lwc_stream.specs.Crews.{HasServed, IsFresh};
 ghost use Rattle.lwc_stream.specs.Queues.{end_of};
 ghost use Rattle.kernel_core.specs.Histories.{replies_of};
+ghost use Rattle.thread_carrier.specs.Growth.{visited};
+ghost use Rattle.thread_carrier.specs.Visits.{told};
 
 use crate::ends::Puts;
 use crate::news::News;
 use crate::queue::ReplyQueue;
-use lwc_io::Gate;
 use process_core::{Process, ProcessPass};
 use snapshot_host::Finished;
 use std::sync::Wait;
+use thread_carrier::Gate;
 use world_face::World;
 
-/// The pass of a thread, and the end of a queue into which its replies are put.
+/// The pass of a thread, the end of a queue into which its replies are put, and the log of its visits at the gate.
 #[derive(Drop)]
-pub(crate) struct Worker<W: World> {
+pub(crate) struct Worker<W: World, L> {
     pub(crate) pass: ProcessPass<W>,
     pub(crate) puts: Puts<Finished>,
+    pub(crate) log: L,
 }
 
 /// Carries the thread to its end. Before each turn it comes to the gate. A reply that the turn finished is put
-/// into the queue and the caller is called, and then the worker comes to the gate again. It may wait.
+/// into the queue and the caller is called, and then the worker tells the gate of it. It may wait.
 pub(crate) fn serve<R: Wait, W: World, G: Gate>(
     rt: &R,
     process: &Process<W>,
     queue: &ReplyQueue<Finished>,
     news: &News,
     gate: &G,
-    worker: &mut Worker<W>,
+    worker: &mut Worker<W, G::Log>,
 )
     requires leave { G.leave gate.now }
     requires fresh { IsFresh process.now worker.old.pass worker.old.puts }
@@ -36,12 +39,23 @@ pub(crate) fn serve<R: Wait, W: World, G: Gate>(
     ensures served { HasServed process.now worker.new.pass worker.new.puts }
     ensures number { worker.new.pass.held.number ≡ worker.old.pass.held.number }
     ensures queue { worker.new.puts.queue ≡ queue.now }
+    ensures visits { G.visits worker.new.log
+        ≡ G.visits worker.old.log ++ visited process.now.name worker.new.pass }
 {
     let mut turns = 0u64;
     'turns: while !worker.pass.last().has_ended() {
-        gate.before(rt, worker.pass.thread(), turns);
+        let thread = worker.pass.thread();
+        gate.before(rt, &mut worker.log, &worker.pass, thread, turns);
         process.make_turn(rt, &mut worker.pass, None);
-        hand_on(rt, queue, news, gate, &worker.pass, &mut worker.puts);
+        hand_on(
+            rt,
+            queue,
+            news,
+            gate,
+            &worker.pass,
+            &mut worker.puts,
+            &mut worker.log,
+        );
         turns += 1;
     }
 }
@@ -54,14 +68,17 @@ fn hand_on<R: Wait, W: World, G: Gate>(
     gate: &G,
     pass: &ProcessPass<W>,
     puts: &mut Puts<Finished>,
+    log: &mut G::Log,
 )
     requires leave { G.leave gate.now }
     requires queue { puts.old.queue ≡ queue.now }
-    ensures { puts.new ≡ end_of queue.now (puts.old.values ++ replies_of pass.now.last.finished) }
+    ensures puts { puts.new ≡ end_of queue.now (puts.old.values ++ replies_of pass.now.last.finished) }
+    ensures visits { G.visits log.new
+        ≡ G.visits log.old ++ told pass.now.held.number pass.now.last.finished }
 {
     if let Some(finished) = &pass.last().finished {
         queue.put(rt, puts, finished.same());
         news.call();
-        gate.finished(rt, pass.thread(), finished.request);
+        gate.finished(rt, log, pass, pass.thread(), finished.request);
     }
 }

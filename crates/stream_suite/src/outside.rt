@@ -1,9 +1,12 @@
 //! A sink that shows how many lines it has taken, and gates that hold threads.
 
-use lwc_io::{Failed, Gate, MemorySink, Sink};
+use lwc_io::{Failed, MemorySink, Sink};
+use process_core::ProcessPass;
 use std::hint::spin_loop;
 use std::sync::Wait;
 use std::sync::atomic::{AtomicBool, AtomicU64, Ordering};
+use thread_carrier::{Gate, VisitLog};
+use world_face::World;
 
 /// How often a thread that is held looks.
 const LOOKS: u32 = 1_000_000_000;
@@ -33,7 +36,7 @@ impl<'a> Sink for CountingSink<'a> {
     }
 }
 
-/// A gate that holds the first turn of thread 1 until a sink has taken a line.
+/// A gate that holds the first turn of thread 1, and who tells of request 0, until a sink has taken a line.
 #[derive(Drop)]
 pub struct LineGate {
     pub lines: AtomicU64,
@@ -49,20 +52,13 @@ impl LineGate {
         }
     }
 
-    /// Whether the thread that is held looked until its looks ran out.
+    /// Whether a thread that was held looked until its looks ran out.
     pub fn has_run_out(&self) -> bool {
         self.ran_out.load(Ordering::SeqCst)
     }
-}
 
-impl Gate for LineGate {
-    ghost leave = { λ _. Unit {0} };
-
-    /// Holds the first turn of thread 1.
-    fn before<R: Wait>(&self, _rt: &R, thread: u32, turn: u64) {
-        if thread != 1 || turn != 0 {
-            return;
-        }
+    /// Looks until the sink has taken a line.
+    fn hold(&self) {
         for _look in 0..LOOKS {
             if self.lines.load(Ordering::SeqCst) > 0 {
                 return;
@@ -70,6 +66,44 @@ impl Gate for LineGate {
             spin_loop();
         }
         self.ran_out.store(true, Ordering::SeqCst);
+    }
+}
+
+impl Gate for LineGate {
+    type Log = VisitLog;
+
+    ghost leave = { λ _. Unit {0} };
+
+    ghost visits = { λ log. log.visits };
+
+    /// Holds the first turn of thread 1.
+    fn before<R: Wait, W: World>(
+        &self,
+        _rt: &R,
+        log: &mut VisitLog,
+        _pass: &ProcessPass<W>,
+        thread: u32,
+        turn: u64,
+    ) {
+        log.note_turn(thread, turn);
+        if thread == 1 && turn == 0 {
+            self.hold();
+        }
+    }
+
+    /// Holds who tells of request 0.
+    fn finished<R: Wait, W: World>(
+        &self,
+        _rt: &R,
+        log: &mut VisitLog,
+        _pass: &ProcessPass<W>,
+        thread: u32,
+        request: u16,
+    ) {
+        log.note_request(thread, request);
+        if request == 0 {
+            self.hold();
+        }
     }
 }
 
@@ -100,10 +134,22 @@ impl HoldingGate {
 }
 
 impl Gate for HoldingGate {
+    type Log = VisitLog;
+
     ghost leave = { λ _. Unit {0} };
 
+    ghost visits = { λ log. log.visits };
+
     /// Notes the second turn of the awaited thread, and holds the first turn of the other.
-    fn before<R: Wait>(&self, _rt: &R, thread: u32, turn: u64) {
+    fn before<R: Wait, W: World>(
+        &self,
+        _rt: &R,
+        log: &mut VisitLog,
+        _pass: &ProcessPass<W>,
+        thread: u32,
+        turn: u64,
+    ) {
+        log.note_turn(thread, turn);
         if thread == self.awaited && turn == 1 {
             self.came.store(true, Ordering::SeqCst);
         }
@@ -117,5 +163,17 @@ impl Gate for HoldingGate {
             spin_loop();
         }
         self.ran_out.store(true, Ordering::SeqCst);
+    }
+
+    /// Returns at once.
+    fn finished<R: Wait, W: World>(
+        &self,
+        _rt: &R,
+        log: &mut VisitLog,
+        _pass: &ProcessPass<W>,
+        thread: u32,
+        request: u16,
+    ) {
+        log.note_request(thread, request);
     }
 }

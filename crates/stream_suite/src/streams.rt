@@ -6,13 +6,14 @@ use guest_asm::assemble;
 use kernel_core::{Job, Kernel, Settings};
 use lazy_world::LazyWorld;
 use lwc_base::Sequence;
-use lwc_io::{Gate, MemorySink, OpenGate, Sink};
+use lwc_io::{MemorySink, Sink};
 use lwc_stream::stream_all;
 use process_core::Process;
 use std::alloc::Global;
 use std::sync::Wait;
 use std::test::Fail;
 use std::thread::Threads;
+use thread_carrier::{Gate, OpenGate, VisitLog};
 
 /// Reads one byte, which has to be 0, raises a counter in its page, and replies with it.
 const COUNTER_HANDLER: &str = ".entry 0
@@ -34,7 +35,7 @@ bad: LDW r6, r4, 1
 ";
 
 /// Streams requests of one byte each, and says whether a write failed.
-fn stream<R: Threads + Wait + Sync, G: Gate, O: Sink>(
+fn stream<R: Threads + Wait + Sync, G: Gate<Log = VisitLog>, O: Sink>(
     rt: &R,
     alloc: Global,
     bytes: &[u8],
@@ -61,7 +62,8 @@ fn stream<R: Threads + Wait + Sync, G: Gate, O: Sink>(
     let requests = Sequence::of(requests);
     let kernel = Kernel::<LazyWorld>::open(alloc, &image, requests, steps, &settings)?;
     let (process, passes) = Process::open(alloc, kernel)?;
-    let streamed = stream_all(rt, alloc, &process, passes, gate, count, out)?;
+    let mut logs = VisitLog::for_threads(alloc, passes.len())?;
+    let streamed = stream_all(rt, alloc, &process, passes, gate, &mut logs, count, out)?;
     process.close(streamed.passes);
     Ok(streamed.failed)
 }
@@ -86,7 +88,7 @@ fn replies_are_written_in_the_order_of_their_requests(rt: HostRuntime) -> Result
 }
 
 #[test]
-fn a_line_is_written_before_the_last_worker_begins(rt: HostRuntime) -> Result<(), Fail> {
+fn a_line_is_written_while_workers_are_held(rt: HostRuntime) -> Result<(), Fail> {
     let gate = LineGate::new();
     let mut out = CountingSink {
         sink: sink(rt.alloc(), 100, &[])?,

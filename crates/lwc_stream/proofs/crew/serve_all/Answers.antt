@@ -1,11 +1,12 @@
 use denote.Param.Send.{sendable}
 use Rattle.std.proofs.Crossing.{crosses}
-use Rattle.std.proofs.Common.{rules, ◌∙◌, sym, ap, subst, arith}
+use Rattle.std.proofs.Common.{◌∙◌, sym, ap, subst, arith}
 use Rattle.lwc_stream.proofs.Serving.{have_served, may_serve}
 use Rattle.lwc_stream.specs.Crews.{HasServed, HaveServed}
 use Rattle.process_core.proofs.Carrying.{written_back}
 use Rattle.lwc_stream.proofs.Sent.{finished_send, news_sync, queue_sync, worker_send}
 use Rattle.process_core.proofs.Sends.{process_sync}
+use Rattle.thread_carrier.proofs.Logs.{moved}
 use Rattle.lwc_stream.proofs.crew.serve_all.Goals as goal
 
 pub for_each_mut-requires-send-T : goal.for_each_mut-requires-send-T
@@ -23,21 +24,26 @@ for_each_mut-requires-sync-F g c κs within =
 pub for_each_mut-requires-clause-accepts : goal.for_each_mut-requires-clause-accepts
 for_each_mut-requires-clause-accepts g c κs within =
     λ i p inside is.
-    let may = may_serve (λ w. w.pass) (λ w. w.puts) c.args.process.now c.args.queues.now _ c.args.workers.items c.as_mut_slice.ensures.value c.requires.fresh c.requires.queues i p.now inside is in
-    ((c.requires.leave, may.fresh, may.queue), search rules)
+    let may = may_serve (λ w. w.pass) (λ w. w.puts) (λ w. g.G.Gate.visits w.log) c.args.process.now c.args.queues.now _ c.args.workers.items c.as_mut_slice.ensures.value c.requires.fresh c.requires.queues i p.now inside is in
+    let s = c.type_bounds.send-W in
+    let l = c.type_bounds.send-G-Log in
+    let r = c.type_bounds.sync-R in
+    let q = c.type_bounds.sync-G in
+    ((c.requires.leave, may.fresh, may.queue), search (sendable, crosses) depth 80 fits 20000)
 
 pub returns : goal.returns
 returns g c =
     let process = c.args.process.now in
     let before = c.args.workers.items in
     let after = c.for_each_mut.new.s in
-    let have : HaveServed (λ w. w.pass) (λ w. w.puts) process before after =
-    subst (λ l. HaveServed (λ w. w.pass) (λ w. w.puts) process l after) c.as_mut_slice.ensures.value
-    (have_served (λ w. w.pass) (λ w. w.puts) process _ after (omega arith)
+    let have : HaveServed (λ w. w.pass) (λ w. w.puts) (λ w. g.G.Gate.visits w.log) process before after =
+    subst (λ l. HaveServed (λ w. w.pass) (λ w. w.puts) (λ w. g.G.Gate.visits w.log) process l after) c.as_mut_slice.ensures.value
+    (have_served (λ w. w.pass) (λ w. w.puts) (λ w. g.G.Gate.visits w.log) process _ after (omega arith)
     (λ i d below. let r = (c.for_each_mut.ensures i d below).1 in record {
       served = subst (λ w. HasServed process w.pass w.puts) r.left r.call.0;
       number = ap (λ w. w.pass.held.number) (sym r.left) ∙ (r.call.1 ∙ ap (λ w. w.pass.held.number) r.argument_is);
       queue = ap (λ w. w.puts.queue) (sym r.left) ∙ (r.call.2 ∙ ap (λ w. w.puts.queue) r.argument_is);
+      visits = moved (λ w. g.G.Gate.visits w.log) (λ w. w.pass) process.name _ _ _ _ r.left r.argument_is r.call.3;
     })) in
     let back = written_back (λ w. w.pass.held.number) c.args.workers.len after before (omega (arith, c.args.workers.ok.0)) have.numbers in
-    subst (HaveServed (λ w. w.pass) (λ w. w.puts) process before) (sym back) have
+    subst (HaveServed (λ w. w.pass) (λ w. w.puts) (λ w. g.G.Gate.visits w.log) process before) (sym back) have

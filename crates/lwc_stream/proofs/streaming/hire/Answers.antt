@@ -1,31 +1,33 @@
-use Rattle.std.proofs.Common.{◌≡◌, ◌<◌, ◌++◌, ◌∷◌, [], All, length, map, sym, ap, subst, arith}
+use Rattle.std.proofs.Common.{◌≡◌, ◌<◌, ◌∙◌, ◌++◌, ◌∷◌, length, map, sym, ap, subst, arith}
 use Rattle.std.proofs.lemmas.Bool.Decides.{nat_tests}
-use Rattle.std.proofs.lemmas.List.Elements.{All-push}
-use Rattle.lwc_stream.proofs.Lists.{map_push}
-use Rattle.lwc_stream.specs.Queues.{End}
 use Rattle.process_core.proofs.Carrying.{one_made}
 use Rattle.process_core.proofs.Handing.{first_of}
-use Rattle.snapshot_host.specs.declared.finishing.Finished.{Finished}
 use Rattle.lwc_stream.proofs.streaming.hire.Goals as goal
 
 pub passes-preserved : goal.passes-preserved
 passes-preserved g c =
+    let inv = c.passes.invariant in
     let made = c.passes.workers.items in
-    let left = c.passes.passes.items in
-    let pass = c.remove-pass.result in
-    let rest = c.remove-pass.new.self.items in
-    let workers = c.in_ok-push-3.ensures.items in
-    let ends = c.in_ok-push-2.ensures.items in
-    let queues = c.in_ok-push.ensures.items in
-    let puts = c.in_ok-queue.ensures.puts in
-    let takes = c.in_ok-queue.ensures.takes in
-    let some : 0 < length left = grind (arith, nat_tests) in
-    let first : left ≡ pass ∷ rest = first_of left pass rest some c.remove-pass.ensures.value c.remove-pass.ensures.by_index.2 in
+    let passes = c.passes.passes.items in
+    let ends = c.passes.ends.items in
+    let logs = c.passes.logs.items in
+    let passes' = c.remove-pass.new.self.items in
+    let ends' = c.remove-puts.new.self.items in
+    let logs' = c.remove-log.new.self.items in
+    let now = c.push_reserved.ensures.items in
+    let some : 0 < length passes = grind (arith, nat_tests) in
+    let first : passes ≡ c.remove-pass.result ∷ passes' = first_of passes _ passes' some c.remove-pass.ensures.value c.remove-pass.ensures.by_index.2 in
+    let first_end : ends ≡ c.remove-puts.result ∷ ends' = first_of ends _ ends' (omega (arith, some, inv.even)) c.remove-puts.ensures.value c.remove-puts.ensures.by_index.2 in
+    let first_log : logs ≡ c.remove-log.result ∷ logs' = first_of logs _ logs' (omega (arith, some, inv.enough)) c.remove-log.ensures.value c.remove-log.ensures.by_index.2 in
     record {
-      all = subst (λ l. map (λ x. x.pass) l ++ rest ≡ c.args.passes.items) (sym workers)
-          (one_made (λ x. x.pass) made _ rest c.args.passes.items (subst (λ l. map (λ x. x.pass) made ++ l ≡ c.args.passes.items) first c.passes.invariant.all));
-      queues = map_push (λ x. x.puts.queue) made _ c.passes.queues.items _ _ c.in_ok-queue.queue c.passes.invariant.queues workers queues (ap (λ (e : End Finished). e.queue) puts);
-      takes = map_push (λ x. x.queue) c.passes.ends.items _ c.passes.queues.items _ c.in_ok-queue.takes c.in_ok-queue.queue c.passes.invariant.takes ends queues (ap (λ (e : End Finished). e.queue) takes);
-      unput = subst (λ l. All (λ x. x.puts.values ≡ []) l) (sym workers) (All-push (λ x. x.puts.values ≡ []) made _ c.passes.invariant.unput (ap (λ (e : End Finished). e.values) puts));
-      untaken = subst (λ l. All (λ x. x.values ≡ []) l) (sym ends) (All-push (λ x. x.values ≡ []) c.passes.ends.items c.in_ok-queue.takes c.passes.invariant.untaken (ap (λ (e : End Finished). e.values) takes));
+      all = subst (λ l. map (λ x. x.pass) l ++ passes' ≡ c.args.passes.items) (sym now)
+          (one_made (λ x. x.pass) made _ passes' c.args.passes.items (subst (λ l. map (λ x. x.pass) made ++ l ≡ c.args.passes.items) first inv.all));
+      ends = subst (λ l. map (λ x. x.puts) l ++ ends' ≡ c.args.ends.items) (sym now)
+          (one_made (λ x. x.puts) made _ ends' c.args.ends.items (subst (λ l. map (λ x. x.puts) made ++ l ≡ c.args.ends.items) first_end inv.ends));
+      logs = subst (λ l. map (λ x. x.log) l ++ logs' ≡ c.args.logs.now.items) (sym now)
+          (one_made (λ x. x.log) made _ logs' c.args.logs.now.items (subst (λ l. map (λ x. x.log) made ++ l ≡ c.args.logs.now.items) first_log inv.logs));
+      room = omega (arith, inv.room, ap length now, c.push_reserved.ensures.len, c.remove-pass.ensures.len, ap length first);
+      even = omega (arith, inv.even, ap length first, ap length first_end);
+      enough = omega (arith, inv.enough, ap length first, ap length first_log);
+      same = c.remove-log.ensures.capacity ∙ inv.same;
     }
