@@ -10,7 +10,7 @@ use Rattle.kernel_core.specs.declared.settings.Job.TheVariants as jobs
 use Rattle.kernel_core.specs.declared.settings.Settings.{Settings}
 use Rattle.lwc_base.specs.declared.limits.TheConstants.{MOST_BUDGET, MOST_FRAMES, MOST_THREADS}
 use Rattle.lwcrun_core.specs.Arguments.{Arguments, arguments_of}
-use Rattle.lwcrun_core.specs.Lines.{AreRunSettings, AreServeSettings, Command, IsWithinLimits, asked_in, budget_of, command_of, debug_of, frames_of, gen_of, monitor_of, number_or, only_word, replay_with, run_of, serve_of, serve_settings_of, settings_for, settings_of, two_words, vault_of, workers_of}
+use Rattle.lwcrun_core.specs.Lines.{AreRunSettings, AreServeSettings, Command, IsWithinLimits, asked_in, budget_of, command_of, debug_of, frames_of, gen_of, monitor_of, number_or, only_word, replay_with, run_of, serve_of, serve_settings_of, settings_for, settings_of, stream_of, two_words, vault_of, workers_of}
 use Rattle.lwcrun_core.specs.Lines as commands
 use Rattle.lwc_text.specs.Numbers.{number_of}
 use Rattle.lwcrun_core.specs.Numbers.{kept_within, number_within}
@@ -132,6 +132,12 @@ debug_is_within a command e =
     asked_with a (λ image schedule. commands.Debug image schedule script) (settings_of jobs.Run a) command _ more
     (λ image schedule s is made. subst IsWithinLimits made (run_within a s is)))) e
 
+stream_is_within : (a : Arguments) (command : Command) → stream_of a ≡ Some command → IsWithinLimits command
+stream_is_within a command e =
+    by_branch (is_some a.third) None _ command (not_none command) (λ rest.
+    asked_with a commands.Stream (serve_settings_of a) command _ rest
+    (λ image requests s is made. subst IsWithinLimits made (serve_within a s is))) e
+
 asked_is_within : (mode : List ℕ) (a : Arguments) (command : Command) → asked_in mode a ≡ Some command → IsWithinLimits command
 asked_is_within mode a command e =
     by_branch (bytes_eq mode (codes "replay")) (replay_with a a.third) _ command (replay_within a a.third command)
@@ -143,7 +149,8 @@ asked_is_within mode a command e =
     (by_branch (bytes_eq mode (codes "lift")) (option_map commands.Lift (only_word a)) _ command (lift_is_within a command)
     (by_branch (bytes_eq mode (codes "monitor")) (monitor_of a) _ command (monitor_is_within a command)
     (by_branch (bytes_eq mode (codes "vault")) (vault_of a) _ command (vault_is_within a command)
-    (by_branch (bytes_eq mode (codes "debug")) (debug_of a) None command (debug_is_within a command) (not_none command)))))))))) e
+    (by_branch (bytes_eq mode (codes "debug")) (debug_of a) _ command (debug_is_within a command)
+    (by_branch (bytes_eq mode (codes "stream")) (stream_of a) None command (stream_is_within a command) (not_none command))))))))))) e
 
 -- the numbers of an accepted line are within their limits
 pub accepted_is_within : (words : List (List ℕ)) (command : Command) → command_of words ≡ Some command → IsWithinLimits command

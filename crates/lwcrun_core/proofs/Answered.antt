@@ -4,7 +4,7 @@ use Rattle.lwc_io.specs.Outside.{FilesView}
 use Rattle.lwcrun_core.specs.declared.ending.Rejection.{Rejection}
 use Rattle.lwcrun_core.specs.declared.line.LineFault.{LineFault}
 use Rattle.lwcrun_core.specs.declared.line.LineFault.TheVariants as line_faults
-use Rattle.lwcrun_core.specs.Calls.{CallEnded, FetchesPlan}
+use Rattle.lwcrun_core.specs.Calls.{CallEnded, CommandEnded, FetchesPlan}
 use Rattle.lwcrun_core.specs.Ends.{End, Outside, Ended, IsUnwritten}
 use Rattle.lwcrun_core.specs.Ends as ends
 use Rattle.lwcrun_core.specs.Headline.{IsText, plan_of}
@@ -27,16 +27,21 @@ ended_as o command ends.Unwritten f is h = subst (Ended IsText o (plan_of comman
 ended_as o command (ends.Refused rejection) f (inl is) h = subst (Ended IsText o (plan_of command)) (sym is) h
 ended_as o command (ends.Refused rejection) f (inr is) h = subst (Ended IsText o (plan_of command)) (sym is) h.1
 
+-- what ended for out of memory is answered so
+answered_so : (e f : End Rejection) → MayBeAnsweredAs e f → e ≡ ends.NoMemory → f ≡ ends.NoMemory
+answered_so e f as_it is = let P : End Rejection → Type 0 = λ x. MayBeAnsweredAs x f in subst P is as_it
+
 -- the end of an accepted line's call
-pub call_ended : (o : Outside) (asked : Option Command) (command : Command) (e f : End Rejection) → asked ≡ Some command → MayBeAnsweredAs e f → Ended IsText o (plan_of command) e → CallEnded o asked f
+pub call_ended : (o : Outside) (asked : Option Command) (command : Command) (e f : End Rejection) → asked ≡ Some command → MayBeAnsweredAs e f → CommandEnded o command e → CallEnded o asked f
 unfolding CallEnded
-call_ended o asked command e f is ends_as h = subst (λ a. CallEnded o a f) (sym is) (ended_as o command e f ends_as h)
+call_ended o asked command e f is ends_as (inl h) = subst (λ a. CallEnded o a f) (sym is) (inl (ended_as o command e f ends_as h))
+call_ended o asked command e f is ends_as (inr (stream, memory, wrote)) = subst (λ a. CallEnded o a f) (sym is) (inr (stream, answered_so e f ends_as memory, wrote))
 
 -- the end of a call that ran out of memory before anything was done, or whose line is not accepted
 pub not_begun : (o : Outside) (asked : Option Command) (e : End Rejection) → IsUnwritten o → o.files_after ≡ o.files → (e ≡ ends.NoMemory) ⊎ ((asked ≡ None) × (e ≡ ends.Usage)) → CallEnded o asked e
 unfolding CallEnded Ended
 not_begun o None e same unread (inl is) = (inr is, same, unread)
-not_begun o (Some command) e same unread (inl is) = subst (Ended IsText o (plan_of command)) (sym is) same
+not_begun o (Some command) e same unread (inl is) = inl (subst (Ended IsText o (plan_of command)) (sym is) same)
 not_begun o asked e same unread (inr is) = subst (λ a. CallEnded o a e) (sym is.0) (inl is.1, same, unread)
 
 -- how a line that was not read ends: for out of memory, or since it is not accepted

@@ -60,11 +60,11 @@ use Rattle.lwcrun_core.specs.declared.ending.Rejection.{Rejection}
 use Rattle.lwcrun_core.specs.declared.ending.Rejection.TheVariants as rejections
 use Rattle.lwcrun_core.specs.declared.status.ExitStatus.{ExitStatus}
 use Rattle.lwcrun_core.specs.declared.status.ExitStatus.TheVariants as statuses
-use Rattle.lwcrun_core.specs.Calls.{AreContents, AreRequestsIn, CallEnded, FetchesNamed, FetchesPlan, FileFailed, Headline, IsFitting, IsNameIn, IsOrNoMemory, IsRejected, IsRunnable, IsUndisturbed, IsVaultReplay, Names, NoFault, WroteServe, status_by}
+use Rattle.lwcrun_core.specs.Calls.{AreContents, AreRequestsIn, CallEnded, CommandEnded, FetchesNamed, FetchesPlan, FileFailed, Headline, IsFitting, IsNameIn, IsOrNoMemory, IsRejected, IsRunnable, IsServe, IsUndisturbed, IsVaultReplay, Names, NoFault, WroteOnlyReplies, WroteServe, status_by}
 use Rattle.lwcrun_core.specs.Ends.{End, Outside, Ended, FetchFailed, IsUnhindered, IsUnwritten, NothingFailed, WriteFailed, end_by}
 use Rattle.lwcrun_core.specs.Ends as ends
-use Rattle.lwc_text.specs.Report.{report_of_schedule}
-use Rattle.lwcrun_core.specs.Headline.{IsText, Work, after_image, after_monitored, after_schedule, after_server, after_debugged, after_debugged_image, after_vault, after_vault_image, asm_plan, debug_plan, dis_plan, gen_plan, inputs_of, lift_plan, monitor_plan, plan_of, read_by, replay_plan, run_plan, serve_plan, vault_plan}
+use Rattle.lwc_text.specs.Report.{report_of_schedule, stream_text}
+use Rattle.lwcrun_core.specs.Headline.{IsText, Work, after_image, after_monitored, after_schedule, after_server, after_streamer, after_debugged, after_debugged_image, after_vault, after_vault_image, asm_plan, debug_plan, dis_plan, gen_plan, inputs_of, lift_plan, monitor_plan, plan_of, read_by, replay_plan, run_plan, serve_plan, stream_plan, vault_plan}
 use Rattle.lwcrun_core.specs.Headline as works
 use Rattle.lwcrun_core.specs.Images.{bounded, bounded_requests_of, fitted, fitted_beside, fitting_image_of, fitting_vault_for, image_of, or_rejected, requests_of, schedule_of, script_of, serve_steps, source_of, then_tested, vault_for}
 use Rattle.lwcrun_core.specs.Lines.{AreReplaySettings, AreRunSettings, AreServeSettings, Command, IsWithinLimits}
@@ -104,6 +104,9 @@ kept_beside settings image v steps = plans.Write (works.Replaying (beside (input
 abbrev answered : Settings → Image → List ℕ → List debug.Command → Plan Rejection Work
 answered settings image steps script = plans.Write (works.Debugging (inputs_of image [] settings) steps script)
 
+abbrev streamed : Settings → Image → List (List ℕ) → Plan Rejection Work
+streamed settings image asked = plans.Write (works.Streaming (inputs_of image asked settings))
+
 -- the files that a plan reads are those that its command names
 
 reads_accepted : {A : Type 0} (files : FileContents) (r : Result A Rejection) (next : A → Plan Rejection Work) (q : List ℕ) (P : Type 0) → ((x : A) → Reads files (next x) q → P) → Reads files (accepted r next) q → P
@@ -128,6 +131,10 @@ reads_after_image files schedule requests settings image q h =
 reads_after_server : (files : FileContents) (requests : List ℕ) (settings : Settings) (image : Image) (q : List ℕ) → Reads files (after_server requests settings image) q → q ≡ requests
 unfolding after_server
 reads_after_server files requests settings image q h = reads_by files (bounded_requests_of settings) MOST_REQUEST_FILE_BYTES requests (served settings image) q _ (λ is. is) (λ asked after. absurd after) h
+
+reads_after_streamer : (files : FileContents) (requests : List ℕ) (settings : Settings) (image : Image) (q : List ℕ) → Reads files (after_streamer requests settings image) q → q ≡ requests
+unfolding after_streamer
+reads_after_streamer files requests settings image q h = reads_by files (bounded_requests_of settings) MOST_REQUEST_FILE_BYTES requests (streamed settings image) q _ (λ is. is) (λ asked after. absurd after) h
 
 reads_after_monitored : (files : FileContents) (schedule : List ℕ) (settings : Settings) (image : Image) (q : List ℕ) → Reads files (after_monitored schedule settings image) q → q ≡ schedule
 unfolding after_monitored
@@ -154,7 +161,7 @@ reads_after_debugged_image files schedule script settings image q h =
     reads_by files (schedule_of (threads_for image settings.job) MOST_DEBUGGED_STEPS) MOST_SCHEDULE_BYTES schedule (after_debugged script settings image) q _ (λ is. inl is) (λ steps after. inr (reads_after_debugged files script settings image steps q after)) h
 
 reads_names : (files : FileContents) (command : Command) (q : List ℕ) → Reads files (plan_of command) q → Names command q
-unfolding replay_plan run_plan serve_plan asm_plan dis_plan gen_plan lift_plan monitor_plan after_monitored vault_plan debug_plan
+unfolding replay_plan run_plan serve_plan asm_plan dis_plan gen_plan lift_plan monitor_plan after_monitored vault_plan debug_plan stream_plan
 reads_names files (commands.Replay image schedule requests settings) q h =
     reads_by files (fitting_image_of settings.frames) MOST_IMAGE_BYTES image (after_image schedule requests settings) q _ (λ is. inl is) (λ x after. inr (reads_after_image files schedule requests settings x q after)) h
 reads_names files (commands.Run image settings) q h = reads_by files (fitting_image_of settings.frames) MOST_IMAGE_BYTES image (ran settings) q _ (λ is. is) (λ x after. absurd after) h
@@ -170,6 +177,8 @@ reads_names files (commands.Vault image vault schedule settings) q h =
     reads_by files image_of MOST_IMAGE_BYTES image (after_vault_image vault schedule settings) q _ (λ is. inl is) (λ x after. inr (reads_after_vault_image files vault schedule settings x q after)) h
 reads_names files (commands.Debug image schedule script settings) q h =
     reads_by files (fitting_image_of settings.frames) MOST_IMAGE_BYTES image (after_debugged_image schedule script settings) q _ (λ is. inl is) (λ x after. inr (reads_after_debugged_image files schedule script settings x q after)) h
+reads_names files (commands.Stream image requests settings) q h =
+    reads_by files (fitting_image_of settings.frames) MOST_IMAGE_BYTES image (after_streamer requests settings) q _ (λ is. inl is) (λ x after. inr (reads_after_streamer files requests settings x q after)) h
 
 are_known : (files : FileContents) (command : Command) (bytes : List ℕ → List ℕ) → AreContents files command bytes → AreKnown files (plan_of command) bytes
 are_known files command bytes h q reads = h q (reads_names files command q reads)
@@ -245,14 +254,19 @@ leads_by files grammar limit name next work known is (bytes, may, fits, leads) =
     let read = of_read files (grammar bytes) next work leads in
     (read.0, ap grammar same ∙ read.1, subst (All (λ b. b < 256)) (sym same) fits, read.2)
 
--- what was written is the text of a complete history
-abbrev WroteSteps : Outside → Inputs → Type 0
-WroteSteps o inputs = (steps : List ℕ) × IsComplete (start inputs) steps × (o.out_after.taken ≡ appended o.out.taken (report_of_schedule inputs steps))
+-- this is what is told of a complete history
+abbrev TellsSteps : (Inputs → List ℕ → List ℕ) → Inputs → List ℕ → Type 0
+TellsSteps tell inputs text = (steps : List ℕ) × IsComplete (start inputs) steps × (text ≡ tell inputs steps)
 
--- the text of threads that went on by themselves is that of a complete history
-wrote : (o : Outside) (inputs : Inputs) (work : Work) (text : List ℕ) → work ≡ works.Running inputs → IsText work text → o.out_after.taken ≡ appended o.out.taken text → WroteSteps o inputs
-wrote o inputs work text is_work is taken =
-    let h : IsText (works.Running inputs) text = (let P : Work → Type 0 = λ w. IsText w text in subst P is_work is) in
+-- what was written is told of a complete history
+abbrev WroteSteps : (Inputs → List ℕ → List ℕ) → Outside → Inputs → Type 0
+WroteSteps tell o inputs = (steps : List ℕ) × IsComplete (start inputs) steps × (o.out_after.taken ≡ appended o.out.taken (tell inputs steps))
+
+-- what was written of a work of threads that went on by themselves
+wrote : (tell : Inputs → List ℕ → List ℕ) (o : Outside) (inputs : Inputs) (of_inputs : Inputs → Work) (work : Work) (text : List ℕ) → (IsText (of_inputs inputs) text → TellsSteps tell inputs text)
+    → work ≡ of_inputs inputs → IsText work text → o.out_after.taken ≡ appended o.out.taken text → WroteSteps tell o inputs
+wrote tell o inputs of_inputs work text tells is_work is taken =
+    let h = tells (let P : Work → Type 0 = λ w. IsText w text in subst P is_work is) in
     (h.0, h.1, taken ∙ ap (appended o.out.taken) h.2)
 
 schedule_accepted : (threads most : ℕ) (bytes steps : List ℕ) → IsSchedule threads most bytes steps → schedule_of threads most bytes ≡ Ok steps
@@ -343,7 +357,7 @@ over_schedule bytes None settings image steps asked none = ap (λ a. Ok (works.R
 over_schedule bytes (Some requests) settings image steps asked is = over bytes _ asked (replayed settings image steps) (requests_accepted (bytes requests) asked is)
 
 runs : (bytes : List ℕ → List ℕ) (command : Command) → IsRunnable command bytes → (work : Work) × (outcome bytes (plan_of command) ≡ Ok work)
-unfolding replay_plan after_image run_plan serve_plan after_server asm_plan dis_plan gen_plan lift_plan monitor_plan after_monitored vault_plan after_vault_image after_vault debug_plan after_debugged_image after_debugged
+unfolding replay_plan after_image run_plan serve_plan after_server asm_plan dis_plan gen_plan lift_plan monitor_plan after_monitored vault_plan after_vault_image after_vault debug_plan after_debugged_image after_debugged stream_plan after_streamer
 runs bytes (commands.Replay image schedule requests settings) (x, steps, asked, h) = (
   works.Replaying (inputs_of x asked settings) steps,
   over bytes _ x (after_image schedule requests settings) (fitting_accepted settings (bytes image) x h.guest)
@@ -376,6 +390,11 @@ runs bytes (commands.Debug image schedule script settings) (x, steps, asked, h) 
   over bytes _ x (after_debugged_image schedule script settings) (fitting_accepted settings (bytes image) x h.guest)
       ∙ over bytes _ steps (after_debugged script settings x) (schedule_accepted _ _ (bytes schedule) steps h.scheduled)
       ∙ over bytes _ asked (answered settings x steps) (script_accepted (bytes script) asked h.scripted),
+)
+runs bytes (commands.Stream image requests settings) (x, asked, h) = (
+  works.Streaming (inputs_of x asked settings),
+  over bytes _ x (after_streamer requests settings) (fitting_accepted settings (bytes image) x h.guest)
+      ∙ over bytes _ asked (streamed settings x) (requests_bounded settings (bytes requests) asked (file_is_read (bytes requests) asked h.requested) h.few),
 )
 runs bytes (commands.Lift image) (x, is, spelled) = (works.Spelling (lifted x), over bytes _ x raised (image_accepted (bytes image) x is spelled))
 
@@ -432,8 +451,8 @@ none_short : (inputs : Inputs) (steps : List ℕ) → CanOpen inputs → NoneIsS
 none_short inputs steps can workers job frames before rest t is short = never_full inputs workers can job frames before t short
 
 -- the text of a serve is that of a complete history in which the requests are served
-wrote_serve : (o : Outside) (inputs : Inputs) (workers : ℕ) → CanOpen inputs → inputs.settings.job ≡ jobs.Serve workers → WroteSteps o inputs → WroteServe o inputs
-wrote_serve o inputs workers can job h = (h.0, h.1, each_replied inputs h.0 workers can job h.1, each_alone inputs h.0 can, none_short inputs h.0 can, run_confined inputs can h.0, h.2)
+wrote_serve : (tell : Inputs → List ℕ → List ℕ) (o : Outside) (inputs : Inputs) (workers : ℕ) → CanOpen inputs → inputs.settings.job ≡ jobs.Serve workers → WroteSteps tell o inputs → WroteServe tell o inputs
+wrote_serve tell o inputs workers can job h = (h.0, h.1, each_replied inputs h.0 workers can job h.1, each_alone inputs h.0 can, none_short inputs h.0 can, run_confined inputs can h.0, h.2)
 
 -- a reply adds the same under each number
 unnumbered : (r : ℕ) (told : Option Finished) → recorded_reply (option_map (numbered r) told) ≡ recorded_reply told
@@ -466,8 +485,29 @@ asked_of files (Some requests) settings image steps work bytes known h =
     let read = leads_by files requests_of MOST_REQUEST_FILE_BYTES requests (replayed settings image steps) work (bytes requests) (known requests refl) h in
     (read.0, requests_found (bytes requests) read.0 read.1, work_is work _ read.3)
 
+-- where the plan of a serve leads to a work, its files are accepted, and the work is of what they spell
+serve_found : (files : FileContents) (bytes : List ℕ → List ℕ) (image requests : List ℕ) (settings : Settings) (of_inputs : Inputs → Work) (work : Work) → ((q : List ℕ) → (q ≡ image) ⊎ (q ≡ requests) → files q ≡ Some (bytes q))
+    → LeadsTo files (read_by (fitting_image_of settings.frames) MOST_IMAGE_BYTES image (λ x. read_by (bounded_requests_of settings) MOST_REQUEST_FILE_BYTES requests (λ asked. plans.Write (of_inputs (inputs_of x asked settings))))) (Ok work)
+    → (x : Image) × (asked : List (List ℕ)) × IsServe bytes image requests settings x asked × (work ≡ of_inputs (inputs_of x asked settings))
+unfolding bounded_requests_of
+serve_found files bytes image requests settings of_inputs work known leads =
+    let after : Image → Plan Rejection Work = λ x. read_by (bounded_requests_of settings) MOST_REQUEST_FILE_BYTES requests (λ asked. plans.Write (of_inputs (inputs_of x asked settings))) in
+    let read = leads_by files (fitting_image_of settings.frames) MOST_IMAGE_BYTES image after work (bytes image) (known image (inl refl)) leads in
+    let asked = leads_by files (bounded_requests_of settings) MOST_REQUEST_FILE_BYTES requests (λ a. plans.Write (of_inputs (inputs_of read.0 a settings))) work (bytes requests) (known requests (inr refl)) read.3 in
+    let found = tested (requests_of (bytes requests)) (bounded settings (length (bytes requests))) asked.0 asked.1 in
+    let few = bounded_found settings (length (bytes requests)) found.0 asked.0 found.2 in (
+      read.0,
+      asked.0,
+      record {
+        guest = fitting_found settings (bytes image) read.0 read.2 read.1;
+        requested = requests_found (bytes requests) asked.0 (found.1 ∙ ap (λ a. Ok a) few.0);
+        few = subst (λ (a : List (List ℕ)). serve_steps settings (length a) ≤ MOST_STEPS) few.0 few.1;
+      },
+      work_is work _ asked.3,
+    )
+
 headline_of : (o : Outside) (command : Command) (bytes : List ℕ → List ℕ) (work : Work) (text : List ℕ) → IsWithinLimits command → AreContents o.files.contents command bytes → LeadsTo o.files.contents (plan_of command) (Ok work) → IsText work text → o.out_after.taken ≡ appended o.out.taken text → Headline o command bytes
-unfolding replay_plan after_image run_plan serve_plan after_server asm_plan dis_plan gen_plan lift_plan monitor_plan after_monitored vault_plan after_vault_image after_vault debug_plan after_debugged_image after_debugged bounded_requests_of
+unfolding replay_plan after_image run_plan serve_plan after_server asm_plan dis_plan gen_plan lift_plan monitor_plan after_monitored vault_plan after_vault_image after_vault debug_plan after_debugged_image after_debugged stream_plan after_streamer
 headline_of o (commands.Replay image schedule requests settings) bytes work text within known leads is taken =
     let files = o.files.contents in
     let read = leads_by files (fitting_image_of settings.frames) MOST_IMAGE_BYTES image (after_image schedule requests settings) work (bytes image) (known image (inl refl)) leads in
@@ -489,21 +529,15 @@ headline_of o (commands.Replay image schedule requests settings) bytes work text
 headline_of o (commands.Run image settings) bytes work text within known leads is taken =
     let read = leads_by o.files.contents (fitting_image_of settings.frames) MOST_IMAGE_BYTES image (ran settings) work (bytes image) (known image refl) leads in
     let guest = fitting_found settings (bytes image) read.0 read.2 read.1 in
-    let h = wrote o (inputs_of read.0 [] settings) work text (work_is work _ read.3) is taken in
+    let h = wrote report_of_schedule o (inputs_of read.0 [] settings) works.Running work text (λ told. told) (work_is work _ read.3) is taken in
     (read.0, guest, (h.0, h.1, run_confined (inputs_of read.0 [] settings) (replay_opens None settings bytes (bytes image) read.0 [] within guest refl) h.0, h.2))
 headline_of o (commands.Serve image requests settings) bytes work text within known leads is taken =
-    let files = o.files.contents in
-    let read = leads_by files (fitting_image_of settings.frames) MOST_IMAGE_BYTES image (after_server requests settings) work (bytes image) (known image (inl refl)) leads in
-    let asked = leads_by files (bounded_requests_of settings) MOST_REQUEST_FILE_BYTES requests (served settings read.0) work (bytes requests) (known requests (inr refl)) read.3 in
-    let found = tested (requests_of (bytes requests)) (bounded settings (length (bytes requests))) asked.0 asked.1 in
-    let few = bounded_found settings (length (bytes requests)) found.0 asked.0 found.2 in
-    let guest = fitting_found settings (bytes image) read.0 read.2 read.1 in
-    let file = requests_found (bytes requests) asked.0 (found.1 ∙ ap (λ a. Ok a) few.0) in (
-      read.0,
-      asked.0,
-      record { guest = guest; requested = file; few = subst (λ (a : List (List ℕ)). serve_steps settings (length a) ≤ MOST_STEPS) few.0 few.1 },
-      wrote_serve o _ within.workers (serve_opens settings (bytes image) (bytes requests) read.0 asked.0 within guest file) within.job
-          (wrote o _ work text (work_is work _ asked.3) is taken),
+    let found = serve_found o.files.contents bytes image requests settings works.Running work known leads in (
+      found.0,
+      found.1,
+      found.2,
+      wrote_serve report_of_schedule o _ within.workers (serve_opens settings (bytes image) (bytes requests) found.0 found.1 within found.2.guest found.2.requested) within.job
+          (wrote report_of_schedule o _ works.Running work text (λ told. told) found.3 is taken),
     )
 headline_of o (commands.Asm source) bytes work text within known leads is taken =
     let read = leads_by o.files.contents source_of MOST_SOURCE_BYTES source made work (bytes source) (known source refl) leads in (
@@ -585,6 +619,14 @@ headline_of o (commands.Debug image schedule script settings) bytes work text wi
       run_confined inputs can (kept (start inputs) steps.0),
       taken ∙ ap (appended o.out.taken) (let P : Work → Type 0 = λ w. IsText w text in subst P (work_is work _ asked.3) is),
     )
+headline_of o (commands.Stream image requests settings) bytes work text within known leads is taken =
+    let found = serve_found o.files.contents bytes image requests settings works.Streaming work known leads in (
+      found.0,
+      found.1,
+      found.2,
+      wrote_serve stream_text o _ within.workers (serve_opens settings (bytes image) (bytes requests) found.0 found.1 within found.2.guest found.2.requested) within.job
+          (wrote stream_text o _ works.Streaming work text (λ told. told) found.3 is taken),
+    )
 
 -- a line that is not accepted reads no file and writes no text
 
@@ -596,7 +638,7 @@ unwritten_unasked : (P : Type 0) (e : End Rejection) → e ≡ ends.Unwritten �
 unwritten_unasked P e unwritten (inl is) = absurd cc
 unwritten_unasked P e unwritten (inr is) = absurd cc
 
--- nothing is written at another end than these two
+-- nothing is written at another end of a plan than these two
 untouched : (o : Outside) (command : Command) (e : End Rejection) → e ≢ ends.Done → e ≢ ends.Unwritten → Ended IsText o (plan_of command) e → IsUnwritten o
 unfolding Ended
 untouched o command ends.Done not_done not_cut h = absurd (not_done refl)
@@ -640,9 +682,17 @@ fetches_named files after (Some command) h = (
 -- the clauses of the call
 
 module _ (o : Outside) (asked : Option Command) (result : ExitStatus) (e : End Rejection) (ended : CallEnded o asked e) (answered : result ≡ status_of e) where
-  ended_asked : (command : Command) → asked ≡ Some command → Ended IsText o (plan_of command) e
+  ended_asked : (command : Command) → asked ≡ Some command → CommandEnded o command e
   unfolding CallEnded
   ended_asked command is = subst (λ a. CallEnded o a e) is ended
+
+  -- at another end than out of memory, what holds is what holds at that end of the plan
+  ended_at : (command : Command) (x : End Rejection) → asked ≡ Some command → e ≡ x → x ≢ ends.NoMemory → Ended IsText o (plan_of command) x
+  ended_at command x is e_is other = by_end (ended_asked command is)
+    where
+      by_end : CommandEnded o command e → Ended IsText o (plan_of command) x
+      by_end (inl h) = subst (Ended IsText o (plan_of command)) e_is h
+      by_end (inr (stream, memory, wrote)) = absurd (other (sym e_is ∙ memory))
 
   pub usage_only : result ≡ statuses.Usage → asked ≡ None
   unfolding CallEnded Ended
@@ -653,7 +703,7 @@ module _ (o : Outside) (asked : Option Command) (result : ExitStatus) (e : End R
 
       by_asked : (a : Option Command) → asked ≡ a → asked ≡ None
       by_asked None q = q
-      by_asked (Some command) q = absurd (subst (Ended IsText o (plan_of command)) e_is (ended_asked command q))
+      by_asked (Some command) q = absurd (ended_at command ends.Usage q e_is (λ is. absurd cc))
 
   pub usage : asked ≡ None → IsOrNoMemory result statuses.Usage
   unfolding CallEnded
@@ -664,12 +714,15 @@ module _ (o : Outside) (asked : Option Command) (result : ExitStatus) (e : End R
       by_end (inr m) = inr (answered ∙ ap status_of m)
 
   pub ends_by : (command : Command) (bytes : List ℕ → List ℕ) → asked ≡ Some command → IsUndisturbed o command bytes → IsOrNoMemory result (status_by (outcome bytes (plan_of command)))
-  ends_by command bytes is calm =
-      by_end (settled IsText o (plan_of command) bytes (are_known o.files.contents command bytes calm.contents) e (ended_asked command is) (unhindered o command calm.faults))
+  ends_by command bytes is calm = by_command (ended_asked command is)
     where
       by_end : (e ≡ ends.NoMemory) ⊎ (e ≡ end_by (outcome bytes (plan_of command))) → IsOrNoMemory result (status_by (outcome bytes (plan_of command)))
       by_end (inl m) = inr (answered ∙ ap status_of m)
       by_end (inr by) = inl (answered ∙ ap status_of by ∙ status_of-end_by (outcome bytes (plan_of command)))
+
+      by_command : CommandEnded o command e → IsOrNoMemory result (status_by (outcome bytes (plan_of command)))
+      by_command (inl h) = by_end (settled IsText o (plan_of command) bytes (are_known o.files.contents command bytes calm.contents) e h (unhindered o command calm.faults))
+      by_command (inr (stream, memory, wrote)) = by_end (inl memory)
 
   pub complete : (command : Command) (bytes : List ℕ → List ℕ) → asked ≡ Some command → IsUndisturbed o command bytes → IsRunnable command bytes → IsOrNoMemory result statuses.Ok
   complete command bytes is calm runnable =
@@ -680,14 +733,14 @@ module _ (o : Outside) (asked : Option Command) (result : ExitStatus) (e : End R
   pub headline : (command : Command) (bytes : List ℕ → List ℕ) → ((command : Command) → asked ≡ Some command → IsWithinLimits command) → result ≡ statuses.Ok → asked ≡ Some command → AreContents o.files.contents command bytes → Headline o command bytes
   unfolding Ended
   headline command bytes within ok is known =
-      let done : Ended IsText o (plan_of command) ends.Done = subst (Ended IsText o (plan_of command)) (done_end e (sym answered ∙ ok)) (ended_asked command is) in
+      let done = ended_at command ends.Done is (done_end e (sym answered ∙ ok)) (λ is. absurd cc) in
       headline_of o command bytes done.0 done.2.0 (within command is) known done.1 done.2.1 done.2.2
 
   pub refused : (command : Command) (bytes : List ℕ → List ℕ) (rejection : Rejection) → asked ≡ Some command → AreContents o.files.contents command bytes → result ≡ status_of_rejection rejection → IsRejected command bytes result
   unfolding Ended
   refused command bytes rejection is known by =
       (let found = refusal_end e rejection (sym answered ∙ by) in
-      let leads : Ended IsText o (plan_of command) (ends.Refused found.0) = subst (Ended IsText o (plan_of command)) found.1 (ended_asked command is) in
+      let leads = ended_at command (ends.Refused found.0) is found.1 (λ is. absurd cc) in
       (found.0, sym (leads_known o.files.contents bytes (plan_of command) (Err found.0) (are_known o.files.contents command bytes known) leads.0), answered ∙ ap status_of found.1))
 
   pub read_fault : result ≡ statuses.ReadFault → FileFailed asked o
@@ -700,7 +753,7 @@ module _ (o : Outside) (asked : Option Command) (result : ExitStatus) (e : End R
       by_asked : (a : Option Command) → asked ≡ a → FileFailed a o
       by_asked None q = absurd (unread_unasked found.0 e found.1 (subst (λ a. CallEnded o a e) q ended).0)
       by_asked (Some command) q =
-          (let h : Ended IsText o (plan_of command) (ends.Unread found.0) = subst (Ended IsText o (plan_of command)) found.1 (ended_asked command q) in
+          (let h = ended_at command (ends.Unread found.0) q found.1 (λ is. absurd cc) in
           (found.0, reads_names o.files.contents command found.0 h.0, h.1))
 
   pub write_fault : result ≡ statuses.WriteFault → WriteFailed o
@@ -712,22 +765,33 @@ module _ (o : Outside) (asked : Option Command) (result : ExitStatus) (e : End R
 
       by_asked : (a : Option Command) → asked ≡ a → WriteFailed o
       by_asked None q = unwritten_unasked _ e e_is (subst (λ a. CallEnded o a e) q ended).0
-      by_asked (Some command) q = (let h : Ended IsText o (plan_of command) ends.Unwritten = subst (Ended IsText o (plan_of command)) e_is (ended_asked command q) in h.3)
+      by_asked (Some command) q = (let h = ended_at command ends.Unwritten q e_is (λ is. absurd cc) in h.3)
 
-  pub nothing : result ≢ statuses.Ok → result ≢ statuses.WriteFault → IsUnwritten o
+  pub nothing : result ≢ statuses.Ok → result ≢ statuses.WriteFault → IsUnwritten o ⊎ ((result ≡ statuses.NoMemory) × WroteOnlyReplies o asked)
   unfolding CallEnded
   nothing not_ok not_cut = by_asked asked refl
     where
-      by_asked : (a : Option Command) → asked ≡ a → IsUnwritten o
-      by_asked None q = (subst (λ a. CallEnded o a e) q ended).1
-      by_asked (Some command) q = untouched o command e (λ is. not_ok (answered ∙ ap status_of is)) (λ is. not_cut (answered ∙ ap status_of is)) (ended_asked command q)
+      Nothing : Type 0
+      Nothing = IsUnwritten o ⊎ ((result ≡ statuses.NoMemory) × WroteOnlyReplies o asked)
+
+      by_command : (command : Command) → asked ≡ Some command → CommandEnded o command e → Nothing
+      by_command command q (inl h) = inl (untouched o command e (λ is. not_ok (answered ∙ ap status_of is)) (λ is. not_cut (answered ∙ ap status_of is)) h)
+      by_command command q (inr (stream, memory, wrote)) = inr (answered ∙ ap status_of memory, (command, q, stream, wrote))
+
+      by_asked : (a : Option Command) → asked ≡ a → Nothing
+      by_asked None q = inl (subst (λ a. CallEnded o a e) q ended).1
+      by_asked (Some command) q = by_command command q (ended_asked command q)
 
   pub no_fault : result ≢ statuses.NoMemory → result ≢ statuses.ReadFault → result ≢ statuses.WriteFault → NothingFailed o
   unfolding CallEnded
   no_fault memory read written = by_asked asked refl
     where
+      by_command : (command : Command) → CommandEnded o command e → NothingFailed o
+      by_command command (inl h) = fine o command e (λ is. memory (answered ∙ is)) (λ is. read (answered ∙ is)) (λ is. written (answered ∙ is)) h
+      by_command command (inr (stream, out, wrote)) = absurd (memory (answered ∙ ap status_of out))
+
       by_asked : (a : Option Command) → asked ≡ a → NothingFailed o
       by_asked None q =
           (let h = subst (λ a. CallEnded o a e) q ended in
           record { files = ap (λ f. f.faults) h.2; out = ap (λ s. s.faults) h.1 })
-      by_asked (Some command) q = fine o command e (λ is. memory (answered ∙ is)) (λ is. read (answered ∙ is)) (λ is. written (answered ∙ is)) (ended_asked command q)
+      by_asked (Some command) q = by_command command (ended_asked command q)

@@ -1,6 +1,6 @@
 -- How a call's end follows from what its parts answered.
 use Rattle.std.proofs.Common.{◌≡◌, ◌<◌, inl, inr, ℕ, List, [], ◌++◌, Result, Ok, Err, refl, sym, subst, ap, ◌∙◌, append_assoc, All}
-use Rattle.lwc_io.specs.Outside.{Fetch, FilesView, MayBeContents, SinkView, appended}
+use Rattle.lwc_io.specs.Outside.{Fetch, FilesView, IsPartTaken, MayBeContents, SinkView, appended}
 use Rattle.lwcrun_core.specs.Ends.{End, Outside, Ended, FetchFailed, IsUnwritten, NoFetchFailed, NothingFailed, WriteFailed}
 use Rattle.lwcrun_core.specs.Ends as ends
 use Rattle.lwcrun_core.specs.Parts.{Found, ReadsBy}
@@ -9,7 +9,6 @@ use Rattle.lwcrun_core.specs.Plans.{Plan, AreFetchesOf, ComesToWork, FileContent
 use Rattle.lwcrun_core.specs.Plans as plans
 use Rattle.lwcrun_core.specs.Reading.{Fetched, ReadsOnward, ReadsToTheEnd}
 use Rattle.lwcrun_core.specs.Views.{outside}
-use Rattle.lwcrun_core.specs.Writing.{IsPartTaken}
 use Rattle.lwcrun_core.proofs.Fetches.{increased_by_then, none_onward}
 
 module _ {A R W : Type 0} (IsText : W → List ℕ → Type 0) (grammar : List ℕ → Result A R) (name : List ℕ) (limit : ℕ) (next : A → Plan R W) where

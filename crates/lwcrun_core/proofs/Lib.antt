@@ -5,5 +5,6 @@ pub mod TakenWords
 pub mod Fetches
 pub mod Follows
 pub mod Readers
-pub mod Outputs
 pub mod Promises
+mod Streams
+mod Visited

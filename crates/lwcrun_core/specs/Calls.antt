@@ -10,7 +10,7 @@ use Rattle.guest_image.specs.declared.image.Vault.{Vault}
 use Rattle.kernel_core.specs.declared.settings.Settings.{Settings}
 use Rattle.lwc_io.specs.Outside.{FilesView, SinkView, appended}
 use Rattle.kernel_core.specs.Histories.{IsComplete}
-use Rattle.kernel_core.specs.Runs.{kept}
+use Rattle.kernel_core.specs.Runs.{kept, run}
 use Rattle.kernel_core.specs.Start.{Inputs, start, threads_for}
 use Rattle.lift_law.specs.Lifting.{RunsLifted}
 use Rattle.lwc_base.specs.declared.limits.TheConstants.{MOST_STEPS}
@@ -31,23 +31,56 @@ use Rattle.lwc_vault.specs.Secrets.{KeepsSecret, beside}
 use Rattle.lwcrun_core.specs.declared.ending.Rejection.{Rejection}
 use Rattle.lwcrun_core.specs.declared.status.ExitStatus.{ExitStatus}
 use Rattle.lwcrun_core.specs.declared.status.ExitStatus.TheVariants as statuses
-use Rattle.lwcrun_core.specs.Ends.{End, Outside, Ended, FetchFailed, IsUnwritten, WriteFailed}
+use Rattle.lwcrun_core.specs.Ends.{End, Outside, Ended, FetchFailed, IsUnwritten, NothingFailed, WriteFailed}
 use Rattle.lwcrun_core.specs.Ends as ends
-use Rattle.lwc_text.specs.Report.{report_of_schedule}
-use Rattle.lwcrun_core.specs.Headline.{IsText, Work, inputs_of, plan_of}
+use Rattle.lwc_text.specs.Report.{replies_text, report_of_schedule, stream_text}
+use Rattle.lwcrun_core.specs.Headline.{HaveVisited, IsText, Work, inputs_of, plan_of}
+use Rattle.lwcrun_core.specs.Headline as works
 use Rattle.lwcrun_core.specs.Images.{serve_steps}
-use Rattle.lwcrun_core.specs.Lines.{Command}
+use Rattle.lwcrun_core.specs.Lines.{Command, IsStream}
 use Rattle.lwcrun_core.specs.Lines as commands
-use Rattle.lwcrun_core.specs.Plans.{AreFetchesOf, FileContents, outcome}
+use Rattle.lwcrun_core.specs.Plans.{AreFetchesOf, FileContents, LeadsTo, Plan, outcome}
 use Rattle.lwcrun_core.specs.Reading.{Fetched}
 use Rattle.lwcrun_core.specs.Serving.{EachHasReply, NoneIsShort, RepliesAreAlone, summary_alone}
 use Rattle.lwcrun_core.specs.Statuses.{IsAnswered, status_of_rejection}
+use Rattle.thread_carrier.specs.declared.visit.Visit.{Visit}
 
--- what holds at each end of a call: what holds at that end of the command's plan; a line that is not accepted
--- ends by that, or out of memory, and nothing is fetched or written
+-- the plan leads to a stream, the replies of a complete history were written, and nothing failed
+abbrev pub WroteReplies : Outside → Plan Rejection Work → Type 0
+WroteReplies o p =
+    (inputs : Inputs) × (steps : List ℕ) × LeadsTo o.files.contents p (Ok (works.Streaming inputs))
+    × IsComplete (start inputs) steps
+    × (o.out_after.taken ≡ appended o.out.taken (replies_text (run (start inputs) steps))) × NothingFailed o
+
+-- what holds at each end of a stream's plan: memory may run out behind the replies, too
+abbrev pub StreamEnded : List (List Visit) → List (List Visit) → Outside → Plan Rejection Work → End Rejection → Type 0
+StreamEnded before after o p e = Ended (HaveVisited before after) o p e ⊎ ((e ≡ ends.NoMemory) × WroteReplies o p)
+
+-- what holds at each end of a command: what holds at that end of its plan; or a stream's memory ran out behind the
+-- replies
+abbrev pub CommandEnded : Outside → Command → End Rejection → Type 0
+CommandEnded o command e =
+    Ended IsText o (plan_of command) e
+    ⊎ (IsStream command × (e ≡ ends.NoMemory) × WroteReplies o (plan_of command))
+
+-- what holds at each end of a call: what holds at that end of the command; a line that is not accepted ends by that,
+-- or out of memory, and nothing is fetched or written
 unfoldable pub CallEnded : Outside → Option Command → End Rejection → Type 0
 CallEnded o None e = ((e ≡ ends.Usage) ⊎ (e ≡ ends.NoMemory)) × IsUnwritten o × (o.files_after ≡ o.files)
-CallEnded o (Some command) e = Ended IsText o (plan_of command) e
+CallEnded o (Some command) e = CommandEnded o command e
+
+-- what the threads of a command did at the gate, by the exit status: where the text was written, or a part of it, the
+-- logs have grown by the visits of the history that the text is of
+abbrev pub VisitedBy : List (List Visit) → List (List Visit) → Outside → Command → ExitStatus → Type 0
+VisitedBy before after o command statuses.Ok = Ended (HaveVisited before after) o (plan_of command) ends.Done
+VisitedBy before after o command statuses.WriteFault =
+    Ended (HaveVisited before after) o (plan_of command) ends.Unwritten
+VisitedBy before after o command status = Unit {0}
+
+-- the line asks for a stream, and its replies were written and nothing else
+abbrev pub WroteOnlyReplies : Outside → Option Command → Type 0
+WroteOnlyReplies o asked =
+    (command : Command) × (asked ≡ Some command) × IsStream command × WroteReplies o (plan_of command)
 
 -- how a call ended, its exit status, and its message on the error output
 abbrev pub Answers : Outside → Option Command → ExitStatus → SinkView → SinkView → Type 0
@@ -71,6 +104,7 @@ Names (commands.Lift image) q = q ≡ image
 Names (commands.Monitor image schedule settings) q = (q ≡ image) ⊎ (q ≡ schedule)
 Names (commands.Vault image vault schedule settings) q = (q ≡ image) ⊎ ((q ≡ vault) ⊎ (q ≡ schedule))
 Names (commands.Debug image schedule script settings) q = (q ≡ image) ⊎ ((q ≡ schedule) ⊎ (q ≡ script))
+Names (commands.Stream image requests settings) q = (q ≡ image) ⊎ (q ≡ requests)
 
 -- a call fetched what its command's plan comes to, and nothing where the line is not accepted
 abbrev pub FetchesPlan : Option Command → FilesView → FilesView → Type 0
@@ -173,12 +207,12 @@ WroteHistory o inputs =
 
 -- some complete history of this serve was made, each step of which is confined, and in which each request has
 -- a reply; where there are frames for that, it is the one that the request gets by itself, and no step finds
--- too few; and the history's text was written
-abbrev pub WroteServe : Outside → Inputs → Type 0
-WroteServe o inputs =
+-- too few; and this text of the history was written
+abbrev pub WroteServe : (Inputs → List ℕ → List ℕ) → Outside → Inputs → Type 0
+WroteServe text o inputs =
     (steps : List ℕ) × IsComplete (start inputs) steps × EachHasReply inputs steps × RepliesAreAlone inputs steps
     × NoneIsShort inputs steps × IsConfinedRun inputs steps
-    × (o.out_after.taken ≡ appended o.out.taken (report_of_schedule inputs steps))
+    × (o.out_after.taken ≡ appended o.out.taken (text inputs steps))
 
 -- some complete history of the generated serve was made, and its summary was written, which is that of the
 -- replies that the requests get by themselves where there are frames for that
@@ -196,8 +230,9 @@ WroteSummary o number =
 -- schedule of a monitored run, in which no trapped context's slots change but by its monitor; the report of the
 -- steps that are kept of the schedule of a run beside a vault, which is the same beside each other vault of its
 -- shape unless a thread makes a step in it; the answers to a script, each at its place of the steps that are kept of
--- the schedule. Of the same steps: with enough frames each reply is the one that its
--- request gets alone, and no step is short of them; each step is confined, and what is left alone is as it was made
+-- the schedule; the report of a serve, its replies first. Of the same steps: with enough frames each reply is the one
+-- that its request gets alone, and no step is short of them; each step is confined, and what is left alone is as it
+-- was made
 abbrev pub Headline : Outside → Command → (List ℕ → List ℕ) → Type 0
 Headline o (commands.Replay image schedule requests settings) bytes =
     (x : Image) × (steps : List ℕ) × (asked : List (List ℕ))
@@ -210,7 +245,7 @@ Headline o (commands.Run image settings) bytes =
     (x : Image) × IsFitting settings (bytes image) x × WroteHistory o (inputs_of x [] settings)
 Headline o (commands.Serve image requests settings) bytes =
     (x : Image) × (asked : List (List ℕ)) × IsServe bytes image requests settings x asked
-    × WroteServe o (inputs_of x asked settings)
+    × WroteServe report_of_schedule o (inputs_of x asked settings)
 Headline o (commands.Asm source) bytes =
     (x : Image) × (assembled (bytes source) ≡ Ok x) × (o.out_after.taken ≡ appended o.out.taken (spelling x))
 Headline o (commands.Dis image) bytes =
@@ -234,6 +269,9 @@ Headline o (commands.Debug image schedule script settings) bytes =
     × IsDebugged bytes image schedule script settings x steps asked
     × IsConfinedRun (inputs_of x [] settings) (kept (start (inputs_of x [] settings)) steps)
     × (o.out_after.taken ≡ appended o.out.taken (transcript_of_schedule (inputs_of x [] settings) steps asked))
+Headline o (commands.Stream image requests settings) bytes =
+    (x : Image) × (asked : List (List ℕ)) × IsServe bytes image requests settings x asked
+    × WroteServe stream_text o (inputs_of x asked settings)
 
 -- the contents of the command's files are accepted
 abbrev pub IsRunnable : Command → (List ℕ → List ℕ) → Type 0
@@ -254,3 +292,5 @@ IsRunnable (commands.Vault image vault schedule settings) bytes =
 IsRunnable (commands.Debug image schedule script settings) bytes =
     (x : Image) × (steps : List ℕ) × (asked : List debug.Command)
     × IsDebugged bytes image schedule script settings x steps asked
+IsRunnable (commands.Stream image requests settings) bytes =
+    (x : Image) × (asked : List (List ℕ)) × IsServe bytes image requests settings x asked

@@ -1,8 +1,7 @@
 -- How a call of the program ends, and what holds then.
 use Rattle.std.specs.Prelude.{◌≡◌, ℕ, List, Result, Ok, Err}
-use Rattle.lwc_io.specs.Outside.{CountsOneFault, FilesView, SinkView, appended}
+use Rattle.lwc_io.specs.Outside.{CountsOneFault, FilesView, IsPartTaken, SinkView, appended}
 use Rattle.lwcrun_core.specs.Plans.{Plan, LeadsTo, Reads}
-use Rattle.lwcrun_core.specs.Writing.{IsPartTaken}
 
 -- the ends: all was written; out of memory; the line is not accepted; a file was not read; the text was not
 -- written whole; an input was refused

@@ -16,10 +16,12 @@ use Rattle.lwc_debug.specs.declared.command.Command as debug
 use Rattle.lwc_debug.specs.declared.debugging.TheConstants.{MOST_DEBUGGED_STEPS}
 use Rattle.lwc_debug.specs.declared.script.TheConstants.{MOST_SCRIPT_BYTES}
 use Rattle.lwc_monitor.specs.Reports.{monitored_text}
-use Rattle.lwc_text.specs.Report.{report_of_schedule}
+use Rattle.lwc_text.specs.Report.{report_of_schedule, stream_text}
 use Rattle.lwc_text.specs.declared.vault.TheConstants.{MOST_VAULT_BYTES}
 use Rattle.lwc_vault.specs.Secrets.{beside}
 use Rattle.lwcrun_core.specs.declared.ending.Rejection.{Rejection}
+use Rattle.thread_carrier.specs.Visits.{after_visits}
+use Rattle.thread_carrier.specs.declared.visit.Visit.{Visit}
 use Rattle.lwcrun_core.specs.Images.{bounded_requests_of, fitting_image_of, fitting_vault_for, image_of, requests_of, schedule_of, script_of, source_of}
 use Rattle.lwcrun_core.specs.Lines.{Command}
 use Rattle.lwcrun_core.specs.Lines as commands
@@ -27,7 +29,8 @@ use Rattle.lwcrun_core.specs.Plans.{Plan, Read, Write, accepted}
 
 -- what is done when all inputs are accepted: the steps of a schedule, beside a vault if there is one; all steps of
 -- threads that go on by themselves; the bytes of an image, or its source; all steps of a generated serve; the steps
--- of a schedule, in which contexts may be trapped; the answers to a script in the steps of a schedule
+-- of a schedule, in which contexts may be trapped; the answers to a script in the steps of a schedule; all steps of
+-- a serve, whose replies are written first
 pub data Work : Type 0 where
   Replaying : Inputs → List ℕ → Work
   Running : Inputs → Work
@@ -36,6 +39,7 @@ pub data Work : Type 0 where
   Generating : ℕ → Work
   Monitoring : Inputs → List ℕ → Work
   Debugging : Inputs → List ℕ → List debug.Command → Work
+  Streaming : Inputs → Work
 
 -- the texts that a work may have; threads that go on by themselves may make any complete history
 abbrev pub IsText : Work → List ℕ → Type 0
@@ -49,6 +53,23 @@ IsText (Generating number) text =
     × (text ≡ summary_after (generated number) number steps)
 IsText (Monitoring inputs schedule) text = text ≡ monitored_text inputs schedule
 IsText (Debugging inputs schedule script) text = text ≡ transcript_of_schedule inputs schedule script
+IsText (Streaming inputs) text =
+    (steps : List ℕ) × IsComplete (start inputs) steps × (text ≡ stream_text inputs steps)
+
+-- the same texts, with the logs of the threads before the work and after it: the log of each thread has grown by its
+-- visits at the gate in the history that the text is of; a work that runs no threads leaves the logs as they were
+abbrev pub HaveVisited : List (List Visit) → List (List Visit) → Work → List ℕ → Type 0
+HaveVisited before after (Running inputs) text =
+    (steps : List ℕ) × IsComplete (start inputs) steps × (text ≡ report_of_schedule inputs steps)
+    × (after ≡ after_visits (start inputs) steps 0 before)
+HaveVisited before after (Generating number) text =
+    (steps : List ℕ) × IsComplete (start (generated number)) steps
+    × (text ≡ summary_after (generated number) number steps)
+    × (after ≡ after_visits (start (generated number)) steps 0 before)
+HaveVisited before after (Streaming inputs) text =
+    (steps : List ℕ) × IsComplete (start inputs) steps × (text ≡ stream_text inputs steps)
+    × (after ≡ after_visits (start inputs) steps 0 before)
+HaveVisited before after work text = IsText work text × (after ≡ before)
 
 -- what a kernel is opened with
 abbrev pub inputs_of : Image → List (List ℕ) → Settings → Inputs
@@ -92,6 +113,17 @@ after_server requests settings image =
 unfoldable pub serve_plan : List ℕ → List ℕ → Settings → Plan Rejection Work
 serve_plan image requests settings =
     read_by (fitting_image_of settings.frames) MOST_IMAGE_BYTES image (after_server requests settings)
+
+-- what follows the image of a stream: the requests are read
+unfoldable pub after_streamer : List ℕ → Settings → Image → Plan Rejection Work
+after_streamer requests settings image =
+    read_by (bounded_requests_of settings) MOST_REQUEST_FILE_BYTES requests (λ asked.
+    Write (Streaming (inputs_of image asked settings)))
+
+-- a stream: the image is read, and then the requests
+unfoldable pub stream_plan : List ℕ → List ℕ → Settings → Plan Rejection Work
+stream_plan image requests settings =
+    read_by (fitting_image_of settings.frames) MOST_IMAGE_BYTES image (after_streamer requests settings)
 
 -- the image of a source
 unfoldable pub asm_plan : List ℕ → Plan Rejection Work
@@ -165,3 +197,4 @@ plan_of (commands.Lift image) = lift_plan image
 plan_of (commands.Monitor image schedule settings) = monitor_plan image schedule settings
 plan_of (commands.Vault image vault schedule settings) = vault_plan image vault schedule settings
 plan_of (commands.Debug image schedule script settings) = debug_plan image schedule script settings
+plan_of (commands.Stream image requests settings) = stream_plan image requests settings

@@ -13,4 +13,3 @@ pub mod Reading
 pub mod Serving
 pub mod Statuses
 pub mod Views
-pub mod Writing

@@ -15,7 +15,7 @@ use Rattle.lwcrun_core.specs.Numbers.{number_within}
 -- run of an image; the serve of requests by an image; the image of a source; the source of an image; the
 -- serve that is generated from a number; the lifted image of an image; an image under a schedule, in whose run
 -- contexts may be trapped; an image beside a vault under a schedule; an image under a schedule, of whose run a script
--- is answered
+-- is answered; the serve of requests by an image, each of whose replies is written as soon as it can be
 pub data Command : Type 0 where
   Replay : List ℕ → List ℕ → Option (List ℕ) → Settings → Command
   Run : List ℕ → Settings → Command
@@ -27,6 +27,7 @@ pub data Command : Type 0 where
   Monitor : List ℕ → List ℕ → Settings → Command
   Vault : List ℕ → List ℕ → List ℕ → Settings → Command
   Debug : List ℕ → List ℕ → List ℕ → Settings → Command
+  Stream : List ℕ → List ℕ → Settings → Command
 
 -- settings of a run, within their limits
 pub record AreRunSettings (settings : Settings) : Type 0 where
@@ -99,6 +100,12 @@ serve_of a =
     if is_some a.third then None
     else two_words a (λ image requests. option_map (Serve image requests) (serve_settings_of a))
 
+-- `stream` wants and takes what `serve` does
+abbrev pub stream_of : Arguments → Option Command
+stream_of a =
+    if is_some a.third then None
+    else two_words a (λ image requests. option_map (Stream image requests) (serve_settings_of a))
+
 -- `gen` wants a number from 1 to 100, and takes no option
 abbrev pub gen_of : Arguments → Option Command
 gen_of a = option_map Gen (option_and_then (number_within 1 100) (only_word a))
@@ -136,6 +143,7 @@ asked_in mode a =
     else if bytes_eq mode (codes "monitor") then monitor_of a
     else if bytes_eq mode (codes "vault") then vault_of a
     else if bytes_eq mode (codes "debug") then debug_of a
+    else if bytes_eq mode (codes "stream") then stream_of a
     else None
 
 -- what the words ask for, the program's name first; none where the line is not accepted
@@ -157,6 +165,7 @@ asked_by (lines.Vault image vault schedule settings) =
     Vault (string_bytes image) (string_bytes vault) (string_bytes schedule) settings
 asked_by (lines.Debug image schedule script settings) =
     Debug (string_bytes image) (string_bytes schedule) (string_bytes script) settings
+asked_by (lines.Stream image requests settings) = Stream (string_bytes image) (string_bytes requests) settings
 
 -- the settings of a replay are within their limits: those of a run, or of a serve where there are requests
 abbrev pub AreReplaySettings : {A : Type 0} → Option A → Settings → Type 0
@@ -175,6 +184,12 @@ IsWithinLimits (Lift image) = Unit {0}
 IsWithinLimits (Monitor image schedule settings) = AreRunSettings settings
 IsWithinLimits (Vault image vault schedule settings) = AreRunSettings settings
 IsWithinLimits (Debug image schedule script settings) = AreRunSettings settings
+IsWithinLimits (Stream image requests settings) = AreServeSettings settings
+
+-- the command is a stream
+abbrev pub IsStream : Command → Type 0
+IsStream (Stream image requests settings) = Unit {0}
+IsStream command = ⊥
 
 -- the command runs threads, which come to the gate
 abbrev pub RunsThreads : Command → Type 0
@@ -188,3 +203,4 @@ RunsThreads (Lift image) = ⊥
 RunsThreads (Monitor image schedule settings) = ⊥
 RunsThreads (Vault image vault schedule settings) = ⊥
 RunsThreads (Debug image schedule script settings) = ⊥
+RunsThreads (Stream image requests settings) = Unit {0}

@@ -2,7 +2,7 @@
 use Rattle.std.specs.Prelude.{◌≡◌, ◌⊎◌, ℕ, List, [], ◌∷◌, ◌++◌, codes, decimal}
 use Rattle.guest_asm.specs.Rules as sources
 use Rattle.guest_image.specs.Rules as images
-use Rattle.lwc_io.specs.Outside.{CountsOneFault, SinkView, appended}
+use Rattle.lwc_io.specs.Outside.{CountsOneFault, IsPartTaken, SinkView, appended}
 use Rattle.lwc_text.specs.Rules as inputs
 use Rattle.lwcrun_core.specs.declared.ending.Rejection.{Rejection}
 use Rattle.lwcrun_core.specs.declared.ending.Rejection.TheVariants as rejections
@@ -10,7 +10,6 @@ use Rattle.lwcrun_core.specs.declared.status.ExitStatus.{ExitStatus}
 use Rattle.lwcrun_core.specs.declared.status.ExitStatus.TheVariants as statuses
 use Rattle.lwcrun_core.specs.Ends.{End}
 use Rattle.lwcrun_core.specs.Ends as ends
-use Rattle.lwcrun_core.specs.Writing.{IsPartTaken}
 
 -- the number of an exit status
 abbrev pub exit_number : ExitStatus → ℕ
@@ -48,7 +47,7 @@ abbrev pub usage_words : List ℕ
 usage_words =
     codes "usage: lwcrun replay IMAGE SCHEDULE [REQUESTS], run IMAGE, serve IMAGE REQUESTS, "
     ++ codes "asm SOURCE, dis IMAGE, gen NUMBER, lift IMAGE, monitor IMAGE SCHEDULE, vault IMAGE VAULT SCHEDULE, "
-    ++ codes "debug IMAGE SCHEDULE SCRIPT; "
+    ++ codes "debug IMAGE SCHEDULE SCRIPT, stream IMAGE REQUESTS; "
     ++ codes "--frames F --budget B --workers W"
 
 -- why an input was refused, in words

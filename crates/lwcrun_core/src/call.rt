@@ -1,11 +1,13 @@
-ghost use Rattle.std.specs.Prelude.{◌≡◌, ◌≢◌, ◌⊎◌, ℕ, List, None, Some, map, string_bytes};
+ghost use Rattle.std.specs.Prelude.{◌≡◌, ◌≢◌, ◌⊎◌, ◌≤◌, ℕ, List, None, Some, IfSome, length, map};
+ghost use Rattle.std.specs.Prelude.{string_bytes};
+ghost use Rattle.lwc_base.specs.declared.limits.TheConstants.{MOST_THREADS};
 ghost use Rattle.lwcrun_core.specs.declared.ending.Rejection.{Rejection};
-ghost use Rattle.lwcrun_core.specs.Calls.{Answers, AreContents, FetchesNamed, FetchesPlan, FileFailed};
-ghost use Rattle.lwcrun_core.specs.Calls.{Headline, IsOrNoMemory, IsRejected, IsRunnable, IsUndisturbed};
-ghost use Rattle.lwcrun_core.specs.Calls.{status_by};
+ghost use Rattle.lwcrun_core.specs.Calls.{Answers, AreContents, CommandEnded, FetchesNamed, FetchesPlan};
+ghost use Rattle.lwcrun_core.specs.Calls.{FileFailed, Headline, IsOrNoMemory, IsRejected, IsRunnable};
+ghost use Rattle.lwcrun_core.specs.Calls.{IsUndisturbed, VisitedBy, WroteOnlyReplies, status_by};
 ghost use Rattle.lwcrun_core.specs.Ends as ends;
 ghost use Rattle.lwcrun_core.specs.Ends.{Ended, IsUnwritten, NothingFailed, WriteFailed};
-ghost use Rattle.lwcrun_core.specs.Headline.{IsText, plan_of};
+ghost use Rattle.lwcrun_core.specs.Headline.{HaveVisited, plan_of};
 ghost use Rattle.lwcrun_core.specs.Lines.{Command, IsWithinLimits, RunsThreads, asked_by, command_of};
 ghost use Rattle.lwcrun_core.specs.Plans.{AreFetchesOf, ComesToWork, outcome};
 ghost use Rattle.lwcrun_core.specs.Reading.{Fetched};
@@ -21,22 +23,24 @@ use crate::replaying::replay;
 use crate::running::{run, serve, serve_generated};
 use crate::sources::{asm, dis, lift};
 use crate::status::ExitStatus;
+use crate::streaming::stream;
 use crate::vaulting::replay_with_vault;
-use lwc_io::{Files, Gate, Sink};
+use lwc_io::{Files, Sink};
 use std::alloc::Global;
 use std::sync::Wait;
 use std::thread::Threads;
+use thread_carrier::Gate;
 
 /// What the program does: it reads the line, the program's name first, reads the files that the line
 /// names in their order, tests each before the next, runs or makes what is asked for, and writes it to
 /// `out`. If it does not come to that, it writes why in one line to `err`; a fault of `err` changes
-/// nothing. The result is the exit status. Threads are started, and come to the gate, for `run`, `serve`
-/// and `gen` alone, and only once all their inputs are accepted: the other modes are carried out in functions
+/// nothing. The result is the exit status. Threads are started, and come to the gate, for `run`, `serve`, `gen`
+/// and `stream` alone, and only once all their inputs are accepted: the other modes are carried out in functions
 /// that have no handle of the runtime, and no leave to come to the gate is asked for before.
 ///
 /// `outcome` is the whole table: how the call ended, what holds then, and the message on `err`. The other
 /// clauses follow from it, each a promise by itself. `NoMemory` may always come, and then nothing was
-/// written.
+/// written, or, by a stream, all lines of replies.
 pub fn lwcrun<R: Threads + Wait + Sync, F: Files, O: Sink, E: Sink, G: Gate>(
     rt: &R,
     alloc: Global,
@@ -45,10 +49,14 @@ pub fn lwcrun<R: Threads + Wait + Sync, F: Files, O: Sink, E: Sink, G: Gate>(
     out: &mut O,
     err: &mut E,
     gate: &G,
+    logs: &mut Vec<G::Log>,
 ) -> ExitStatus
     requires leave { (command : Command) → command_of (map string_bytes words.now) ≡ Some command
         → RunsThreads command → ComesToWork (F.seen files.old).contents (plan_of command)
         → G.leave gate.now }
+
+    // There is a log for each thread that a line may run.
+    requires logs { MOST_THREADS ≤ length logs.old.items }
 
     // How the call ended, what holds then, and its message.
     ensures outcome { Answers
@@ -59,12 +67,21 @@ pub fn lwcrun<R: Threads + Wait + Sync, F: Files, O: Sink, E: Sink, G: Gate>(
     // or that the threads made, each of which is confined, also where contexts are trapped; beside a vault it is the
     // same beside each other vault of its shape, unless a thread makes a step in it; the answers to a script, each at
     // its place of the steps that are kept; an image, one that was lifted too, or a source; the summary of a
-    // generated serve.
+    // generated serve; the lines of such a report, those of replies first.
     ensures headline { (command : Command) (bytes : List ℕ → List ℕ) → result ≡ ExitStatus.Ok
         → command_of (map string_bytes words.now) ≡ Some command
         → AreContents (F.seen files.old).contents command bytes
         → Headline (outside (F.seen files.old) (F.seen files.new) (O.seen out.old) (O.seen out.new))
         command bytes }
+
+    // What the threads did at the gate, at status 0 and 4: the log of each has grown by a visit before each turn,
+    // and one after each that finished a request, of the one history that the text is of, and by nothing else. So
+    // no other turns came to the gate. A line that runs no threads leaves the logs as they were.
+    ensures visits { (command : Command) → command_of (map string_bytes words.now) ≡ Some command
+        → RunsThreads command → VisitedBy (map G.visits logs.old.items) (map G.visits logs.new.items)
+        (outside (F.seen files.old) (F.seen files.new) (O.seen out.old) (O.seen out.new)) command result }
+    ensures unvisited { IfSome (command_of (map string_bytes words.now)) (λ command. RunsThreads command → ⊥)
+        → logs.new ≡ logs.old }
 
     // Usage comes exactly where the line is not accepted, if memory does not run out.
     ensures usage_only { result ≡ ExitStatus.Usage → command_of (map string_bytes words.now) ≡ None }
@@ -96,9 +113,12 @@ pub fn lwcrun<R: Threads + Wait + Sync, F: Files, O: Sink, E: Sink, G: Gate>(
         command bytes
         → IsRunnable command bytes → IsOrNoMemory result ExitStatus.Ok }
 
-    // Nothing is written with any other status.
+    // Nothing is written with any other status, but that memory may run out behind the replies of a stream.
     ensures nothing { result ≢ ExitStatus.Ok → result ≢ ExitStatus.WriteFault → IsUnwritten
-        (outside (F.seen files.old) (F.seen files.new) (O.seen out.old) (O.seen out.new)) }
+        (outside (F.seen files.old) (F.seen files.new) (O.seen out.old) (O.seen out.new))
+        ⊎ ((result ≡ ExitStatus.NoMemory) × WroteOnlyReplies
+        (outside (F.seen files.old) (F.seen files.new) (O.seen out.old) (O.seen out.new))
+        (command_of (map string_bytes words.now))) }
 
     // With status 0, 2, 5, 6 or 7 nothing failed.
     ensures no_fault { result ≢ ExitStatus.NoMemory → result ≢ ExitStatus.ReadFault
@@ -114,7 +134,7 @@ pub fn lwcrun<R: Threads + Wait + Sync, F: Files, O: Sink, E: Sink, G: Gate>(
     ensures no_other_file { FetchesNamed (command_of (map string_bytes words.now))
         (F.seen files.old) (F.seen files.new) }
 {
-    answer(rt, alloc, words, files, out, err, gate)
+    answer(rt, alloc, words, files, out, err, gate, logs)
 }
 
 /// Reads the line, does what it asks for, and writes the message of how that ended.
@@ -126,13 +146,20 @@ fn answer<R: Threads + Wait + Sync, F: Files, O: Sink, E: Sink, G: Gate>(
     out: &mut O,
     err: &mut E,
     gate: &G,
+    logs: &mut Vec<G::Log>,
 ) -> ExitStatus
     requires leave { (command : Command) → command_of (map string_bytes words.now) ≡ Some command
         → RunsThreads command → ComesToWork (F.seen files.old).contents (plan_of command)
         → G.leave gate.now }
+    requires logs { MOST_THREADS ≤ length logs.old.items }
     ensures answers { Answers
         (outside (F.seen files.old) (F.seen files.new) (O.seen out.old) (O.seen out.new))
         (command_of (map string_bytes words.now)) result (E.seen err.old) (E.seen err.new) }
+    ensures visits { (command : Command) → command_of (map string_bytes words.now) ≡ Some command
+        → RunsThreads command → VisitedBy (map G.visits logs.old.items) (map G.visits logs.new.items)
+        (outside (F.seen files.old) (F.seen files.new) (O.seen out.old) (O.seen out.new)) command result }
+    ensures unvisited { IfSome (command_of (map string_bytes words.now)) (λ command. RunsThreads command → ⊥)
+        → logs.new ≡ logs.old }
     ensures fetches { FetchesPlan (command_of (map string_bytes words.now))
         (F.seen files.old) (F.seen files.new) }
 {
@@ -140,7 +167,7 @@ fn answer<R: Threads + Wait + Sync, F: Files, O: Sink, E: Sink, G: Gate>(
         Ok(line) => line,
         Err(fault) => return write_message(alloc, err, &fault_ending(fault)),
     };
-    let ending = carry_out(rt, alloc, &line, files, out, gate);
+    let ending = carry_out(rt, alloc, &line, files, out, gate, logs);
     write_message(alloc, err, &ending)
 }
 
@@ -162,13 +189,20 @@ fn carry_out<'a, R: Threads + Wait + Sync, F: Files, O: Sink, G: Gate>(
     files: &mut F,
     out: &mut O,
     gate: &G,
+    logs: &mut Vec<G::Log>,
 ) -> Ending<'a>
     requires limits { IsWithinLimits (asked_by line.now) }
     requires leave { RunsThreads (asked_by line.now)
         → ComesToWork (F.seen files.old).contents (plan_of (asked_by line.now)) → G.leave gate.now }
-    ensures ended { Ended IsText
+    requires logs { MOST_THREADS ≤ length logs.old.items }
+    ensures ended { CommandEnded
         (outside (F.seen files.old) (F.seen files.new) (O.seen out.old) (O.seen out.new))
-        (plan_of (asked_by line.now)) (end_of result) }
+        (asked_by line.now) (end_of result) }
+    ensures visits { RunsThreads (asked_by line.now) →
+        Ended (HaveVisited (map G.visits logs.old.items) (map G.visits logs.new.items))
+        (outside (F.seen files.old) (F.seen files.new) (O.seen out.old) (O.seen out.new))
+        (plan_of (asked_by line.now)) (end_of result) ⊎ (end_of result ≡ ends.NoMemory) }
+    ensures unvisited { (RunsThreads (asked_by line.now) → ⊥) → logs.new ≡ logs.old }
     ensures fetches { Fetched (AreFetchesOf (F.seen files.old).contents (plan_of (asked_by line.now)))
         (F.seen files.old).fetches (F.seen files.new).fetches }
 {
@@ -193,15 +227,15 @@ fn carry_out<'a, R: Threads + Wait + Sync, F: Files, O: Sink, G: Gate>(
             Some(requests.as_str()),
             settings,
         ),
-        Line::Run { image, settings } => run(rt, alloc, files, out, gate, image, settings),
+        Line::Run { image, settings } => run(rt, alloc, files, out, gate, logs, image, settings),
         Line::Serve {
             image,
             requests,
             settings,
-        } => serve(rt, alloc, files, out, gate, image, requests, settings),
+        } => serve(rt, alloc, files, out, gate, logs, image, requests, settings),
         Line::Asm { source } => asm(alloc, files, out, source.as_str()),
         Line::Dis { image } => dis(alloc, files, out, image.as_str()),
-        Line::Gen { number } => serve_generated(rt, alloc, out, gate, *number),
+        Line::Gen { number } => serve_generated(rt, alloc, out, gate, logs, *number),
         Line::Lift { image } => lift(alloc, files, out, image.as_str()),
         Line::Monitor {
             image,
@@ -220,5 +254,10 @@ fn carry_out<'a, R: Threads + Wait + Sync, F: Files, O: Sink, G: Gate>(
             script,
             settings,
         } => debug_run(alloc, files, out, image, schedule, script, settings),
+        Line::Stream {
+            image,
+            requests,
+            settings,
+        } => stream(rt, alloc, files, out, gate, logs, image, requests, settings),
     }
 }

@@ -1,4 +1,5 @@
-ghost use Rattle.std.specs.Prelude.{◌≡◌, None, Some, map, string_bytes};
+ghost use Rattle.std.specs.Prelude.{◌≡◌, ◌≤◌, None, Some, length, map, string_bytes};
+ghost use Rattle.lwc_base.specs.declared.limits.TheConstants.{MOST_THREADS};
 ghost use Rattle.lwcrun_core.specs.Calls.{IsOrNoMemory, IsRunnable, status_by};
 ghost use Rattle.lwcrun_core.specs.Headline.{plan_of};
 ghost use Rattle.lwcrun_core.specs.InMemory.{contents};
@@ -7,10 +8,11 @@ ghost use Rattle.lwcrun_core.specs.Plans.{ComesToWork, outcome};
 
 use crate::call::lwcrun;
 use crate::status::ExitStatus;
-use lwc_io::{Gate, Sink, SureFiles, SureSink};
+use lwc_io::{Sink, SureFiles, SureSink};
 use std::alloc::Global;
 use std::sync::Wait;
 use std::thread::Threads;
+use thread_carrier::Gate;
 
 /// What the program does over files in memory, none of which fails, and an output that takes all it is given. A
 /// name that was not given is an empty file. The exit status is `Usage` for a line that is not accepted, and that
@@ -23,15 +25,17 @@ pub fn lwcrun_in_memory<R: Threads + Wait + Sync, E: Sink, G: Gate>(
     files: &mut SureFiles,
     err: &mut E,
     gate: &G,
+    logs: &mut Vec<G::Log>,
 ) -> ExitStatus
     requires leave { (command : Command) → command_of (map string_bytes words.now) ≡ Some command
         → RunsThreads command → ComesToWork (λ name. Some (contents files.old.files name)) (plan_of command)
         → G.leave gate.now }
+    requires logs { MOST_THREADS ≤ length logs.old.items }
     ensures usage { command_of (map string_bytes words.now) ≡ None → IsOrNoMemory result ExitStatus.Usage }
     ensures ends { (command : Command) → command_of (map string_bytes words.now) ≡ Some command
         → IsOrNoMemory result (status_by (outcome (contents files.old.files) (plan_of command))) }
     ensures complete { (command : Command) → command_of (map string_bytes words.now) ≡ Some command
         → IsRunnable command (contents files.old.files) → IsOrNoMemory result ExitStatus.Ok }
 {
-    lwcrun(rt, alloc, words, files, &mut SureSink, err, gate)
+    lwcrun(rt, alloc, words, files, &mut SureSink, err, gate, logs)
 }

@@ -18,6 +18,7 @@ mod replaying;
 mod running;
 mod sources;
 mod status;
+mod streaming;
 mod vaulting;
 mod writing;
 

@@ -69,6 +69,13 @@ pub enum Line {
         script: String,
         settings: Settings,
     },
+    /// The serve of requests by an image, each a file by its name, in which each reply is written as soon as it and
+    /// all earlier ones are there.
+    Stream {
+        image: String,
+        requests: String,
+        settings: Settings,
+    },
 }
 
 /// Why a line was not read.
@@ -132,6 +139,7 @@ fn line_in(alloc: Global, mode: &str, arguments: &Arguments<'_>) -> Result<Line,
         "monitor" => monitor_line(alloc, arguments),
         "vault" => vault_line(alloc, arguments),
         "debug" => debug_line(alloc, arguments),
+        "stream" => stream_line(alloc, arguments),
         _ => Err(LineFault::Usage),
     }
 }
@@ -303,6 +311,26 @@ fn debug_line(alloc: Global, arguments: &Arguments<'_>) -> Result<Line, LineFaul
         image: name_of(alloc, arguments.first)?,
         schedule: name_of(alloc, arguments.second)?,
         script: name_of(alloc, arguments.third)?,
+        settings,
+    })
+}
+
+/// The line of a stream: an image and requests, with frames, a budget and workers.
+fn stream_line(alloc: Global, arguments: &Arguments<'_>) -> Result<Line, LineFault>
+    ensures accepted { IfOk result (λ line. spec.stream_of (arguments_in arguments.now)
+        ≡ Some (asked_by line)) }
+    ensures limits { IfOk result (λ line. IsWithinLimits (asked_by line)) }
+    ensures usage { result ≡ Err LineFault.Usage → spec.stream_of (arguments_in arguments.now) ≡ None }
+{
+    if arguments.third.is_some() {
+        return Err(LineFault::Usage);
+    }
+    let Some(settings) = serve_settings_of(arguments) else {
+        return Err(LineFault::Usage);
+    };
+    Ok(Line::Stream {
+        image: name_of(alloc, arguments.first)?,
+        requests: name_of(alloc, arguments.second)?,
         settings,
     })
 }

@@ -7,16 +7,15 @@ ghost use Rattle.lwcrun_core.specs.Views.{end_of};
 
 use crate::ending::{Ending, Rejection};
 use crate::status::ExitStatus;
-use crate::writing::write_whole;
 use lwc_base::OutOfMemory;
-use lwc_io::Sink;
+use lwc_io::{Sink, write_whole};
 use std::alloc::Global;
 
 /// The message of a line that is not accepted.
 const USAGE: &str =
     "lwcrun: usage: lwcrun replay IMAGE SCHEDULE [REQUESTS], run IMAGE, serve IMAGE REQUESTS, \
      asm SOURCE, dis IMAGE, gen NUMBER, lift IMAGE, monitor IMAGE SCHEDULE, vault IMAGE VAULT SCHEDULE, \
-     debug IMAGE SCHEDULE SCRIPT; \
+     debug IMAGE SCHEDULE SCRIPT, stream IMAGE REQUESTS; \
      --frames F --budget B --workers W\n";
 
 /// Writes the message of an ending and returns its exit status. If there is no memory for the message, the
@@ -36,7 +35,7 @@ pub fn write_message<E: Sink>(alloc: Global, err: &mut E, ending: &Ending) -> Ex
 }
 
 /// Writes nothing.
-#[tactic(auto, using(crate::proofs::Outputs::takes_none), unfolding(crate::specs::Statuses::message_of))]
+#[tactic(auto, using(lwc_io::proofs::Outputs::takes_none), unfolding(crate::specs::Statuses::message_of))]
 fn write_nothing<E: Sink>(err: &mut E) -> ExitStatus
     ensures { IsAnswered ends.Done result (E.seen err.old) (E.seen err.new) }
 {

@@ -1,7 +1,7 @@
-use Rattle.std.proofs.Common.{◌≡◌, ◌≤◌, ◌*◌, ◌∙◌, IfOk, List, [], ℕ, length, refl, subst, arith}
+use Rattle.std.proofs.Common.{◌≡◌, ◌≤◌, ◌*◌, ◌∙◌, IfOk, List, [], ℕ, length, map, refl, subst, arith}
 use Rattle.std.proofs.Math.Nat.{mul-le-mul_left, mul-le-mul_right}
 use Rattle.lwc_base.specs.declared.limits.TheConstants.{MOST_BUDGET, MOST_IMAGE_BYTES, MOST_THREADS}
-use Rattle.lwcrun_core.specs.Headline.{IsText, inputs_of, run_plan}
+use Rattle.lwcrun_core.specs.Headline.{HaveVisited, IsText, inputs_of, run_plan}
 use Rattle.lwcrun_core.specs.Headline as works
 use Rattle.lwcrun_core.specs.Plans as plans
 use Rattle.guest_image.specs.declared.image.Image.{Image}
@@ -26,9 +26,10 @@ history_text-requires-clause-leave g c κs within =
 pub returns-in-Ok-clause-ended : goal.returns-in-Ok-clause-ended
 unfolding run_plan
 returns-in-Ok-clause-ended g c =
+    let visits = g.G.Gate.visits in
     let none : c.of-requests.result ≡ [] = c.of-requests.ensures ∙ c.new.ensures.items in
-    let text = subst (λ (r : List (List ℕ)). IfOk c.history_text.result (λ text. IsText (works.Running (inputs_of c.in-Ok.image r c.args.settings.now)) text.items)) none c.history_text.ensures in
-    reads_on IsText _ _ _ _ _ _ _ _ _ _ _ c.in-Ok.ensures.reads c.fitting_image_in.ensures.same (c.write_work.ensures (works.Running (inputs_of c.in-Ok.image [] c.args.settings.now)) _ text)
+    let text = subst (λ (r : List (List ℕ)). IfOk c.history_text.result (λ text. HaveVisited (map visits c.args.logs.now.items) (map visits c.history_text.new.logs.items) (works.Running (inputs_of c.in-Ok.image r c.args.settings.now)) text.items)) none c.history_text.ensures in
+    reads_on (HaveVisited _ _) _ _ _ _ _ _ _ _ _ _ _ c.in-Ok.ensures.reads c.fitting_image_in.ensures.same (c.write_work.ensures.visits _ _ (works.Running (inputs_of c.in-Ok.image [] c.args.settings.now)) _ text)
 
 pub returns-in-Ok-clause-fetches : goal.returns-in-Ok-clause-fetches
 unfolding run_plan
@@ -37,7 +38,7 @@ returns-in-Ok-clause-fetches g c =
 
 pub returns-in-Err-clause-ended : goal.returns-in-Err-clause-ended
 unfolding run_plan
-returns-in-Err-clause-ended g c = stops_reading IsText _ _ _ _ _ _ c.in-Err.ensures.reads refl
+returns-in-Err-clause-ended g c = stops_reading (HaveVisited _ _) _ _ _ _ _ _ c.in-Err.ensures.reads refl
 
 pub returns-in-Err-clause-fetches : goal.returns-in-Err-clause-fetches
 unfolding run_plan

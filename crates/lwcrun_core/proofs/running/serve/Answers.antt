@@ -1,6 +1,6 @@
 use Rattle.std.proofs.Common.{refl}
 use Rattle.lwc_base.specs.declared.limits.TheConstants.{MOST_IMAGE_BYTES}
-use Rattle.lwcrun_core.specs.Headline.{IsText, after_server, serve_plan}
+use Rattle.lwcrun_core.specs.Headline.{HaveVisited, IsText, after_server, serve_plan}
 use Rattle.lwcrun_core.proofs.Follows.{comes_on, fetches_on, fetches_stop, reads_on, stops_reading}
 use Rattle.lwcrun_core.proofs.running.serve.Goals as goal
 
@@ -11,7 +11,7 @@ serve_image-requires-clause-leave g c κs within comes = c.requires.leave (comes
 pub returns-in-Ok-clause-ended : goal.returns-in-Ok-clause-ended
 unfolding serve_plan
 returns-in-Ok-clause-ended g c =
-    reads_on IsText _ _ _ _ _ _ _ _ _ _ _ c.in-Ok.ensures.reads c.fitting_image_in.ensures.same c.serve_image.ensures.ended
+    reads_on (HaveVisited _ _) _ _ _ _ _ _ _ _ _ _ _ c.in-Ok.ensures.reads c.fitting_image_in.ensures.same c.serve_image.ensures.ended
 
 pub returns-in-Ok-clause-fetches : goal.returns-in-Ok-clause-fetches
 unfolding serve_plan
@@ -20,7 +20,7 @@ returns-in-Ok-clause-fetches g c =
 
 pub returns-in-Err-clause-ended : goal.returns-in-Err-clause-ended
 unfolding serve_plan
-returns-in-Err-clause-ended g c = stops_reading IsText _ _ _ _ _ _ c.in-Err.ensures.reads refl
+returns-in-Err-clause-ended g c = stops_reading (HaveVisited _ _) _ _ _ _ _ _ c.in-Err.ensures.reads refl
 
 pub returns-in-Err-clause-fetches : goal.returns-in-Err-clause-fetches
 unfolding serve_plan

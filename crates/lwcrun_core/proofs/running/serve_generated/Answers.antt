@@ -4,4 +4,4 @@ use Rattle.lwcrun_core.proofs.running.serve_generated.Goals as goal
 
 pub returns : goal.returns
 unfolding gen_plan
-returns g c files = c.write_work.ensures (works.Generating c.args.number) files c.summary_text.ensures
+returns g c files = c.write_work.ensures.visits _ _ (works.Generating c.args.number) files c.summary_text.ensures

@@ -1,6 +1,6 @@
 use Rattle.std.proofs.Common.{◌≡◌, ℕ, List, refl, ap, arith}
 use Rattle.lwc_base.specs.declared.limits.TheConstants.{MOST_REQUEST_FILE_BYTES}
-use Rattle.lwcrun_core.specs.Headline.{IsText, after_server, inputs_of}
+use Rattle.lwcrun_core.specs.Headline.{HaveVisited, IsText, after_server, inputs_of}
 use Rattle.lwcrun_core.specs.Headline as works
 use Rattle.lwcrun_core.specs.Plans as plans
 use Rattle.lwcrun_core.specs.Images.{worker_count}
@@ -23,7 +23,7 @@ history_text-requires-clause-leave g c κs within =
 pub returns-in-Ok-clause-ended : goal.returns-in-Ok-clause-ended
 unfolding after_server
 returns-in-Ok-clause-ended g c =
-    reads_on IsText _ _ _ _ _ _ _ _ _ _ _ c.in-Ok.ensures.reads c.bounded_requests_in.ensures.same (c.write_work.ensures _ _ c.history_text.ensures)
+    reads_on (HaveVisited _ _) _ _ _ _ _ _ _ _ _ _ _ c.in-Ok.ensures.reads c.bounded_requests_in.ensures.same (c.write_work.ensures.visits _ _ _ _ c.history_text.ensures)
 
 pub returns-in-Ok-clause-fetches : goal.returns-in-Ok-clause-fetches
 unfolding after_server
@@ -32,7 +32,7 @@ returns-in-Ok-clause-fetches g c =
 
 pub returns-in-Err-clause-ended : goal.returns-in-Err-clause-ended
 unfolding after_server
-returns-in-Err-clause-ended g c = stops_reading IsText _ _ _ _ _ _ c.in-Err.ensures.reads refl
+returns-in-Err-clause-ended g c = stops_reading (HaveVisited _ _) _ _ _ _ _ _ c.in-Err.ensures.reads refl
 
 pub returns-in-Err-clause-fetches : goal.returns-in-Err-clause-fetches
 unfolding after_server
