@@ -2,6 +2,7 @@
 #![tactic(auto)]
 
 use crate::progress::{ClearingSink, Progress};
+use lwc_base::MOST_THREADS;
 use lwc_io::{RealFiles, RealSink, Sink};
 use lwcrun_core::{ExitStatus, lwcrun};
 use std::alloc::Global;
@@ -9,6 +10,7 @@ use std::env;
 use std::io::{self, ErrorKind};
 use std::process::ExitCode;
 use std::rt::Env;
+use thread_carrier::VisitLog;
 
 mod progress;
 #[cfg(test)]
@@ -32,8 +34,9 @@ fn main(rt: HostRuntime) -> ExitCode {
     let mut out = ClearingSink::new(&progress, RealSink::new(rt.stdout()));
     let mut err = ClearingSink::new(&progress, RealSink::new(rt.stderr()));
     let mut files = RealFiles::new(rt);
-    let status = match words_or_none(rt.alloc(), words(&rt)) {
-        Ok(words) => lwcrun(
+    let logs = VisitLog::for_threads(rt.alloc(), MOST_THREADS as usize);
+    let status = match (words_or_none(rt.alloc(), words(&rt)), logs) {
+        (Ok(words), Ok(mut logs)) => lwcrun(
             &rt,
             rt.alloc(),
             words.as_slice(),
@@ -41,8 +44,9 @@ fn main(rt: HostRuntime) -> ExitCode {
             &mut out,
             &mut err,
             &progress,
+            &mut logs,
         ),
-        Err(_) => {
+        _ => {
             let _ = err.write(b"lwcrun: no memory\n");
             ExitStatus::NoMemory
         }

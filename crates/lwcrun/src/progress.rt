@@ -2,12 +2,15 @@
 
 ghost use Rattle.std.specs.Prelude.{◌≡◌};
 
-use lwc_io::{Failed, Gate, Sink};
+use lwc_io::{Failed, Sink};
+use process_core::ProcessPass;
 use std::io::IsTerminal;
 use std::marker::Model;
 use std::sync::Wait;
 use std::sync::atomic::{AtomicBool, AtomicU64, Ordering};
 use std::time::Instant;
+use thread_carrier::{Gate, VisitLog};
+use world_face::World;
 
 /// How many turns are made from one look at the clock to the next.
 const TURNS_A_LOOK: u64 = 256;
@@ -90,17 +93,37 @@ impl Progress {
 }
 
 impl Gate for Progress {
+    type Log = VisitLog;
+
     ghost leave = { λ _. Unit {0} };
 
+    ghost visits = { λ log. log.visits };
+
     /// Returns at once.
-    fn before<R: Wait>(&self, _rt: &R, _thread: u32, _turn: u64) {
+    fn before<R: Wait, W: World>(
+        &self,
+        _rt: &R,
+        log: &mut VisitLog,
+        _pass: &ProcessPass<W>,
+        thread: u32,
+        turn: u64,
+    ) {
+        log.note_turn(thread, turn);
         if let Some(start) = self.start {
             self.count_turn(start);
         }
     }
 
     /// Returns at once.
-    fn finished<R: Wait>(&self, _rt: &R, _thread: u32, _request: u16) {
+    fn finished<R: Wait, W: World>(
+        &self,
+        _rt: &R,
+        log: &mut VisitLog,
+        _pass: &ProcessPass<W>,
+        thread: u32,
+        request: u16,
+    ) {
+        log.note_request(thread, request);
         if self.start.is_some() {
             self.requests.fetch_add(1, Ordering::SeqCst);
         }

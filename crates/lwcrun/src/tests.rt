@@ -10,13 +10,15 @@ mod stepping;
 mod vaults;
 
 use crate::words_or_none;
-use lwc_io::{Gate, MemoryFiles, MemorySink, NamedFile, OpenGate};
+use lwc_base::MOST_THREADS;
+use lwc_io::{MemoryFiles, MemorySink, NamedFile};
 use lwcrun_core::{ExitStatus, lwcrun};
 use std::alloc::{AllocError, Global};
 use std::io::{Error, ErrorKind};
 use std::sync::Wait;
 use std::test::Fail;
 use std::thread::Threads;
+use thread_carrier::{Gate, OpenGate, VisitLog};
 
 /// `LI r1, 7` / `STW r1, r0, 0` / `LDW r2, r0, 0` / `HALT`.
 pub const STORE_LOAD: [u64; 4] = [
@@ -129,7 +131,7 @@ pub fn call<R: AllocGlobal + Threads + Wait + Sync>(
 }
 
 /// Calls the program on the words after its name, over files by their names, and with a gate.
-pub fn call_over<R: AllocGlobal + Threads + Wait + Sync, G: Gate>(
+pub fn call_over<R: AllocGlobal + Threads + Wait + Sync, G: Gate<Log = VisitLog>>(
     rt: &R,
     files: &[(&str, &[u8])],
     words: &[&str],
@@ -147,6 +149,7 @@ pub fn call_over<R: AllocGlobal + Threads + Wait + Sync, G: Gate>(
     let mut files = MemoryFiles::new(alloc, named, vec![in alloc; outside.fetch]?)?;
     let mut out = MemorySink::new(alloc, outside.most, vec![in alloc; outside.write]?);
     let mut err = MemorySink::new(alloc, 1 << 20, Vec::new(alloc));
+    let mut logs = VisitLog::for_threads(alloc, MOST_THREADS as usize)?;
     let status = lwcrun(
         rt,
         alloc,
@@ -155,6 +158,7 @@ pub fn call_over<R: AllocGlobal + Threads + Wait + Sync, G: Gate>(
         &mut out,
         &mut err,
         gate,
+        &mut logs,
     );
     Ok(Left { status, out, err })
 }
@@ -181,7 +185,7 @@ pub const STORED: &str =
 pub const USAGE: &str =
     "lwcrun: usage: lwcrun replay IMAGE SCHEDULE [REQUESTS], run IMAGE, serve IMAGE REQUESTS, asm SOURCE, \
     dis IMAGE, gen NUMBER, lift IMAGE, monitor IMAGE SCHEDULE, vault IMAGE VAULT SCHEDULE, \
-    debug IMAGE SCHEDULE SCRIPT; --frames F --budget B --workers W\n";
+    debug IMAGE SCHEDULE SCRIPT, stream IMAGE REQUESTS; --frames F --budget B --workers W\n";
 
 #[test]
 fn guests_run_as_their_schedules_say(rt: HostRuntime) -> Result<(), Fail> {

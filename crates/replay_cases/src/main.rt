@@ -12,12 +12,14 @@ mod over_copies;
 
 use crate::case::{Case, take_line};
 use crate::over_copies::text_over_copies;
-use lwc_io::{MemoryFiles, MemorySink, NamedFile, OpenGate};
+use lwc_base::MOST_THREADS;
+use lwc_io::{MemoryFiles, MemorySink, NamedFile};
 use lwcrun_core::lwcrun;
 use std::alloc::{AllocError, Global};
 use std::io;
 use std::sync::Wait;
 use std::thread::Threads;
+use thread_carrier::{OpenGate, VisitLog};
 
 /// The longest line that is printed whole.
 const WHOLE_LINE: usize = 400;
@@ -46,6 +48,7 @@ fn written<R: AllocGlobal + Threads + Wait + Sync>(
     let mut files = MemoryFiles::new(alloc, named, Vec::new(alloc))?;
     let mut out = MemorySink::new(alloc, 1 << 20, Vec::new(alloc));
     let mut err = MemorySink::new(alloc, 1 << 20, Vec::new(alloc));
+    let mut logs = VisitLog::for_threads(alloc, MOST_THREADS as usize)?;
     lwcrun(
         rt,
         alloc,
@@ -54,6 +57,7 @@ fn written<R: AllocGlobal + Threads + Wait + Sync>(
         &mut out,
         &mut err,
         &OpenGate,
+        &mut logs,
     );
     if err.bytes().is_empty() {
         Vec::from_slice(alloc, out.bytes())

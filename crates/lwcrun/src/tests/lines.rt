@@ -116,6 +116,16 @@ fn lines_are_accepted_with_their_options_anywhere(rt: HostRuntime) -> Result<(),
             "ReadFault",
             "lwcrun: cannot read requests\n",
         ),
+        (
+            "stream guest schedule --workers 2",
+            "InputRefused",
+            "lwcrun: input refused: OddLength at 3\n",
+        ),
+        (
+            "stream guest requests",
+            "ReadFault",
+            "lwcrun: cannot read requests\n",
+        ),
     ];
     for (line, status, said) in cases {
         let left = call_line(&rt, &guest, line)?;
@@ -181,6 +191,9 @@ fn other_lines_are_answered_by_the_usage(rt: HostRuntime) -> Result<(), Fail> {
         "serve guest",
         "serve guest schedule --frames 65537",
         "serve guest schedule --workers 0",
+        "stream guest",
+        "stream guest schedule none",
+        "stream guest schedule --workers 17",
         "gen",
         "gen 0",
         "gen 101",

@@ -3,10 +3,12 @@
 use guest_asm::assemble;
 use guest_image::write_image;
 use kernel_core::{Job, Settings};
-use lwc_io::{MemoryFiles, MemorySink, NamedFile, OpenGate, SureFiles};
+use lwc_base::MOST_THREADS;
+use lwc_io::{MemoryFiles, MemorySink, NamedFile, SureFiles};
 use lwcrun_core::{Ending, ExitStatus, lwcrun_in_memory, replay};
 use std::alloc::Global;
 use std::test::Fail;
+use thread_carrier::{OpenGate, VisitLog};
 
 /// Replays in a function that has no handle of the runtime: without one no thread starts, and nobody waits.
 fn without_runtime(alloc: Global, files: &mut MemoryFiles, out: &mut MemorySink) -> bool {
@@ -48,6 +50,7 @@ fn files_that_never_fail_are_run(rt: HostRuntime) -> Result<(), Fail> {
     for word in ["lwcrun", "replay", "guest", "schedule"] {
         words.push(String::from_str(alloc, word)?)?;
     }
+    let mut logs = VisitLog::for_threads(alloc, MOST_THREADS as usize)?;
     let status = lwcrun_in_memory(
         &rt,
         alloc,
@@ -55,6 +58,7 @@ fn files_that_never_fail_are_run(rt: HostRuntime) -> Result<(), Fail> {
         &mut files,
         &mut err,
         &OpenGate,
+        &mut logs,
     );
     assert_eq!(rt; status, ExitStatus::Ok);
     Ok(())

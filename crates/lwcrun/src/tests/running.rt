@@ -1,17 +1,19 @@
-//! The modes that start threads: runs, serves, and a serve that is generated.
+//! The modes that start threads: runs, serves, a serve that is generated, and streams.
 
-use crate::tests::{Left, REPLAY, SURE, TWO_THREADS, ZEROS, call, call_over, image};
+use crate::tests::{Left, Outside, REPLAY, SURE, TWO_THREADS, ZEROS, call, call_over, image};
 use guest_asm::assemble;
 use guest_image::write_image;
 use lwc_gen::HANDLER;
-use lwc_io::{Gate, OpenGate};
 use lwcrun_core::ExitStatus;
+use process_core::ProcessPass;
 use std::alloc::{AllocError, Global};
 use std::hint::spin_loop;
 use std::sync::Wait;
-use std::sync::atomic::{AtomicBool, AtomicU64, Ordering};
+use std::sync::atomic::{AtomicBool, Ordering};
 use std::test::Fail;
 use std::thread::Threads;
+use thread_carrier::{Gate, OpenGate, VisitLog};
+use world_face::World;
 
 /// Reads one byte, which has to be 0, raises a counter in its page, and replies with it.
 const COUNTER_HANDLER: &str = ".entry 0
@@ -44,6 +46,22 @@ reply 0 done 0 01
 reply 1 done 0 01
 reply 2 fault 2 -
 reply 3 done 0 01
+console -
+used 1
+peak 2
+steps 26
+schedule 00000000000000000000000000
+";
+
+/// The same lines, those of replies first, as a stream writes them.
+const FOUR_STREAMED: &str = "reply 0 done 0 01
+reply 1 done 0 01
+reply 2 fault 2 -
+reply 3 done 0 01
+thread 0 done 0 ctx 0.1 pc 0
+regs 0 0 0 0 0 0 0 0 0 0 0 0 0 0 0 0 0
+context 0.1 pages 1 slots 0 uid 0
+groups 0
 console -
 used 1
 peak 2
@@ -92,10 +110,22 @@ impl HoldingGate {
 }
 
 impl Gate for HoldingGate {
+    type Log = VisitLog;
+
     ghost leave = { λ _. Unit {0} };
 
+    ghost visits = { λ log. log.visits };
+
     /// Notes the second turn of the awaited thread, and holds the first turn of the other.
-    fn before<R: Wait>(&self, _rt: &R, thread: u32, turn: u64) {
+    fn before<R: Wait, W: World>(
+        &self,
+        _rt: &R,
+        log: &mut VisitLog,
+        _pass: &ProcessPass<W>,
+        thread: u32,
+        turn: u64,
+    ) {
+        log.note_turn(thread, turn);
         if thread == self.awaited && turn == 1 {
             self.came.store(true, Ordering::SeqCst);
         }
@@ -103,39 +133,17 @@ impl Gate for HoldingGate {
             self.look();
         }
     }
-}
-
-/// A gate at which nobody waits, which counts how often each of four requests was finished.
-#[derive(Drop)]
-struct CountingGate {
-    counts: [AtomicU64; 4],
-}
-
-impl CountingGate {
-    /// A gate that has seen no request.
-    fn new() -> CountingGate {
-        CountingGate {
-            counts: [
-                AtomicU64::new(0),
-                AtomicU64::new(0),
-                AtomicU64::new(0),
-                AtomicU64::new(0),
-            ],
-        }
-    }
-}
-
-impl Gate for CountingGate {
-    ghost leave = { λ _. Unit {0} };
 
     /// Returns at once.
-    fn before<R: Wait>(&self, _rt: &R, _thread: u32, _turn: u64) {}
-
-    /// Counts the request, and returns.
-    fn finished<R: Wait>(&self, _rt: &R, _thread: u32, request: u16) {
-        if let Some(count) = self.counts.get(usize::from(request)) {
-            count.fetch_add(1, Ordering::SeqCst);
-        }
+    fn finished<R: Wait, W: World>(
+        &self,
+        _rt: &R,
+        log: &mut VisitLog,
+        _pass: &ProcessPass<W>,
+        thread: u32,
+        request: u16,
+    ) {
+        log.note_request(thread, request);
     }
 }
 
@@ -146,7 +154,7 @@ fn assembled(alloc: Global, source: &str) -> Result<Vec<u8>, Fail> {
 }
 
 /// Calls the program on the words of a line, which blanks part, over the files `guest` and `requests`.
-fn call_line<R: AllocGlobal + Threads + Wait + Sync, G: Gate>(
+fn call_line<R: AllocGlobal + Threads + Wait + Sync, G: Gate<Log = VisitLog>>(
     rt: &R,
     guest: &[u8],
     requests: &str,
@@ -175,6 +183,39 @@ fn a_worker_serves_the_requests_in_order(rt: HostRuntime) -> Result<(), Fail> {
     let left = call_line(&rt, &guest, FOUR_REQUESTS, line, &OpenGate)?;
     assert_eq!(rt; left.status, ExitStatus::Ok);
     assert_eq!(rt; left.out.bytes(), FOUR_SERVED.as_bytes());
+    Ok(())
+}
+
+#[test]
+fn a_stream_has_its_replies_first(rt: HostRuntime) -> Result<(), Fail> {
+    let guest = assembled(rt.alloc(), COUNTER_HANDLER)?;
+    let line = "stream guest requests --workers 1";
+    let left = call_line(&rt, &guest, FOUR_REQUESTS, line, &OpenGate)?;
+    assert_eq!(rt; left.status, ExitStatus::Ok);
+    assert_eq!(rt; left.out.bytes(), FOUR_STREAMED.as_bytes());
+    Ok(())
+}
+
+#[test]
+fn a_stream_writes_nothing_after_a_write_that_fails(rt: HostRuntime) -> Result<(), Fail> {
+    let guest = assembled(rt.alloc(), COUNTER_HANDLER)?;
+    let files = [
+        ("guest", guest.as_slice()),
+        ("requests", FOUR_REQUESTS.as_bytes()),
+    ];
+    let words = ["stream", "guest", "requests", "--workers", "1"];
+    // Each reply is one write, of 18 bytes, and the other lines are the last one.
+    for write in 0..5u8 {
+        let outside = Outside {
+            write: u64::from(write),
+            ..SURE
+        };
+        let left = call_over(&rt, &files, &words, outside, &OpenGate)?;
+        let taken = FOUR_STREAMED.as_bytes().get(..18 * usize::from(write));
+        assert_eq!(rt; left.status, ExitStatus::WriteFault, "at write {write}");
+        assert_eq!(rt; Some(left.out.bytes()), taken, "at write {write}");
+        assert_eq!(rt; left.err.bytes(), b"lwcrun: cannot write\n".as_slice());
+    }
     Ok(())
 }
 
@@ -304,23 +345,6 @@ fn workers_serve_side_by_side(rt: HostRuntime) -> Result<(), Fail> {
 }
 
 #[test]
-fn a_gate_sees_each_request_finished_once(rt: HostRuntime) -> Result<(), Fail> {
-    let guest = assembled(rt.alloc(), COUNTER_HANDLER)?;
-    for line in [
-        "serve guest requests --workers 1",
-        "serve guest requests --workers 3",
-    ] {
-        let gate = CountingGate::new();
-        let left = call_line(&rt, &guest, FOUR_REQUESTS, line, &gate)?;
-        assert_eq!(rt; left.status, ExitStatus::Ok);
-        for count in &gate.counts {
-            assert_eq!(rt; count.load(Ordering::SeqCst), 1, "{line}");
-        }
-    }
-    Ok(())
-}
-
-#[test]
 fn request_files_are_refused_before_a_thread_starts(rt: HostRuntime) -> Result<(), Fail> {
     let alloc = rt.alloc();
     let guest = assembled(alloc, COUNTER_HANDLER)?;
@@ -342,6 +366,11 @@ fn request_files_are_refused_before_a_thread_starts(rt: HostRuntime) -> Result<(
         (
             lines.as_str(),
             "serve guest requests --budget 100000",
+            "lwcrun: input refused: TooMuchWork at 1024\n",
+        ),
+        (
+            lines.as_str(),
+            "stream guest requests --budget 100000",
             "lwcrun: input refused: TooMuchWork at 1024\n",
         ),
     ];

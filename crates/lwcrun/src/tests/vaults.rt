@@ -4,12 +4,12 @@
 use crate::tests::{Left, STORE_LOAD, SURE, ZEROS, append, call_over, image};
 use guest_asm::assemble;
 use guest_image::write_image;
-use lwc_io::OpenGate;
 use lwcrun_core::ExitStatus;
 use std::alloc::{AllocError, Global};
 use std::sync::Wait;
 use std::test::Fail;
 use std::thread::Threads;
+use thread_carrier::OpenGate;
 
 /// The bytes of a vault with this entry and pages of these numbers, each full of one byte.
 fn vault(alloc: Global, entry: u32, pages: &[u32], byte: u8) -> Result<Vec<u8>, AllocError> {
