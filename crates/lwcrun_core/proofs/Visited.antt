@@ -1,7 +1,7 @@
 -- What threads did at the gate, beside the text of their work.
 use Rattle.std.proofs.Common.{◌≡◌, ◌⊎◌, inl, inr, ℕ, List, None, Some, Option, sym, subst}
 use Rattle.lwcrun_core.specs.Calls.{CommandEnded, StreamEnded, VisitedBy}
-use Rattle.lwcrun_core.specs.Ends.{End, Ended, Outside}
+use Rattle.lwcrun_core.specs.Ends.{End, Ended, IsBeforeWork, Outside}
 use Rattle.lwcrun_core.specs.Ends as ends
 use Rattle.lwcrun_core.specs.Headline.{HaveVisited, IsText, Work, plan_of}
 use Rattle.lwcrun_core.specs.Headline as works
@@ -45,30 +45,31 @@ module _ (before after : List (List Visit)) where
   stream_visits o p e (inr h) = inr h.0
 
   -- what an end says of the visits, its exit status says
-  refused_by : (o : Outside) (command : Command) (refusal : Rejection) → VisitedBy before after o command (status_of_rejection refusal)
-  refused_by o command (rejections.Image rule at) = tt
-  refused_by o command (rejections.Source rule at) = tt
-  refused_by o command (rejections.Input rule at) = tt
-  refused_by o command (rejections.TooLarge pages frames) = tt
+  refused_by : (o : Outside) (command : Command) (refusal : Rejection) → after ≡ before → VisitedBy before after o command (status_of_rejection refusal)
+  refused_by o command (rejections.Image rule at) same = same
+  refused_by o command (rejections.Source rule at) same = same
+  refused_by o command (rejections.Input rule at) same = same
+  refused_by o command (rejections.TooLarge pages frames) same = same
 
-  by_answer : (o : Outside) (command : Command) (first e : End Rejection) → MayBeAnsweredAs first e → Ended (HaveVisited before after) o (plan_of command) first → VisitedBy before after o command (status_of e)
-  by_answer o command ends.Done e is h = subst (λ x. VisitedBy before after o command (status_of x)) (sym is) h
-  by_answer o command ends.NoMemory e is h = subst (λ x. VisitedBy before after o command (status_of x)) (sym is) tt
-  by_answer o command ends.Usage e is h = subst (λ x. VisitedBy before after o command (status_of x)) (sym is) tt
-  by_answer o command (ends.Unread name) e (inl is) h = subst (λ x. VisitedBy before after o command (status_of x)) (sym is) tt
-  by_answer o command (ends.Unread name) e (inr is) h = subst (λ x. VisitedBy before after o command (status_of x)) (sym is) tt
-  by_answer o command ends.Unwritten e is h = subst (λ x. VisitedBy before after o command (status_of x)) (sym is) h
-  by_answer o command (ends.Refused refusal) e (inl is) h = subst (λ x. VisitedBy before after o command (status_of x)) (sym is) (refused_by o command refusal)
-  by_answer o command (ends.Refused refusal) e (inr is) h = subst (λ x. VisitedBy before after o command (status_of x)) (sym is) tt
+  by_answer : (o : Outside) (command : Command) (first e : End Rejection) → MayBeAnsweredAs first e → (IsBeforeWork first → after ≡ before) → Ended (HaveVisited before after) o (plan_of command) first → VisitedBy before after o command (status_of e)
+  unfolding Ended
+  by_answer o command ends.Done e is same h = subst (λ x. VisitedBy before after o command (status_of x)) (sym is) h
+  by_answer o command ends.NoMemory e is same h = subst (λ x. VisitedBy before after o command (status_of x)) (sym is) tt
+  by_answer o command ends.Usage e is same h = absurd h
+  by_answer o command (ends.Unread name) e (inl is) same h = subst (λ x. VisitedBy before after o command (status_of x)) (sym is) (same tt)
+  by_answer o command (ends.Unread name) e (inr is) same h = subst (λ x. VisitedBy before after o command (status_of x)) (sym is) tt
+  by_answer o command ends.Unwritten e is same h = subst (λ x. VisitedBy before after o command (status_of x)) (sym is) h
+  by_answer o command (ends.Refused refusal) e (inl is) same h = subst (λ x. VisitedBy before after o command (status_of x)) (sym is) (refused_by o command refusal (same tt))
+  by_answer o command (ends.Refused refusal) e (inr is) same h = subst (λ x. VisitedBy before after o command (status_of x)) (sym is) tt
 
-  pub visited_by : (o : Outside) (command : Command) (first e : End Rejection) (status : ExitStatus) → MayBeAnsweredAs first e → Ended (HaveVisited before after) o (plan_of command) first ⊎ (first ≡ ends.NoMemory) → status ≡ status_of e →
+  pub visited_by : (o : Outside) (command : Command) (first e : End Rejection) (status : ExitStatus) → MayBeAnsweredAs first e → (IsBeforeWork first → after ≡ before) → Ended (HaveVisited before after) o (plan_of command) first ⊎ (first ≡ ends.NoMemory) → status ≡ status_of e →
       VisitedBy before after o command status
-  visited_by o command first e status as_it (inl h) is = subst (VisitedBy before after o command) (sym is) (by_answer o command first e as_it h)
-  visited_by o command first e status as_it (inr memory) is =
+  visited_by o command first e status as_it same (inl h) is = subst (VisitedBy before after o command) (sym is) (by_answer o command first e as_it same h)
+  visited_by o command first e status as_it same (inr memory) is =
       let P : End Rejection → Type 0 = λ x. MayBeAnsweredAs x e in
       let end : e ≡ ends.NoMemory = subst P memory as_it in
       subst (VisitedBy before after o command) (sym is) (subst (λ x. VisitedBy before after o command (status_of x)) (sym end) tt)
 
-  pub not_begun : {X : Type 0} (o : Outside) (command : Command) (e : End Rejection) (status : ExitStatus) → (e ≡ ends.NoMemory) ⊎ (X × (e ≡ ends.Usage)) → status ≡ status_of e → VisitedBy before after o command status
-  not_begun o command e status (inl end) is = subst (VisitedBy before after o command) (sym is) (subst (λ x. VisitedBy before after o command (status_of x)) (sym end) tt)
-  not_begun o command e status (inr end) is = subst (VisitedBy before after o command) (sym is) (subst (λ x. VisitedBy before after o command (status_of x)) (sym end.1) tt)
+  pub not_begun : {X : Type 0} (o : Outside) (command : Command) (e : End Rejection) (status : ExitStatus) → after ≡ before → (e ≡ ends.NoMemory) ⊎ (X × (e ≡ ends.Usage)) → status ≡ status_of e → VisitedBy before after o command status
+  not_begun o command e status same (inl end) is = subst (VisitedBy before after o command) (sym is) (subst (λ x. VisitedBy before after o command (status_of x)) (sym end) tt)
+  not_begun o command e status same (inr end) is = subst (VisitedBy before after o command) (sym is) (subst (λ x. VisitedBy before after o command (status_of x)) (sym end.1) same)

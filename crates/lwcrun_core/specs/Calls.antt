@@ -70,12 +70,14 @@ CallEnded o None e = ((e ≡ ends.Usage) ⊎ (e ≡ ends.NoMemory)) × IsUnwritt
 CallEnded o (Some command) e = CommandEnded o command e
 
 -- what the threads of a command did at the gate, by the exit status: where the text was written, or a part of it, the
--- logs have grown by the visits of the history that the text is of
+-- logs have grown by the visits of the history that the text is of; out of memory they may have any visits; else there
+-- were none
 abbrev pub VisitedBy : List (List Visit) → List (List Visit) → Outside → Command → ExitStatus → Type 0
 VisitedBy before after o command statuses.Ok = Ended (HaveVisited before after) o (plan_of command) ends.Done
 VisitedBy before after o command statuses.WriteFault =
     Ended (HaveVisited before after) o (plan_of command) ends.Unwritten
-VisitedBy before after o command status = Unit {0}
+VisitedBy before after o command statuses.NoMemory = Unit {0}
+VisitedBy before after o command status = after ≡ before
 
 -- the line asks for a stream, and its replies were written and nothing else
 abbrev pub WroteOnlyReplies : Outside → Option Command → Type 0

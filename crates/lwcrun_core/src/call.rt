@@ -6,7 +6,7 @@ ghost use Rattle.lwcrun_core.specs.Calls.{Answers, AreContents, CommandEnded, Fe
 ghost use Rattle.lwcrun_core.specs.Calls.{FileFailed, Headline, IsOrNoMemory, IsRejected, IsRunnable};
 ghost use Rattle.lwcrun_core.specs.Calls.{IsUndisturbed, VisitedBy, WroteOnlyReplies, status_by};
 ghost use Rattle.lwcrun_core.specs.Ends as ends;
-ghost use Rattle.lwcrun_core.specs.Ends.{Ended, IsUnwritten, NothingFailed, WriteFailed};
+ghost use Rattle.lwcrun_core.specs.Ends.{Ended, IsBeforeWork, IsUnwritten, NothingFailed, WriteFailed};
 ghost use Rattle.lwcrun_core.specs.Headline.{HaveVisited, plan_of};
 ghost use Rattle.lwcrun_core.specs.Lines.{Command, IsWithinLimits, RunsThreads, asked_by, command_of};
 ghost use Rattle.lwcrun_core.specs.Plans.{AreFetchesOf, ComesToWork, outcome};
@@ -76,7 +76,8 @@ pub fn lwcrun<R: Threads + Wait + Sync, F: Files, O: Sink, E: Sink, G: Gate>(
 
     // What the threads did at the gate, at status 0 and 4: the log of each has grown by a visit before each turn,
     // and one after each that finished a request, of the one history that the text is of, and by nothing else. So
-    // no other turns came to the gate. A line that runs no threads leaves the logs as they were.
+    // no other turns came to the gate. At another status than these and 1, and by a line that runs no threads, the
+    // logs are as they were.
     ensures visits { (command : Command) → command_of (map string_bytes words.now) ≡ Some command
         → RunsThreads command → VisitedBy (map G.visits logs.old.items) (map G.visits logs.new.items)
         (outside (F.seen files.old) (F.seen files.new) (O.seen out.old) (O.seen out.new)) command result }
@@ -203,6 +204,7 @@ fn carry_out<'a, R: Threads + Wait + Sync, F: Files, O: Sink, G: Gate>(
         (outside (F.seen files.old) (F.seen files.new) (O.seen out.old) (O.seen out.new))
         (plan_of (asked_by line.now)) (end_of result) ⊎ (end_of result ≡ ends.NoMemory) }
     ensures unvisited { (RunsThreads (asked_by line.now) → ⊥) → logs.new ≡ logs.old }
+    ensures early { IsBeforeWork (end_of result) → logs.new ≡ logs.old }
     ensures fetches { Fetched (AreFetchesOf (F.seen files.old).contents (plan_of (asked_by line.now)))
         (F.seen files.old).fetches (F.seen files.new).fetches }
 {

@@ -6,7 +6,7 @@ ghost use Rattle.kernel_core.specs.Kernel.{CanOpen, MayHave};
 ghost use Rattle.kernel_core.specs.Machine.{work};
 ghost use Rattle.kernel_core.specs.Settings.{IsSettings};
 ghost use Rattle.kernel_core.specs.Start.{start};
-ghost use Rattle.lwcrun_core.specs.Ends.{Ended};
+ghost use Rattle.lwcrun_core.specs.Ends.{Ended, IsBeforeWork};
 ghost use Rattle.lwc_io.specs.Outside.{FilesView};
 ghost use Rattle.lwcrun_core.specs.Headline.{HaveVisited, after_server, gen_plan, inputs_of, run_plan};
 ghost use Rattle.lwcrun_core.specs.Headline.{serve_plan};
@@ -53,6 +53,7 @@ pub fn run<'a, R: Threads + Wait + Sync, F: Files, O: Sink, G: Gate>(
     ensures ended { Ended (HaveVisited (map G.visits logs.old.items) (map G.visits logs.new.items))
         (outside (F.seen files.old) (F.seen files.new) (O.seen out.old) (O.seen out.new))
         (run_plan image.now settings.now) (end_of result) }
+    ensures unvisited { IsBeforeWork (end_of result) → logs.new ≡ logs.old }
     ensures fetches { Fetched (AreFetchesOf (F.seen files.old).contents (run_plan image.now settings.now))
         (F.seen files.old).fetches (F.seen files.new).fetches }
 {
@@ -87,6 +88,7 @@ pub fn serve<'a, R: Threads + Wait + Sync, F: Files, O: Sink, G: Gate>(
     ensures ended { Ended (HaveVisited (map G.visits logs.old.items) (map G.visits logs.new.items))
         (outside (F.seen files.old) (F.seen files.new) (O.seen out.old) (O.seen out.new))
         (serve_plan image.now requests.now settings.now) (end_of result) }
+    ensures unvisited { IsBeforeWork (end_of result) → logs.new ≡ logs.old }
     ensures fetches { Fetched
         (AreFetchesOf (F.seen files.old).contents (serve_plan image.now requests.now settings.now))
         (F.seen files.old).fetches (F.seen files.new).fetches }
@@ -120,6 +122,7 @@ fn serve_image<'a, R: Threads + Wait + Sync, F: Files, O: Sink, G: Gate>(
     ensures ended { Ended (HaveVisited (map G.visits logs.old.items) (map G.visits logs.new.items))
         (outside (F.seen files.old) (F.seen files.new) (O.seen out.old) (O.seen out.new))
         (after_server requests.now settings.now image.now) (end_of result) }
+    ensures unvisited { IsBeforeWork (end_of result) → logs.new ≡ logs.old }
     ensures fetches { Fetched
         (AreFetchesOf (F.seen files.old).contents (after_server requests.now settings.now image.now))
         (F.seen files.old).fetches (F.seen files.new).fetches }
@@ -145,9 +148,10 @@ pub fn serve_generated<'a, R: Threads + Wait + Sync, O: Sink, G: Gate>(
     requires number { (1 ≤ number) × (number ≤ 100) }
     requires leave { G.leave gate.now }
     requires logs { MOST_THREADS ≤ length logs.old.items }
-    ensures { (files : FilesView) →
+    ensures ended { (files : FilesView) →
         Ended (HaveVisited (map G.visits logs.old.items) (map G.visits logs.new.items))
         (outside files files (O.seen out.old) (O.seen out.new)) (gen_plan number) (end_of result) }
+    ensures begun { IsBeforeWork (end_of result) → ⊥ }
 {
     write_work(out, summary_text(rt, alloc, gate, logs, number))
 }

@@ -10,6 +10,7 @@ ghost use Rattle.lwc_io.specs.Outside.{FilesView};
 ghost use Rattle.lwc_stream.specs.Replies.{IsWritten};
 ghost use Rattle.lwc_text.specs.Report.{replies_text};
 ghost use Rattle.lwcrun_core.specs.Calls.{StreamEnded};
+ghost use Rattle.lwcrun_core.specs.Ends.{IsBeforeWork};
 ghost use Rattle.lwcrun_core.specs.Headline as works;
 ghost use Rattle.lwcrun_core.specs.Headline.{after_streamer, inputs_of, stream_plan};
 ghost use Rattle.lwcrun_core.specs.Lines.{AreServeSettings};
@@ -56,6 +57,7 @@ pub fn stream<'a, R: Threads + Wait + Sync, F: Files, O: Sink, G: Gate>(
     ensures ended { StreamEnded (map G.visits logs.old.items) (map G.visits logs.new.items)
         (outside (F.seen files.old) (F.seen files.new) (O.seen out.old) (O.seen out.new))
         (stream_plan image.now requests.now settings.now) (end_of result) }
+    ensures unvisited { IsBeforeWork (end_of result) → logs.new ≡ logs.old }
     ensures fetches { Fetched
         (AreFetchesOf (F.seen files.old).contents (stream_plan image.now requests.now settings.now))
         (F.seen files.old).fetches (F.seen files.new).fetches }
@@ -89,6 +91,7 @@ fn stream_image<'a, R: Threads + Wait + Sync, F: Files, O: Sink, G: Gate>(
     ensures ended { StreamEnded (map G.visits logs.old.items) (map G.visits logs.new.items)
         (outside (F.seen files.old) (F.seen files.new) (O.seen out.old) (O.seen out.new))
         (after_streamer requests.now settings.now image.now) (end_of result) }
+    ensures unvisited { IsBeforeWork (end_of result) → logs.new ≡ logs.old }
     ensures fetches { Fetched
         (AreFetchesOf (F.seen files.old).contents (after_streamer requests.now settings.now image.now))
         (F.seen files.old).fetches (F.seen files.new).fetches }
@@ -115,9 +118,10 @@ fn stream_requests<'a, R: Threads + Wait + Sync, O: Sink, G: Gate>(
     requires few { work (start (inputs_of image.now requests settings.now)) ≤ MOST_STEPS }
     requires leave { G.leave gate.now }
     requires logs { MOST_THREADS ≤ length logs.old.items }
-    ensures { (files : FilesView) → StreamEnded (map G.visits logs.old.items) (map G.visits logs.new.items)
+    ensures ended { (files : FilesView) → StreamEnded (map G.visits logs.old.items) (map G.visits logs.new.items)
         (outside files files (O.seen out.old) (O.seen out.new))
         (plans.Write (works.Streaming (inputs_of image.now requests settings.now))) (end_of result) }
+    ensures begun { IsBeforeWork (end_of result) → ⊥ }
 {
     let count = requests.len() as u32;
     match open_process(alloc, image, requests, settings) {
@@ -145,9 +149,10 @@ fn stream_process<'a, R: Threads + Wait + Sync, W: World, O: Sink, G: Gate>(
     requires all { AreAllOf process passes.items }
     requires new { (i : ℕ) (p : Carried) → slice_get passes.items i ≡ Some p → IsNewPass process i p }
     requires logs { length passes.items ≤ length logs.old.items }
-    ensures { (files : FilesView) → StreamEnded (map G.visits logs.old.items) (map G.visits logs.new.items)
+    ensures ended { (files : FilesView) → StreamEnded (map G.visits logs.old.items) (map G.visits logs.new.items)
         (outside files files (O.seen out.old) (O.seen out.new))
         (plans.Write (works.Streaming process.name)) (end_of result) }
+    ensures begun { IsBeforeWork (end_of result) → ⊥ }
 {
     let Ok((kernel, failed)) = stream_replies(rt, alloc, out, gate, logs, process, passes, requests)
     else {

@@ -1,6 +1,6 @@
 ghost use Rattle.std.specs.Prelude.{List, IfOk};
 ghost use Rattle.lwc_io.specs.Outside.{FilesView};
-ghost use Rattle.lwcrun_core.specs.Ends.{Ended};
+ghost use Rattle.lwcrun_core.specs.Ends.{Ended, IsBeforeWork};
 ghost use Rattle.lwcrun_core.specs.Headline.{HaveVisited, IsText, Work};
 ghost use Rattle.lwcrun_core.specs.Plans as plans;
 ghost use Rattle.lwcrun_core.specs.Views.{end_of, outside};
@@ -19,6 +19,7 @@ pub fn write_work<'a, O: Sink>(out: &mut O, text: Result<Vec<u8>, OutOfMemory>) 
         → IfOk text (λ bytes. HaveVisited before after work bytes.items)
         → Ended (HaveVisited before after) (outside files files (O.seen out.old) (O.seen out.new))
         (plans.Write work) (end_of result) }
+    ensures begun { IsBeforeWork (end_of result) → ⊥ }
 {
     match text {
         Ok(text) => match write_whole(out, text.as_slice()) {

@@ -44,10 +44,10 @@ pub returns-in-Serve-clause-unvisited : goal.returns-in-Serve-clause-unvisited
 returns-in-Serve-clause-unvisited g c quiet = absurd (quiet (subst (λ (l : Line). RunsThreads (asked_by l)) (sym c.in-Serve.is) tt))
 
 pub returns-in-Gen-clause-ended : goal.returns-in-Gen-clause-ended
-returns-in-Gen-clause-ended g c = rw c.in-Gen.is (inl (by_text _ _ _ _ _ (c.serve_generated.ensures _)))
+returns-in-Gen-clause-ended g c = rw c.in-Gen.is (inl (by_text _ _ _ _ _ (c.serve_generated.ensures.ended _)))
 
 pub returns-in-Gen-clause-visits : goal.returns-in-Gen-clause-visits
-returns-in-Gen-clause-visits g c runs = rw c.in-Gen.is (inl (c.serve_generated.ensures _))
+returns-in-Gen-clause-visits g c runs = rw c.in-Gen.is (inl (c.serve_generated.ensures.ended _))
 
 pub returns-in-Gen-clause-unvisited : goal.returns-in-Gen-clause-unvisited
 returns-in-Gen-clause-unvisited g c quiet = absurd (quiet (subst (λ (l : Line). RunsThreads (asked_by l)) (sym c.in-Gen.is) tt))

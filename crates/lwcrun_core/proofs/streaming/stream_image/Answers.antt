@@ -24,7 +24,7 @@ stream_requests-requires-clause-leave g c κs within =
 pub returns-in-Ok-clause-ended : goal.returns-in-Ok-clause-ended
 unfolding after_streamer
 returns-in-Ok-clause-ended g c =
-    streams_on _ _ _ _ _ _ _ _ _ _ _ _ _ c.in-Ok.ensures.reads c.bounded_requests_in.ensures.same (c.stream_requests.ensures _)
+    streams_on _ _ _ _ _ _ _ _ _ _ _ _ _ c.in-Ok.ensures.reads c.bounded_requests_in.ensures.same (c.stream_requests.ensures.ended _)
 
 pub returns-in-Ok-clause-fetches : goal.returns-in-Ok-clause-fetches
 unfolding after_streamer

@@ -8,13 +8,13 @@ use Rattle.lwcrun_core.proofs.Streams.{stream_cut, stream_done}
 use Rattle.lwcrun_core.specs.Ends.{Ended}
 use Rattle.lwcrun_core.proofs.streaming.stream_process.Goals as goal
 
-pub returns-in_default : goal.returns-in_default
+pub returns-in_default-clause-ended : goal.returns-in_default-clause-ended
 unfolding Ended
-returns-in_default g c files = inl c.in_default.ensures.unwritten
+returns-in_default-clause-ended g c files = inl c.in_default.ensures.unwritten
 
-pub returns-then-failed : goal.returns-then-failed
+pub returns-then-failed-clause-ended : goal.returns-then-failed-clause-ended
 unfolding stream_text
-returns-then-failed g c files =
+returns-then-failed-clause-ended g c files =
     let inputs = c.args.process.name in
     let steps = c.in-Ok.kernel.steps in
     let seen = g.O.Sink.seen in
@@ -22,9 +22,9 @@ returns-then-failed g c files =
     let cut = subst (λ b. IsWritten b (seen c.args.out.now) (seen c.stream_replies.new.out) (stream_text inputs steps)) c.if-failed.true part in
     stream_cut files _ _ inputs steps c.in-Ok.ensures.complete _ _ c.in-Ok.ensures.visits cut
 
-pub returns-in-Ok-write_whole : goal.returns-in-Ok-write_whole
+pub returns-in-Ok-write_whole-clause-ended : goal.returns-in-Ok-write_whole-clause-ended
 unfolding stream_text
-returns-in-Ok-write_whole g c files =
+returns-in-Ok-write_whole-clause-ended g c files =
     let inputs = c.args.process.name in
     let steps = c.in-Ok.kernel.steps in
     let seen = g.O.Sink.seen in
@@ -36,9 +36,9 @@ returns-in-Ok-write_whole g c files =
     let whole = subst (λ r. IsWritten (is_err r) (seen c.args.out.now) (seen c.write_whole.new.out) (stream_text inputs steps)) c.in-Ok-write_whole.is text in
     stream_done files _ _ inputs steps c.in-Ok.ensures.complete _ _ c.in-Ok.ensures.visits whole
 
-pub returns : goal.returns
+pub returns-clause-ended : goal.returns-clause-ended
 unfolding stream_text
-returns g c files =
+returns-clause-ended g c files =
     let inputs = c.args.process.name in
     let steps = c.in-Ok.kernel.steps in
     let seen = g.O.Sink.seen in
