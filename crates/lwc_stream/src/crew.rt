@@ -10,10 +10,10 @@ use crate::desk::Desk;
 use crate::news::News;
 use crate::queue::ReplyQueue;
 use crate::worker::{Worker, serve};
-use lwc_base::MOST_THREADS;
 use lwc_io::Sink;
 use process_core::Process;
 use snapshot_host::Finished;
+use std::alloc::Global;
 use std::snapshot::Snapshot;
 use std::sync::Wait;
 use std::thread;
@@ -24,8 +24,9 @@ use world_face::World;
 /// Carries all threads to their ends, each in a thread of the host's own where one can be made. It may wait.
 fn serve_all<R: Threads + Wait + Sync, W: World, G: Gate>(
     rt: &R,
+    alloc: Global,
     process: &Process<W>,
-    queues: &[ReplyQueue<Finished>],
+    queues: &[ReplyQueue],
     news: &News,
     gate: &G,
     mut workers: Vec<Worker<W, G::Log>>,
@@ -33,12 +34,13 @@ fn serve_all<R: Threads + Wait + Sync, W: World, G: Gate>(
     requires leave { G.leave gate.now }
     requires fresh { All (λ w. IsFresh process.now w.pass w.puts) workers.items }
     requires queues { map (λ w. w.puts.queue) workers.items ≡ queues.now }
-    ensures { HaveServed (λ w. w.pass) (λ w. w.puts) (λ w. G.visits w.log) process.now workers.items result.items }
+    ensures { HaveServed (λ w. w.pass) (λ w. w.puts) (λ w. G.visits w.log)
+        process.now workers.items result.items }
 {
     thread::for_each_mut(
         rt,
         workers.as_mut_slice(),
-        MOST_THREADS as usize,
+        news.threads(),
         &|i: usize, worker: &mut Worker<W, G::Log>|
             requires { G.leave gate.now × IsFresh process.now worker.now.pass worker.now.puts
                 × (slice_get queues.now i ≡ Some worker.now.puts.queue) }
@@ -51,7 +53,7 @@ fn serve_all<R: Threads + Wait + Sync, W: World, G: Gate>(
             let Some(queue) = queues.get(i) else {
                 unreachable!();
             };
-            serve(rt, process, queue, news, gate, worker);
+            serve(rt, alloc, process, queue, news, gate, worker);
             news.end();
         },
     );
@@ -80,13 +82,7 @@ trait Beside {
 
     ghost gives: { Self → Self.Output → Type 0 };
 
-    fn go<R: Wait>(
-        self,
-        rt: &R,
-        queues: &[ReplyQueue<Finished>],
-        news: &News,
-        workers: usize,
-    ) -> Self::Output
+    fn go<R: Wait>(self, rt: &R, queues: &[ReplyQueue], news: &News, workers: usize) -> Self::Output
         requires { can_go self queues.now }
         ensures { gives self result };
 }
@@ -107,13 +103,15 @@ impl<'a, O: Sink> Beside for Counter<'a, O> {
         × (map (λ e. e.queue) r.1.takes.items ≡ map (λ e. e.queue) c.desk.takes.items)
         × (length r.1.waiting.places ≡ length c.desk.waiting.places)
         × ((before : SinkView) →
-        HasShown (map (λ e. e.values) c.desk.takes.items) c.desk.waiting c.desk.writer before (O.seen c.out.now) →
-        HasShown (map (λ e. e.values) r.1.takes.items) r.1.waiting r.1.writer before (O.seen r.0.now)) };
+        HasShown (map (λ e. e.values) c.desk.takes.items)
+        c.desk.waiting c.desk.writer before (O.seen c.out.now) →
+        HasShown (map (λ e. e.values) r.1.takes.items)
+        r.1.waiting r.1.writer before (O.seen r.0.now)) };
 
     fn go<R: Wait>(
         self,
         rt: &R,
-        queues: &[ReplyQueue<Finished>],
+        queues: &[ReplyQueue],
         news: &News,
         workers: usize,
     ) -> (&'a mut O, Desk) {
@@ -125,7 +123,7 @@ impl<'a, O: Sink> Beside for Counter<'a, O> {
 }
 
 /// Starts the workers in threads of a scope, and goes on beside them. Where they cannot be started, the caller
-/// does their work first.
+/// does their work first, and gives up the reserve, which has memory for the replies that they finish.
 fn go_in<
     's,
     E,
@@ -137,18 +135,21 @@ fn go_in<
 >(
     scope: &Scope<'s, E>,
     rt: &'s R,
+    alloc: Global,
     process: &'s Process<W>,
-    queues: &'s [ReplyQueue<Finished>],
+    queues: &'s [ReplyQueue],
     news: &'s News,
     gate: &'s G,
     caller: S,
     workers: Vec<Worker<W, G::Log>>,
+    reserve: Vec<Finished>,
 ) -> (Vec<Worker<W, G::Log>>, A)
     requires leave { G.leave gate.now }
     requires fresh { All (λ w. IsFresh process.now w.pass w.puts) workers.items }
     requires queues { map (λ w. w.puts.queue) workers.items ≡ queues.now }
     requires can { S.can_go caller queues.now }
-    ensures served { HaveServed (λ w. w.pass) (λ w. w.puts) (λ w. G.visits w.log) process.now workers.items result.0.items }
+    ensures served { HaveServed (λ w. w.pass) (λ w. w.puts) (λ w. G.visits w.log)
+        process.now workers.items result.0.items }
     ensures gives { S.gives caller result.1 }
 {
     let count = workers.len();
@@ -162,8 +163,9 @@ fn go_in<
             requires { G.leave gate.now
                 × All (λ w. IsFresh process.now w.pass w.puts) workers.items
                 × (map (λ w. w.puts.queue) workers.items ≡ queues.now) }
-            ensures { HaveServed (λ w. w.pass) (λ w. w.puts) (λ w. G.visits w.log) process.entry.now workers.items result.items }
-        { serve_all(rt, process, queues, news, gate, workers) },
+            ensures { HaveServed (λ w. w.pass) (λ w. w.puts) (λ w. G.visits w.log)
+                process.entry.now workers.items result.items }
+        { serve_all(rt, alloc, process, queues, news, gate, workers) },
     );
     match started {
         Ok(handle) => {
@@ -171,6 +173,9 @@ fn go_in<
             (handle.join(rt), given)
         }
         Err(refused) => {
+            // Nobody writes a reply meanwhile, so no memory comes back; threads would take what is given up here.
+            news.go_alone();
+            drop(reserve);
             let workers = (refused.value)();
             let given = caller.go(rt, queues, news, count);
             (workers, given)
@@ -181,17 +186,20 @@ fn go_in<
 /// Carries all threads to their ends beside the caller.
 fn go_beside<R: Threads + Wait + Sync, W: World, G: Gate, S: Beside<Output = A> + Drop, A>(
     rt: &R,
+    alloc: Global,
     process: &Process<W>,
-    queues: &[ReplyQueue<Finished>],
+    queues: &[ReplyQueue],
     gate: &G,
     caller: S,
     workers: Vec<Worker<W, G::Log>>,
+    reserve: Vec<Finished>,
 ) -> (Vec<Worker<W, G::Log>>, A)
     requires leave { G.leave gate.now }
     requires fresh { All (λ w. IsFresh process.now w.pass w.puts) workers.items }
     requires queues { map (λ w. w.puts.queue) workers.items ≡ queues.now }
     requires can { S.can_go caller queues.now }
-    ensures served { HaveServed (λ w. w.pass) (λ w. w.puts) (λ w. G.visits w.log) process.now workers.items result.0.items }
+    ensures served { HaveServed (λ w. w.pass) (λ w. w.puts) (λ w. G.visits w.log)
+        process.now workers.items result.0.items }
     ensures gives { S.gives caller result.1 }
 {
     let news = News::new();
@@ -204,9 +212,14 @@ fn go_beside<R: Threads + Wait + Sync, W: World, G: Gate, S: Beside<Output = A> 
                 × All (λ w. IsFresh process.now w.pass w.puts) workers.items
                 × (map (λ w. w.puts.queue) workers.items ≡ queues.now)
                 × S.can_go caller queues.now }
-            ensures { HaveServed (λ w. w.pass) (λ w. w.puts) (λ w. G.visits w.log) process.entry.now workers.items result.0.items
+            ensures { HaveServed (λ w. w.pass) (λ w. w.puts) (λ w. G.visits w.log)
+                process.entry.now workers.items result.0.items
                 × S.gives caller result.1 }
-        { go_in(scope, rt, process, queues, news, gate, caller, workers) },
+        {
+            go_in(
+                scope, rt, alloc, process, queues, news, gate, caller, workers, reserve,
+            )
+        },
     )
 }
 
@@ -218,26 +231,33 @@ fn take_back<T>(x: &mut T)
 /// Carries all threads to their ends, and shows replies to the sink meanwhile. It may wait.
 pub(crate) fn serve_beside<R: Threads + Wait + Sync, W: World, G: Gate, O: Sink>(
     rt: &R,
+    alloc: Global,
     process: &Process<W>,
-    queues: &[ReplyQueue<Finished>],
+    queues: &[ReplyQueue],
     gate: &G,
     out: &mut O,
     desk: Desk,
     workers: Vec<Worker<W, G::Log>>,
+    reserve: Vec<Finished>,
 ) -> (Vec<Worker<W, G::Log>>, Desk)
     requires leave { G.leave gate.now }
     requires fresh { All (λ w. IsFresh process.now w.pass w.puts) workers.items }
     requires queues { map (λ w. w.puts.queue) workers.items ≡ queues.now }
     requires takes { map (λ e. e.queue) desk.takes.items ≡ queues.now }
-    ensures served { HaveServed (λ w. w.pass) (λ w. w.puts) (λ w. G.visits w.log) process.now workers.items result.0.items }
+    ensures served { HaveServed (λ w. w.pass) (λ w. w.puts) (λ w. G.visits w.log)
+        process.now workers.items result.0.items }
     ensures queues { map (λ e. e.queue) result.1.takes.items ≡ queues.now }
     ensures places { length result.1.waiting.places ≡ length desk.waiting.places }
     ensures shown { (before : SinkView) →
-        HasShown (map (λ e. e.values) desk.takes.items) desk.waiting desk.writer before (O.seen out.old) →
-        HasShown (map (λ e. e.values) result.1.takes.items) result.1.waiting result.1.writer before (O.seen out.new) }
+        HasShown (map (λ e. e.values) desk.takes.items)
+        desk.waiting desk.writer before (O.seen out.old) →
+        HasShown (map (λ e. e.values) result.1.takes.items)
+        result.1.waiting result.1.writer before (O.seen out.new) }
 {
     let caller = Counter { out, desk };
-    let (workers, (out, desk)) = go_beside(rt, process, queues, gate, caller, workers);
+    let (workers, (out, desk)) = go_beside(
+        rt, alloc, process, queues, gate, caller, workers, reserve,
+    );
     take_back(out);
     (workers, desk)
 }

@@ -6,17 +6,17 @@ ghost use Rattle.snapshot_host.specs.declared.finishing.Finished.{Finished};
 
 use crate::ends::{Puts, Takes};
 use crate::news::News;
+use crate::packed::PackedReply;
 use crate::queue::ReplyQueue;
 use crate::waiting::Waiting;
 use crate::writer::LineWriter;
 use lwc_io::Sink;
-use snapshot_host::Finished;
 use std::sync::Wait;
 
 /// The ends of queues from which replies are taken, those that wait, and what writes their lines.
 #[derive(Drop)]
 pub(crate) struct Desk {
-    pub(crate) takes: Vec<Takes<Finished>>,
+    pub(crate) takes: Vec<Takes<PackedReply>>,
     pub(crate) waiting: Waiting,
     pub(crate) writer: LineWriter,
 }
@@ -26,7 +26,7 @@ impl Desk {
     pub(crate) fn follow<R: Wait, O: Sink>(
         &mut self,
         rt: &R,
-        queues: &[ReplyQueue<Finished>],
+        queues: &[ReplyQueue],
         news: &News,
         workers: usize,
         out: &mut O,
@@ -34,15 +34,17 @@ impl Desk {
         requires queues { map (λ e. e.queue) self.old.takes.items ≡ queues.now }
         ensures queues { map (λ e. e.queue) self.new.takes.items ≡ queues.now }
         ensures shown { (before : SinkView) →
-            HasShown (map (λ e. e.values) self.old.takes.items) self.old.waiting self.old.writer before (O.seen out.old) →
-            HasShown (map (λ e. e.values) self.new.takes.items) self.new.waiting self.new.writer before (O.seen out.new) }
+            HasShown (map (λ e. e.values) self.old.takes.items)
+            self.old.waiting self.old.writer before (O.seen out.old) →
+            HasShown (map (λ e. e.values) self.new.takes.items)
+            self.new.waiting self.new.writer before (O.seen out.new) }
         ensures places { length self.new.waiting.places ≡ length self.old.waiting.places }
     {
         'rounds: for _ in rt.forever() {
             let heard = news.calls();
             let over = news.have_ended(workers);
             let found = self.take_round(queues);
-            show_ready(&mut self.waiting, &mut self.writer, out);
+            show_ready(rt, queues, &mut self.waiting, &mut self.writer, out);
             if over && !found {
                 return;
             }
@@ -54,7 +56,7 @@ impl Desk {
     }
 
     /// Takes a reply from each queue in which one is found, and says whether one was. It waits for nobody.
-    fn take_round(&mut self, queues: &[ReplyQueue<Finished>]) -> bool
+    fn take_round(&mut self, queues: &[ReplyQueue]) -> bool
         requires queues { map (λ e. e.queue) self.old.takes.items ≡ queues.now }
         ensures queues { map (λ e. e.queue) self.new.takes.items ≡ queues.now }
         ensures shown { (failed : Bool) (before now : SinkView) →
@@ -77,11 +79,7 @@ impl Desk {
 }
 
 /// Takes a reply that is found in a queue, lets it wait, and says whether one was found. It waits for nobody.
-fn take_one(
-    queue: &ReplyQueue<Finished>,
-    takes: &mut Takes<Finished>,
-    waiting: &mut Waiting,
-) -> bool
+fn take_one(queue: &ReplyQueue, takes: &mut Takes<PackedReply>, waiting: &mut Waiting) -> bool
     requires queue { takes.old.queue ≡ queue.now }
     ensures queue { takes.new.queue ≡ takes.old.queue }
     ensures shown { (place : ℕ) (lists : List (List Finished)) →
@@ -97,8 +95,14 @@ fn take_one(
     true
 }
 
-/// Shows the replies that come next and are there. It takes no memory.
-pub(crate) fn show_ready<O: Sink>(waiting: &mut Waiting, writer: &mut LineWriter, out: &mut O)
+/// Shows the replies that come next and are there, and gives the queues back what is theirs. It takes no memory.
+pub(crate) fn show_ready<R: Wait, O: Sink>(
+    rt: &R,
+    queues: &[ReplyQueue],
+    waiting: &mut Waiting,
+    writer: &mut LineWriter,
+    out: &mut O,
+)
     ensures next { at waiting.new.places waiting.new.next ≡ None }
     ensures shown { (taken : List (List Finished)) (before : SinkView) →
         HasShown taken waiting.old writer.old before (O.seen out.old) →
@@ -106,16 +110,24 @@ pub(crate) fn show_ready<O: Sink>(waiting: &mut Waiting, writer: &mut LineWriter
     ensures places { length waiting.new.places ≡ length waiting.old.places }
 {
     'ready: while let Some(reply) = waiting.next() {
-        writer.write(out, &reply);
+        writer.write(out, &reply.unpack());
+        give_back(rt, queues, reply);
+    }
+}
+
+/// Gives the memory of a reply that was written back to its queue, if that is among these.
+fn give_back<R: Wait>(rt: &R, queues: &[ReplyQueue], written: PackedReply) {
+    if let Some(queue) = queues.get(written.queue()) {
+        queue.keep(rt, written);
     }
 }
 
 /// Takes all replies that are left in a queue into which no more are put. Then all that were put are taken.
 pub(crate) fn take_rest<R: Wait>(
     rt: &R,
-    queue: &ReplyQueue<Finished>,
-    puts: Puts<Finished>,
-    takes: Takes<Finished>,
+    queue: &ReplyQueue,
+    puts: Puts<PackedReply>,
+    takes: Takes<PackedReply>,
     waiting: &mut Waiting,
 )
     requires puts { puts.queue ≡ queue.now }

@@ -10,6 +10,7 @@ mod desk;
 mod ends;
 pub mod laws;
 mod news;
+mod packed;
 mod queue;
 mod streaming;
 mod waiting;

@@ -1,13 +1,23 @@
 //! How workers tell the caller that there is something to take.
 
-use std::sync::Wait;
-use std::sync::atomic::{AtomicU64, Ordering};
+ghost use Rattle.std.specs.Prelude.{◌<◌};
 
-/// How often the caller was called, and how many workers have ended. No clause reads either.
+use lwc_base::MOST_THREADS;
+use std::hint::spin_loop;
+use std::sync::Wait;
+use std::sync::atomic::{AtomicBool, AtomicU64, Ordering};
+
+/// How often the caller looks for news before it sleeps. To sleep and to be woken costs more than these looks.
+const LOOKS: u32 = 1000;
+
+/// How often the caller was called, how many workers have ended, whether the caller sleeps, and whether it is itself at
+/// the workers' work. No clause reads them.
 #[derive(Drop)]
 pub(crate) struct News {
     calls: AtomicU64,
     ended: AtomicU64,
+    asleep: AtomicBool,
+    alone: AtomicBool,
 }
 
 impl News {
@@ -16,19 +26,39 @@ impl News {
         News {
             calls: AtomicU64::new(0),
             ended: AtomicU64::new(0),
+            asleep: AtomicBool::new(false),
+            alone: AtomicBool::new(false),
         }
     }
 
-    /// Calls the caller, since there is a reply to take.
+    /// Calls the caller, since there is a reply to take, and wakes it if it sleeps.
     pub(crate) fn call(&self) {
         self.calls.fetch_add(1, Ordering::SeqCst);
-        self.calls.wake_one();
+        if self.asleep.load(Ordering::SeqCst) {
+            self.calls.wake_one();
+        }
     }
 
     /// Notes that a worker has ended, and calls the caller.
     pub(crate) fn end(&self) {
         self.ended.fetch_add(1, Ordering::SeqCst);
         self.call();
+    }
+
+    /// Notes that the caller does the workers' work itself.
+    pub(crate) fn go_alone(&self) {
+        self.alone.store(true, Ordering::SeqCst);
+    }
+
+    /// The most threads that may be started for workers: none but the caller's own where it is alone.
+    pub(crate) fn threads(&self) -> usize
+        ensures { 0 < result }
+    {
+        if self.alone.load(Ordering::SeqCst) {
+            1
+        } else {
+            MOST_THREADS as usize
+        }
     }
 
     /// The low 32 bits of the number of calls so far.
@@ -41,8 +71,17 @@ impl News {
         self.ended.load(Ordering::SeqCst) >= workers as u64
     }
 
-    /// Sleeps until a call comes after those that were heard.
+    /// Waits until a call comes after those that were heard: it looks for one a while, and then sleeps.
     pub(crate) fn wait<R: Wait>(&self, rt: &R, heard: u32) {
+        for _ in 0..LOOKS {
+            if self.calls() != heard {
+                return;
+            }
+            spin_loop();
+        }
+        // A worker that does not see this flag has raised the number before, and then `park` returns at once.
+        self.asleep.store(true, Ordering::SeqCst);
         self.calls.park(rt, heard);
+        self.asleep.store(false, Ordering::SeqCst);
     }
 }

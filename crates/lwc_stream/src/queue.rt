@@ -1,20 +1,26 @@
-//! The queue as its callers see it.
+//! The queue of a worker as its callers see it.
 ghost use Rattle.std.specs.Prelude.{◌≡◌, ◌<◌, ◌++◌, ◌∷◌, [], IfOk, IsNone, IfSome, MatchOption};
 ghost use Rattle.lwc_stream.specs.Queues.{end_of, joined_of};
 
 use crate::ends::{Apart, Both, Put, Puts, Ring, Taken, Takes};
-use std::alloc::{AllocError, Global};
+use crate::packed::PackedReply;
+use crossbeam_queue::ArrayQueue;
+use lwc_base::OutOfMemory;
+use snapshot_host::Finished;
+use std::alloc::Global;
 use std::marker::Model;
 use std::sync::Wait;
 use std::thread;
 
-/// A queue. Contracts see it as which one it is.
+/// A queue, and memory for a reply where there is no other. Contracts see it as which queue it is.
 #[derive(Drop)]
-pub struct ReplyQueue<T> {
-    ring: Ring<T>,
+pub(crate) struct ReplyQueue {
+    ring: Ring<PackedReply>,
+    spare: ArrayQueue<PackedReply>,
+    number: usize,
 }
 
-impl<T> Model for ReplyQueue<T> {
+impl Model for ReplyQueue {
     ghost use Rattle.atomic_table.specs.Seated.{TableId};
 
     ghost Value = { TableId };
@@ -22,27 +28,60 @@ impl<T> Model for ReplyQueue<T> {
     ghost view = { λ q. q.ring.table.shared.table_id };
 }
 
-impl<T> ReplyQueue<T> {
-    /// An empty queue with room for this number of values, and its two ends.
-    pub fn open(
+impl ReplyQueue {
+    /// An empty queue of a number, with room for so many replies, and its two ends. It has memory for one reply aside, so
+    /// that a reply can be on its way however little memory is left later. The only error is out of memory.
+    pub(crate) fn open(
         alloc: Global,
         room: usize,
-    ) -> Result<(ReplyQueue<T>, Puts<T>, Takes<T>), AllocError>
+        number: usize,
+    ) -> Result<(ReplyQueue, Puts<PackedReply>, Takes<PackedReply>), OutOfMemory>
         requires { 0 < room }
         ensures puts { IfOk result (λ q. q.1 ≡ end_of q.0 []) }
         ensures takes { IfOk result (λ q. q.2 ≡ end_of q.0 []) }
     {
         let (ring, mut pass) = Ring::ruled(alloc, room)?;
         let taking = ring.another::<Apart>(&mut pass);
-        Ok((ReplyQueue { ring }, Puts { pass }, Takes { pass: taking }))
+        let mut spare = ArrayQueue::new(alloc, 1)?;
+        let _ = spare.push_mut(PackedReply::spare(alloc, number)?);
+        let queue = ReplyQueue {
+            ring,
+            spare,
+            number,
+        };
+        Ok((queue, Puts { pass }, Takes { pass: taking }))
     }
 
-    /// Puts a value in. It waits while the queue is full.
-    pub fn put<R: Wait>(&self, rt: &R, end: &mut Puts<T>, value: T)
-        requires ours { end.old.queue ≡ self.now }
-        ensures { end.new ≡ end_of self.now (end.old.values ++ value ∷ []) }
+    /// A copy of a reply, in new memory. Where there is none, it goes into what the queue has aside, and this waits until
+    /// that is back.
+    pub(crate) fn pack<R: Wait>(&self, rt: &R, alloc: Global, reply: &Finished) -> PackedReply
+        ensures { result ≡ reply.now }
     {
-        let mut left = value;
+        for _ in rt.forever() {
+            if let Ok(copy) = PackedReply::copy_of(alloc, reply, self.number) {
+                return copy;
+            }
+            if let Some(Ok(copy)) = self.spare.pop(rt).map(|spare| spare.refill(reply)) {
+                return copy;
+            }
+            thread::yield_now();
+        }
+        unreachable!()
+    }
+
+    /// Takes the queue's own memory back, if a reply that was written is in it.
+    pub(crate) fn keep<R: Wait>(&self, rt: &R, written: PackedReply) {
+        if written.is_spare() {
+            let _ = self.spare.push(rt, written);
+        }
+    }
+
+    /// Puts a reply in. It waits while the queue is full.
+    pub(crate) fn put<R: Wait>(&self, rt: &R, end: &mut Puts<PackedReply>, reply: PackedReply)
+        requires ours { end.old.queue ≡ self.now }
+        ensures { end.new ≡ end_of self.now (end.old.values ++ reply ∷ []) }
+    {
+        let mut left = reply;
         for _ in rt.forever() {
             match self.ring.try_push_as::<Put>(&mut end.pass, left) {
                 Ok(()) => return,
@@ -53,8 +92,8 @@ impl<T> ReplyQueue<T> {
         unreachable!()
     }
 
-    /// Takes the value that was put in first, if one is found.
-    pub fn take(&self, end: &mut Takes<T>) -> Option<T>
+    /// Takes the reply that was put in first, if one is found.
+    pub(crate) fn take(&self, end: &mut Takes<PackedReply>) -> Option<PackedReply>
         requires ours { end.old.queue ≡ self.now }
         ensures { MatchOption result (end.new ≡ end.old)
             (λ x. end.new ≡ end_of self.now (end.old.values ++ x ∷ [])) }
@@ -63,7 +102,11 @@ impl<T> ReplyQueue<T> {
     }
 
     /// Both ends in one hand.
-    pub fn join(&self, puts: Puts<T>, takes: Takes<T>) -> Both<T>
+    pub(crate) fn join(
+        &self,
+        puts: Puts<PackedReply>,
+        takes: Takes<PackedReply>,
+    ) -> Both<PackedReply>
         requires puts { puts.queue ≡ self.now }
         requires takes { takes.queue ≡ self.now }
         ensures { result ≡ joined_of self.now puts.values takes.values }
@@ -75,10 +118,15 @@ impl<T> ReplyQueue<T> {
         Both { pass }
     }
 
-    /// Takes the value that was put in first. With none left, all that was put in was taken, in order.
-    pub fn take_rest<R: Wait>(&self, rt: &R, ends: &mut Both<T>) -> Option<T>
+    /// Takes the reply that was put in first. With none left, all that was put in was taken, in order.
+    pub(crate) fn take_rest<R: Wait>(
+        &self,
+        rt: &R,
+        ends: &mut Both<PackedReply>,
+    ) -> Option<PackedReply>
         requires ours { ends.old.queue ≡ self.now }
-        ensures some { IfSome result (λ x. ends.new ≡ joined_of self.now ends.old.put (ends.old.taken ++ x ∷ [])) }
+        ensures some { IfSome result (λ x.
+            ends.new ≡ joined_of self.now ends.old.put (ends.old.taken ++ x ∷ [])) }
         ensures none { IsNone result → (ends.new ≡ ends.old) × (ends.old.put ≡ ends.old.taken) }
     {
         self.ring.pop_as::<Taken, R>(rt, &mut ends.pass)

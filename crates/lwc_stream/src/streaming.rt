@@ -12,6 +12,7 @@ ghost use Rattle.thread_carrier.specs.Growth.{grown};
 use crate::crew::serve_beside;
 use crate::desk::{Desk, show_ready, take_rest};
 use crate::ends::{Puts, Takes};
+use crate::packed::PackedReply;
 use crate::queue::ReplyQueue;
 use crate::waiting::Waiting;
 use crate::worker::Worker;
@@ -19,7 +20,6 @@ use crate::writer::LineWriter;
 use lwc_base::OutOfMemory;
 use lwc_io::Sink;
 use process_core::{Process, ProcessPasses};
-use snapshot_host::Finished;
 use std::alloc::Global;
 use std::sync::Wait;
 use std::thread::Threads;
@@ -40,6 +40,8 @@ pub struct Streamed<W: World> {
 /// Each thread is carried by a worker of its own where one can be started, and comes to the gate before each
 /// turn, and tells it of each request that it finished: the log at the place of its pass grows by these visits.
 /// Further logs stay as they are. A line may be written while workers go on: no clause says so, tests show it.
+/// A reply takes memory when it is finished. A worker that gets none uses what its queue has aside for one reply, and
+/// waits while that is in use.
 ///
 /// # Errors
 ///
@@ -76,13 +78,24 @@ pub fn stream_all<R: Threads + Wait + Sync, W: World, G: Gate, O: Sink>(
     let writer = LineWriter::open(alloc)?;
     let room = (requests as usize).max(1);
     let (queues, puts, takes) = open_queues(alloc, passes.len(), room)?;
+    let reserve = Vec::with_capacity(alloc, room)?;
     let workers = hire(alloc, passes, puts, logs)?;
     let desk = Desk {
         takes,
         waiting,
         writer,
     };
-    let (workers, desk) = serve_beside(rt, process, queues.as_slice(), gate, out, desk, workers);
+    let (workers, desk) = serve_beside(
+        rt,
+        alloc,
+        process,
+        queues.as_slice(),
+        gate,
+        out,
+        desk,
+        workers,
+        reserve,
+    );
     Ok(finish(rt, queues, workers, desk, taken, logs, out))
 }
 
@@ -93,9 +106,9 @@ fn open_queues(
     room: usize,
 ) -> Result<
     (
-        Vec<ReplyQueue<Finished>>,
-        Vec<Puts<Finished>>,
-        Vec<Takes<Finished>>,
+        Vec<ReplyQueue>,
+        Vec<Puts<PackedReply>>,
+        Vec<Takes<PackedReply>>,
     ),
     OutOfMemory,
 >
@@ -109,8 +122,8 @@ fn open_queues(
     let mut queues = Vec::new(alloc);
     let mut puts = Vec::new(alloc);
     let mut takes = Vec::new(alloc);
-    'queues: for _ in 0..count {
-        let (queue, putting, taking) = ReplyQueue::open(alloc, room)?;
+    'queues: for number in 0..count {
+        let (queue, putting, taking) = ReplyQueue::open(alloc, room, number)?;
         queues.push(queue)?;
         puts.push(putting)?;
         takes.push(taking)?;
@@ -123,7 +136,7 @@ fn open_queues(
 fn hire<W: World, L: Drop>(
     alloc: Global,
     mut passes: ProcessPasses<W>,
-    mut ends: Vec<Puts<Finished>>,
+    mut ends: Vec<Puts<PackedReply>>,
     logs: &mut Vec<L>,
 ) -> Result<Vec<Worker<W, L>>, OutOfMemory>
     requires ends { length ends.items ≡ length passes.items }
@@ -148,7 +161,7 @@ fn hire<W: World, L: Drop>(
 /// Takes and shows what is left when all workers have ended.
 fn finish<R: Wait, W: World, L: Drop, O: Sink>(
     rt: &R,
-    queues: Vec<ReplyQueue<Finished>>,
+    queues: Vec<ReplyQueue>,
     workers: Vec<Worker<W, L>>,
     desk: Desk,
     taken: ProcessPasses<W>,
@@ -176,7 +189,7 @@ fn finish<R: Wait, W: World, L: Drop, O: Sink>(
     let mut waiting = waiting;
     let mut writer = writer;
     let passes = take_left(rt, queues, workers, takes, &mut waiting, taken, logs);
-    show_ready(&mut waiting, &mut writer, out);
+    show_ready(rt, &[], &mut waiting, &mut writer, out);
     let failed = writer.has_failed();
     Streamed { failed, passes }
 }
@@ -185,9 +198,9 @@ fn finish<R: Wait, W: World, L: Drop, O: Sink>(
 /// before the others again.
 fn take_left<R: Wait, W: World, L: Drop>(
     rt: &R,
-    mut queues: Vec<ReplyQueue<Finished>>,
+    mut queues: Vec<ReplyQueue>,
     mut workers: Vec<Worker<W, L>>,
-    mut ends: Vec<Takes<Finished>>,
+    mut ends: Vec<Takes<PackedReply>>,
     waiting: &mut Waiting,
     mut taken: ProcessPasses<W>,
     logs: &mut Vec<L>,

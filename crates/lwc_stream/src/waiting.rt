@@ -2,15 +2,15 @@
 ghost use Rattle.std.specs.Prelude.{◌≡◌, ◌+◌, ◌<◌, None, Some, IfOk, MatchOption, length, replicate, slice_set};
 ghost use Rattle.lwc_stream.specs.Streams.{at};
 
+use crate::packed::PackedReply;
 use lwc_base::OutOfMemory;
-use snapshot_host::Finished;
 use std::alloc::Global;
 use std::marker::Model;
 
 /// A place for the reply of each request, and the request whose reply comes next.
 #[derive(Drop)]
 pub(crate) struct Waiting {
-    places: Vec<Option<Finished>>,
+    places: Vec<Option<PackedReply>>,
     next: usize,
 }
 
@@ -39,18 +39,18 @@ impl Waiting {
     }
 
     /// A reply waits at its request's place, if there is one.
-    pub(crate) fn put(&mut self, reply: Finished)
+    pub(crate) fn put(&mut self, reply: PackedReply)
         ensures places { self.new.places ≡ slice_set self.old.places reply.request (Some reply) }
         ensures next { self.new.next ≡ self.old.next }
     {
-        let place = usize::from(reply.request);
+        let place = usize::from(reply.request());
         if place < self.places.len() {
             self.places[place] = Some(reply);
         }
     }
 
     /// The reply of the next request, if it is there.
-    pub(crate) fn next(&mut self) -> Option<Finished>
+    pub(crate) fn next(&mut self) -> Option<PackedReply>
         ensures { MatchOption result ((self.new ≡ self.old) × (at self.old.places self.old.next ≡ None))
             (λ x. (at self.old.places self.old.next ≡ Some x) × (self.old.next < length self.old.places)
             × (self.new.places ≡ slice_set self.old.places self.old.next None)

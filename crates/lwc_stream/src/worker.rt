@@ -8,9 +8,10 @@ ghost use Rattle.thread_carrier.specs.Visits.{told};
 
 use crate::ends::Puts;
 use crate::news::News;
+use crate::packed::PackedReply;
 use crate::queue::ReplyQueue;
 use process_core::{Process, ProcessPass};
-use snapshot_host::Finished;
+use std::alloc::Global;
 use std::sync::Wait;
 use thread_carrier::Gate;
 use world_face::World;
@@ -19,7 +20,7 @@ use world_face::World;
 #[derive(Drop)]
 pub(crate) struct Worker<W: World, L> {
     pub(crate) pass: ProcessPass<W>,
-    pub(crate) puts: Puts<Finished>,
+    pub(crate) puts: Puts<PackedReply>,
     pub(crate) log: L,
 }
 
@@ -27,8 +28,9 @@ pub(crate) struct Worker<W: World, L> {
 /// into the queue and the caller is called, and then the worker tells the gate of it. It may wait.
 pub(crate) fn serve<R: Wait, W: World, G: Gate>(
     rt: &R,
+    alloc: Global,
     process: &Process<W>,
-    queue: &ReplyQueue<Finished>,
+    queue: &ReplyQueue,
     news: &News,
     gate: &G,
     worker: &mut Worker<W, G::Log>,
@@ -49,6 +51,7 @@ pub(crate) fn serve<R: Wait, W: World, G: Gate>(
         process.make_turn(rt, &mut worker.pass, None);
         hand_on(
             rt,
+            alloc,
             queue,
             news,
             gate,
@@ -63,11 +66,12 @@ pub(crate) fn serve<R: Wait, W: World, G: Gate>(
 /// Puts the reply that the last turn finished into the queue, if it did, and then tells the gate of it.
 fn hand_on<R: Wait, W: World, G: Gate>(
     rt: &R,
-    queue: &ReplyQueue<Finished>,
+    alloc: Global,
+    queue: &ReplyQueue,
     news: &News,
     gate: &G,
     pass: &ProcessPass<W>,
-    puts: &mut Puts<Finished>,
+    puts: &mut Puts<PackedReply>,
     log: &mut G::Log,
 )
     requires leave { G.leave gate.now }
@@ -77,7 +81,8 @@ fn hand_on<R: Wait, W: World, G: Gate>(
         ≡ G.visits log.old ++ told pass.now.held.number pass.now.last.finished }
 {
     if let Some(finished) = &pass.last().finished {
-        queue.put(rt, puts, finished.same());
+        let reply = queue.pack(rt, alloc, finished);
+        queue.put(rt, puts, reply);
         news.call();
         gate.finished(rt, log, pass, pass.thread(), finished.request);
     }

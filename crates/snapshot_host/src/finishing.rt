@@ -24,16 +24,25 @@ impl Model for ReplyBytes {
 }
 
 impl ReplyBytes {
-    /// The same bytes. It takes no memory.
-    fn of(bytes: &[u8]) -> ReplyBytes
+    /// These bytes, which are copied. It takes no memory.
+    pub fn of(bytes: &[u8]) -> ReplyBytes
         requires { length bytes.now ≤ MOST_REPLY_BYTES }
         ensures { result ≡ bytes.now }
     {
-        let mut copy = ArrayVec::new();
-        'bytes: for byte in bytes {
-            copy.push(*byte);
-        }
-        ReplyBytes { bytes: copy }
+        let mut copy = ReplyBytes {
+            bytes: ArrayVec::new(),
+        };
+        copy.set(bytes);
+        copy
+    }
+
+    /// Puts these bytes, which are copied, in the place of those that were there. It takes no memory.
+    fn set(&mut self, bytes: &[u8])
+        requires { length bytes.now ≤ MOST_REPLY_BYTES }
+        ensures { self.new ≡ bytes.now }
+    {
+        self.bytes.clear();
+        let _ = self.bytes.try_extend_from_slice(bytes);
     }
 
     /// The bytes, in order.
@@ -64,6 +73,15 @@ impl Finished {
             bytes: ReplyBytes::of(self.bytes.as_slice()),
         }
     }
+
+    /// Makes this record the same as another one. It takes no memory.
+    pub fn copy_from(&mut self, other: &Finished)
+        ensures { self.new ≡ other.now }
+    {
+        self.request = other.request;
+        self.status = other.status;
+        self.bytes.set(other.bytes.as_slice());
+    }
 }
 
 /// What is recorded of request `r`, whose thread has ended with a status: the bytes are those written so far.
@@ -91,7 +109,8 @@ mod tests {
         let mut io = Channels::open(rt.alloc(), Sequence::of(Vec::new(rt.alloc())), requests)?;
         io.append_reply(0, [4, 5].as_slice());
         let finished = finish(&io, 0, ThreadStatus::Done { code: 3 });
-        let same = finished.same();
+        let mut same = finish(&io, 0, ThreadStatus::Idle);
+        same.copy_from(&finished.same());
         assert_eq!(rt; same.request, 0);
         assert_eq!(rt; same.status, ThreadStatus::Done { code: 3 });
         assert_eq!(rt; same.bytes.as_slice(), [4, 5].as_slice());

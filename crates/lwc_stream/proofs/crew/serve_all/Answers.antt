@@ -4,7 +4,7 @@ use Rattle.std.proofs.Common.{◌∙◌, sym, ap, subst, arith}
 use Rattle.lwc_stream.proofs.Serving.{have_served, may_serve}
 use Rattle.lwc_stream.specs.Crews.{HasServed, HaveServed}
 use Rattle.process_core.proofs.Carrying.{written_back}
-use Rattle.lwc_stream.proofs.Sent.{finished_send, news_sync, queue_sync, worker_send}
+use Rattle.lwc_stream.proofs.Sent.{news_sync, queue_sync, worker_send}
 use Rattle.process_core.proofs.Sends.{process_sync}
 use Rattle.thread_carrier.proofs.Logs.{moved}
 use Rattle.lwc_stream.proofs.crew.serve_all.Goals as goal
@@ -19,7 +19,7 @@ for_each_mut-requires-sync-F g c κs within =
     let s = c.type_bounds.send-W in
     let r = c.type_bounds.sync-R in
     let q = c.type_bounds.sync-G in
-    search (sendable, crosses, process_sync, queue_sync, finished_send, news_sync) depth 80 fits 20000
+    search (sendable, crosses, process_sync, queue_sync, news_sync) depth 80 fits 20000
 
 pub for_each_mut-requires-clause-accepts : goal.for_each_mut-requires-clause-accepts
 for_each_mut-requires-clause-accepts g c κs within =

@@ -40,6 +40,13 @@ finish-requires-clause-queues g c κs within =
     c.serve_beside-workers.ensures.served.queues
     ∙ (sym (map-map queue (λ w. w.puts) c.in_ok-workers.workers.items) ∙ (ap (map queue) c.in_ok-workers.ensures.ends ∙ c.in_ok-queues.ensures.puts))
 
+pub finish-requires-clause-room : goal.finish-requires-clause-room
+finish-requires-clause-room g c κs within =
+    let before = c.in_ok-workers.workers.items in
+    let after = c.serve_beside-workers.result.0.items in
+    let numbers = ap length c.serve_beside-workers.ensures.served.numbers in
+    omega (arith, numbers, length-map after (λ w. w.pass.held.number), length-map before (λ w. w.pass.held.number), ap length c.in_ok-workers.ensures.passes, length-map before (λ w. w.pass), c.in_ok-taken.ensures.capacity, c.len.ensures)
+
 pub finish-requires-clause-places : goal.finish-requires-clause-places
 finish-requires-clause-places g c κs within =
     let before = c.in_ok-workers.workers.items in

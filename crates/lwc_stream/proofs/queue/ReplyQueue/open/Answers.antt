@@ -3,9 +3,9 @@ use Rattle.lwc_stream.proofs.QueueSteps.{begins, forks}
 use Rattle.lwc_stream.proofs.queue.ReplyQueue.open.Goals as goal
 
 pub ruled-requires-clause-rule : goal.ruled-requires-clause-rule
-ruled-requires-clause-rule g c = begins
+ruled-requires-clause-rule c = begins
 
 pub another-taking-requires-clause-rule : goal.another-taking-requires-clause-rule
-another-taking-requires-clause-rule g c =
+another-taking-requires-clause-rule c =
     let first = c.in_ok-ring.ensures.3 in
     forks _ _ (ap (λ v. v.puts) first) (ap (λ v. v.takes) first)
