@@ -12,7 +12,7 @@ ghost use Rattle.lwc_base.specs.declared.limits.TheConstants.{MOST_PAGES};
 use crate::kinds::{Mask, covers_kinds};
 use crate::sets::{covers, meet};
 use crate::whole::{empty, full};
-use lwc_base::{Cap, Descriptor, Grant, Item, Kind, Lent, SLOTS, Spec};
+use lwc_base::{Cap, Descriptor, Grant, Item, Kind, Lent, PageNumber, SLOTS, Spec};
 
 /// The capability of lent keys.
 pub fn owned_keys(keys: Grant<'_>) -> Cap
@@ -54,7 +54,7 @@ pub fn meet_granted(keys: Grant<'_>, spec: &Spec) -> Cap
 }
 
 /// `covers` of lent keys. Where they are all keys or none, no capability is made.
-pub fn grants(keys: Grant<'_>, spec: &Spec, pages: u32) -> bool
+pub fn grants(keys: Grant<'_>, spec: &Spec, pages: PageNumber) -> bool
     requires { pages ≤ MOST_PAGES }
     ensures { result ≡ caps.covers pages (keys_of keys.entry) spec.now }
 {
@@ -66,7 +66,7 @@ pub fn grants(keys: Grant<'_>, spec: &Spec, pages: u32) -> bool
 }
 
 /// `covers_kinds` of lent keys. Where they are all keys or none, no capability is made.
-pub fn grants_kinds(keys: Grant<'_>, mask: Mask, pages: u32) -> bool
+pub fn grants_kinds(keys: Grant<'_>, mask: Mask, pages: PageNumber) -> bool
     requires { pages ≤ MOST_PAGES }
     ensures { result ≡ has_kinds pages (keys_of keys.entry) mask.0 }
 {
@@ -78,25 +78,25 @@ pub fn grants_kinds(keys: Grant<'_>, mask: Mask, pages: u32) -> bool
 }
 
 /// Whether a mask chooses a key of a context with this number of pages.
-fn chooses_any(mask: Mask, pages: u32) -> bool
+fn chooses_any(mask: Mask, pages: PageNumber) -> bool
     ensures { result ≡ any_key pages (λ k. is_chosen mask.0 (kind_of k)) }
 {
     ((pages > 0) & mask.chooses(Kind::Page)) | mask.chooses(Kind::Slot) | mask.chooses(Kind::Cred)
 }
 
 /// Whether items name a key of a context with this number of pages: one begins below the limit of its kind.
-fn names_any(items: &[Item], pages: u32) -> bool
+fn names_any(items: &[Item], pages: PageNumber) -> bool
     ensures { result ≡ list_any (λ item. nat_lt item.from (modes.limit pages item.kind)) items.now }
 {
     items.iter().any(|item| item.from < limit(pages, item.kind))
 }
 
 /// The number of keys of a kind.
-fn limit(pages: u32, kind: Kind) -> u32
+fn limit(pages: PageNumber, kind: Kind) -> u32
     ensures { result ≡ modes.limit pages kind }
 {
     match kind {
-        Kind::Page => pages,
+        Kind::Page => u32::from(pages),
         Kind::Slot => u32::from(SLOTS),
         Kind::Cred => 1,
     }

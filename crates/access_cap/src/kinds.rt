@@ -8,7 +8,7 @@ ghost use Rattle.lwc_base.specs.declared.limits.TheConstants.{MOST_PAGES};
 use crate::sets::includes;
 use crate::whole::full;
 use bitflags::{Flag, Flags, bitflag_items};
-use lwc_base::{Cap, Kind};
+use lwc_base::{Cap, Kind, PageNumber};
 
 /// Kinds of keys: the pages of the memory, the slots, the credential.
 #[derive(Clone, Copy, Debug, PartialEq, Eq)]
@@ -71,7 +71,7 @@ impl Mask {
 
 /// Whether a capability has every key of each chosen kind, of a context with this number of pages
 /// (`has_kinds`).
-pub fn covers_kinds(cap: &Cap, mask: Mask, pages: u32) -> bool
+pub fn covers_kinds(cap: &Cap, mask: Mask, pages: PageNumber) -> bool
     requires { pages ≤ MOST_PAGES }
     ensures { result ≡ has_kinds pages cap.now mask.0 }
 {
@@ -79,7 +79,7 @@ pub fn covers_kinds(cap: &Cap, mask: Mask, pages: u32) -> bool
 }
 
 /// The capability of each key of the chosen kinds, of a context with this number of pages.
-fn of_kinds(mask: Mask, pages: u32) -> Cap
+fn of_kinds(mask: Mask, pages: PageNumber) -> Cap
     requires { pages ≤ MOST_PAGES }
     ensures { (k : Key) → IsKey MOST_PAGES k → has_key result k
         ≡ (nat_lt (number_of k) (limit pages (kind_of k)) && is_chosen mask.0 (kind_of k)) }

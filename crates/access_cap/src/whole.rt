@@ -5,18 +5,18 @@ ghost use Rattle.lwc_base.specs.declared.limits.TheConstants.{MOST_PAGES};
 ghost use Rattle.lwc_base.specs.declared.key.Key.{Key};
 
 use crate::words::low_word;
-use lwc_base::Cap;
+use lwc_base::{Cap, PageNumber};
 
 /// The capability of every key of a context with this number of pages (`full_cap`).
 #[tactic(auto, unfolding(lwc_base::specs::Capabilities::full_cap))]
-pub fn full(pages: u32) -> Cap
+pub fn full(pages: PageNumber) -> Cap
     ensures full { result ≡ full_cap pages }
     ensures keys { (key : Key) → IsKey MOST_PAGES key →
         has_key result key ≡ nat_lt (number_of key) (limit pages (kind_of key)) }
 {
     let mut words = [0; 256];
     'words: for i in 0..256usize {
-        words[i] = low_word(pages, i);
+        words[i] = low_word(u32::from(pages), i);
     }
     Cap {
         pages: words,

@@ -13,7 +13,7 @@ use Rattle.range_map.specs.Kinds.{is_between, kind_at, kind_of, state_at, state_
 use Rattle.cow_space.specs.Maps.{no_pages, row_of}
 use Rattle.cow_space.specs.declared.page_runs.Origin.{Origin}
 use Rattle.cow_space.specs.declared.page_runs.Origin.TheVariants.{Absent, Zeros, Common, CopyOf}
-use Rattle.cow_space.specs.declared.page_runs.ReadRange.{ReadRange}
+use Rattle.lwc_base.specs.declared.range.Range.{Range}
 use Rattle.cow_space.specs.declared.page_runs.PageRun.{PageRun}
 use Rattle.cow_space.specs.declared.cells.PageCells.{PageCells}
 use Rattle.cow_space.specs.RowSeen.{HasNoTree, maps}
@@ -50,7 +50,7 @@ unfolding changed_place
 kept-kind cells i q page_runs none = ap (λ o. kind_of (cell_by cells q (place_of cells i q) o)) none
 
 -- the state of a page by the page run that was found, and whether it may only be read
-module _ (cells : List Place) (rights : List (ℕ → Right)) (i q : ℕ) (page_runs : List PageRun) (reads : List ReadRange) where
+module _ (cells : List Place) (rights : List (ℕ → Right)) (i q : ℕ) (page_runs : List PageRun) (reads : List Range) where
   abbrev state-by : Option PageRun → Bool → Option PageState
   state-by o read = state_of (kind_of (cell_by cells q (place_of cells i q) o)) (cond read Read (right_by rights q (rights_of rights i q) o))
 
@@ -111,7 +111,7 @@ module _ (w : PageCells) (i : ℕ) (page_runs : List PageRun) where
   fit-by p (Some s) = fit-origin s.origin p
 
   -- the states of segments that are those of the place after the page runs up to the last page, are so past it
-  pub states-now : (reads : List ReadRange) (now : List Segment) → All (IsPageRun (length (cells w)) i) page_runs →
+  pub states-now : (reads : List Range) (now : List Segment) → All (IsPageRun (length (cells w)) i) page_runs →
       ((p : ℕ) → p < MOST_PAGES → state_at now p ≡ changed_states (cells w) (rights w) i page_runs reads p) → ((p : ℕ) → MOST_PAGES ≤ p → state_at now p ≡ None) →
       (p : ℕ) → state_at now p ≡ changed_states (cells w) (rights w) i page_runs reads p
   states-now reads now are made_now within p =
@@ -124,7 +124,7 @@ module _ (w : PageCells) (i : ℕ) (page_runs : List PageRun) where
       ∙ ap (option_map (λ (s : PageState). s.kind)) (w.kept.within i p past))))
       (cases_lt p MOST_PAGES)
 
-  module _ (reads : List ReadRange) (segments : List Segment) (all : (p : ℕ) → state_at segments p ≡ changed_states (cells w) (rights w) i page_runs reads p) where
+  module _ (reads : List Range) (segments : List Segment) (all : (p : ℕ) → state_at segments p ≡ changed_states (cells w) (rights w) i page_runs reads p) where
     kind-now : (p : ℕ) → kind_at segments p ≡ kinds_of (changed_place (cells w) i page_runs) p
     kind-now p =
         ap (option_map (λ (s : PageState). s.kind)) (all p) ∙ kind-in (kinds_of (changed_place (cells w) i page_runs) p) (changed_rights (cells w) (rights w) i page_runs reads p)

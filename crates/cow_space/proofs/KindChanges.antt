@@ -13,7 +13,7 @@ use Rattle.range_map.specs.Kinds.{is_between, put_state, ranges, state_at}
 use Rattle.range_map.proofs.Alike.{HasNoEdge}
 use Rattle.range_map.proofs.Built.{between, not_between}
 use Rattle.range_map.proofs.Ranges.{absent_tail, begins_where, one_piece, ranges_grow, ranges_same}
-use Rattle.cow_space.specs.declared.page_runs.ReadRange.{ReadRange}
+use Rattle.lwc_base.specs.declared.range.Range.{Range}
 use Rattle.cow_space.specs.declared.page_runs.PageRun.{PageRun}
 use Rattle.cow_space.specs.Changes.{have_page, page_run_at}
 
@@ -28,7 +28,7 @@ page_run_more page_runs i d q p inside before same = at q ∙ (λ e. option_or (
     at n = ap (λ xs. page_run_at xs n) (take_more page_runs i d inside) ∙ find-append (λ (t : PageRun). is_between t.range.from t.range.to n) (take i page_runs) (get_or page_runs i d ∷ [])
 
 -- ranges that neither begin nor end between two pages have both or none
-pub have-alike : (p edge q : ℕ) (ranges : List ReadRange) → All (λ r. HasNoEdge p edge r.from r.to) ranges → p ≤ q → q < edge → have_page ranges q ≡ have_page ranges p
+pub have-alike : (p edge q : ℕ) (ranges : List Range) → All (λ r. HasNoEdge p edge r.from r.to) ranges → p ≤ q → q < edge → have_page ranges q ≡ have_page ranges p
 have-alike p edge q [] none low high = refl
 have-alike p edge q (r ∷ ranges) none low high =
     let head = (none 0 r (omega arith)).alike q low high in

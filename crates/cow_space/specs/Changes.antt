@@ -12,7 +12,7 @@ use Rattle.range_map.specs.Kinds.{is_between, kind_of, state_of}
 use Rattle.range_map.specs.declared.segment.PageState.{PageState}
 use Rattle.cow_space.specs.declared.page_runs.Origin.{Origin}
 use Rattle.cow_space.specs.declared.page_runs.Origin.TheVariants.{Absent, Zeros, Common, CopyOf}
-use Rattle.cow_space.specs.declared.page_runs.ReadRange.{ReadRange}
+use Rattle.lwc_base.specs.declared.range.Range.{Range}
 use Rattle.cow_space.specs.declared.page_runs.PageRun.{PageRun}
 use Rattle.cow_space.specs.Cells.{Place, place_of, right_in, rights_of, states_of}
 
@@ -53,18 +53,18 @@ right_by rights p before None = before
 right_by rights p before (Some page_run) = unwrap_or page_run.right (origin_right rights page_run.origin p)
 
 -- whether ranges have a page
-abbrev pub have_page : List ReadRange → ℕ → Bool
+abbrev pub have_page : List Range → ℕ → Bool
 have_page ranges p = list_any (λ r. is_between r.from r.to p) ranges
 
 -- the rights of a place after page runs: Read in some ranges, and Write where a page is absent then
-unfoldable pub changed_rights : List Place → List (ℕ → Right) → ℕ → List PageRun → List ReadRange
+unfoldable pub changed_rights : List Place → List (ℕ → Right) → ℕ → List PageRun → List Range
     → ℕ → Right
 changed_rights cells rights i page_runs reads p =
     right_in (state_of (kind_of (changed_place cells i page_runs p))
     (if have_page reads p then Read else right_by rights p (rights_of rights i p) (page_run_at page_runs p)))
 
 -- the states of the pages of a place after page runs
-abbrev pub changed_states : List Place → List (ℕ → Right) → ℕ → List PageRun → List ReadRange
+abbrev pub changed_states : List Place → List (ℕ → Right) → ℕ → List PageRun → List Range
     → ℕ → Option PageState
 changed_states cells rights i page_runs reads =
     states_of (changed_place cells i page_runs) (changed_rights cells rights i page_runs reads)

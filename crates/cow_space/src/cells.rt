@@ -6,7 +6,7 @@ ghost use Rattle.cow_space.specs.Kept.{HasNoOwnPage, IsKept};
 ghost use Rattle.cow_space.specs.RowSeen.{no_tree-prop};
 
 use crate::rows::Rows;
-use lwc_base::{OutOfMemory, Right};
+use lwc_base::{OutOfMemory, PageNumber, Right};
 use range_map::{PageState, RangeMap, Segment, SegmentKind};
 use std::alloc::Global;
 
@@ -76,7 +76,7 @@ impl PageCells {
     }
 
     /// The kind of a page of a place; `None` where it is absent.
-    pub fn kind(&self, i: usize, p: u16) -> Option<SegmentKind>
+    pub fn kind(&self, i: usize, p: PageNumber) -> Option<SegmentKind>
         requires { i < length (cells self.now) }
         ensures { result ≡ kinds_of (place_of (cells self.now) i) p }
     {
@@ -84,7 +84,7 @@ impl PageCells {
     }
 
     /// The right of a page of a place; `Write` where it is absent.
-    pub fn right(&self, i: usize, p: u16) -> Right
+    pub fn right(&self, i: usize, p: PageNumber) -> Right
         requires { i < length (cells self.now) }
         ensures { result ≡ rights_of (rights self.now) i p }
     {
@@ -92,7 +92,7 @@ impl PageCells {
     }
 
     /// The kind and the right of a page of a place; `None` where it is absent.
-    pub fn state(&self, i: usize, p: u16) -> Option<PageState>
+    pub fn state(&self, i: usize, p: PageNumber) -> Option<PageState>
         requires { i < length (cells self.now) }
         ensures { result ≡ states_of (place_of (cells self.now) i) (rights_of (rights self.now) i) p }
     {
@@ -101,7 +101,7 @@ impl PageCells {
 
     /// The first page after one that has another kind or another right, or the end of all pages. There are
     /// at most 64 ranges, so that a walk from edge to edge is short.
-    pub fn next_edge(&self, i: usize, p: u16) -> u16
+    pub fn next_edge(&self, i: usize, p: PageNumber) -> PageNumber
         requires place { i < length (cells self.now) }
         requires page { p < MOST_PAGES }
         ensures past { p < result }
@@ -142,7 +142,7 @@ impl PageCells {
     }
 
     /// The bytes of a page that is the place's own. A page that is absent, common or zeros has none.
-    pub fn bytes(&self, i: usize, p: u16) -> Option<&[u8]>
+    pub fn bytes(&self, i: usize, p: PageNumber) -> Option<&[u8]>
         requires place { i < length (cells self.now) }
         requires page { p < MOST_PAGES }
         ensures value { option_copied result ≡ data_of (own_values (place_of (cells self.now) i) p) }
@@ -153,7 +153,7 @@ impl PageCells {
 
     /// Whether a page that is the place's own parts when it is written: it is zeros, or its tag is at another
     /// page too.
-    pub fn is_parting(&self, i: usize, p: u16) -> bool
+    pub fn is_parting(&self, i: usize, p: PageNumber) -> bool
         requires place { i < length (cells self.now) }
         requires own { IsOwnPage (place_of (cells self.now) i p) }
         ensures { result ≡ is_parting (cells self.now) i p }

@@ -1,5 +1,5 @@
 use crate::rows::Rows;
-use lwc_base::Range;
+use lwc_base::{PageNumber, Range};
 use page_tree::{PAGES, PageTree};
 use pool_base::Steps;
 use std::mem::replace;
@@ -8,7 +8,7 @@ use std::sync::ledger::Ledger;
 /// All pages of a row.
 const ALL_PAGES: Range = Range {
     from: 0,
-    to: PAGES as u16,
+    to: PAGES as PageNumber,
 };
 
 impl Rows {

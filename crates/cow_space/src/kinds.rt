@@ -12,19 +12,19 @@ ghost use Rattle.cow_space.specs.declared.page_runs.Origin.TheVariants.{CopyOf};
 ghost use Rattle.cow_space.specs.Seen.{cells, rights};
 
 use crate::cells::PageCells;
-use crate::page_runs::{Origin, PageRun, ReadRange};
-use lwc_base::{MOST_PAGES, Right};
+use crate::page_runs::{Origin, PageRun};
+use lwc_base::{MOST_PAGES, PageNumber, Range, Right};
 use range_map::{Change, RangeMap, Segment, SegmentKind, sooner_edge};
 
 /// The first page run that has a page.
-pub(crate) fn page_run_at(page_runs: &[PageRun], p: u16) -> Option<&PageRun>
+pub(crate) fn page_run_at(page_runs: &[PageRun], p: PageNumber) -> Option<&PageRun>
     ensures { option_copied result ≡ spec.page_run_at page_runs.now p }
 {
     page_runs.iter().find(|page_run| page_run.range.from <= p && p < page_run.range.to)
 }
 
 /// Where the first page run after a page begins or ends, or the end of all pages.
-pub(crate) fn page_run_edge(page_runs: &[PageRun], p: u16) -> u16
+pub(crate) fn page_run_edge(page_runs: &[PageRun], p: PageNumber) -> PageNumber
     requires { p < MOST_PAGES }
     ensures past { p < result }
     ensures within { result ≤ MOST_PAGES }
@@ -32,7 +32,7 @@ pub(crate) fn page_run_edge(page_runs: &[PageRun], p: u16) -> u16
         → spec.page_run_at page_runs.now q ≡ spec.page_run_at page_runs.now p }
     ensures edge { result < MOST_PAGES → is_edge page_runs.now result ≡ true }
 {
-    let mut edge = MOST_PAGES as u16;
+    let mut edge = MOST_PAGES;
     for page_run in page_runs {
         edge = sooner_edge(page_run.range.from, page_run.range.to, p, edge);
     }
@@ -40,14 +40,14 @@ pub(crate) fn page_run_edge(page_runs: &[PageRun], p: u16) -> u16
 }
 
 /// Whether ranges have a page.
-fn have_page(ranges: &[ReadRange], p: u16) -> bool
+fn have_page(ranges: &[Range], p: PageNumber) -> bool
     ensures { result ≡ spec.have_page ranges.now p }
 {
     ranges.iter().any(|range| range.from <= p && p < range.to)
 }
 
 /// A later page, at most the edge, up to which ranges have all of the pages or none.
-fn range_edge(ranges: &[ReadRange], p: u16, edge: u16) -> u16
+fn range_edge(ranges: &[Range], p: PageNumber, edge: PageNumber) -> PageNumber
     requires { p < edge }
     ensures past { p < result }
     ensures within { result ≤ edge }
@@ -81,7 +81,7 @@ pub(crate) fn has_own_page(kinds: &RangeMap) -> bool
 
 impl PageCells {
     /// The right that a page gets by a page run, or `Read`, if it is present then.
-    fn right_given(&self, page_run: &PageRun, read: bool, p: u16) -> Right
+    fn right_given(&self, page_run: &PageRun, read: bool, p: PageNumber) -> Right
         requires { (j : ℕ) → page_run.now.origin ≡ CopyOf j → j < length (cells self.now) }
         ensures { result
             ≡ (if read then Read
@@ -99,7 +99,13 @@ impl PageCells {
 
     /// The change that a page run makes of a page and of later ones, up to an edge at the most; they all get
     /// the right `Read`, or each the right by the page run.
-    fn change_given(&self, page_run: &PageRun, read: bool, p: u16, edge: u16) -> Change
+    fn change_given(
+        &self,
+        page_run: &PageRun,
+        read: bool,
+        p: PageNumber,
+        edge: PageNumber,
+    ) -> Change
         requires origin { (j : ℕ) → page_run.now.origin ≡ CopyOf j → j < length (cells self.now) }
         requires page { p < edge }
         requires within { edge ≤ MOST_PAGES }
@@ -129,7 +135,7 @@ impl PageCells {
 
     /// The change that leaves the kind of a page and of later ones, up to an edge at the most; they all get
     /// the right `Read`, or each keeps its own.
-    fn change_left(&self, i: usize, read: bool, p: u16, edge: u16) -> Change
+    fn change_left(&self, i: usize, read: bool, p: PageNumber, edge: PageNumber) -> Change
         requires place { i < length (cells self.now) }
         requires page { p < edge }
         requires within { edge ≤ MOST_PAGES }
@@ -156,8 +162,8 @@ impl PageCells {
         &self,
         i: usize,
         page_runs: &[PageRun],
-        reads: &[ReadRange],
-        p: u16,
+        reads: &[Range],
+        p: PageNumber,
     ) -> Change
         requires place { i < length (cells self.now) }
         requires page_runs { All (IsPageRun (length (cells self.now)) i) page_runs.now }
@@ -177,12 +183,7 @@ impl PageCells {
     }
 
     /// The kinds and the rights of a place after page runs, and ranges that may only be read.
-    pub(crate) fn kinds_after(
-        &self,
-        i: usize,
-        page_runs: &[PageRun],
-        reads: &[ReadRange],
-    ) -> RangeMap
+    pub(crate) fn kinds_after(&self, i: usize, page_runs: &[PageRun], reads: &[Range]) -> RangeMap
         requires place { i < length (cells self.now) }
         requires page_runs { All (IsPageRun (length (cells self.now)) i) page_runs.now }
         requires ranges { ranges MOST_PAGES
@@ -194,7 +195,7 @@ impl PageCells {
     {
         let mut kinds = RangeMap::empty();
         let mut p = 0u16;
-        'pieces: while u32::from(p) < MOST_PAGES {
+        'pieces: while p < MOST_PAGES {
             let piece = self.piece_at(i, page_runs, reads, p);
             if let Some(state) = piece.state() {
                 kinds.append(p, piece.to, state);

@@ -13,7 +13,7 @@ pub mod rows;
 pub mod writes;
 
 pub use cells::PageCells;
-pub use page_runs::{Origin, PageRun, ReadRange};
+pub use page_runs::{Origin, PageRun};
 pub use rows::Rows;
 pub use writes::NoFrame;
 

@@ -54,13 +54,6 @@ impl Default for PageRun {
     }
 }
 
-/// The pages from `from` up to and without `to`, which may only be read.
-#[derive(Clone, Copy, Debug, Default, PartialEq, Eq)]
-pub struct ReadRange {
-    pub from: u16,
-    pub to: u16,
-}
-
 /// Puts what an origin copies into a range of a row, and clears it if it copies nothing.
 fn fill_range<L: Ledger>(
     rows: &mut Rows,
@@ -120,7 +113,7 @@ fn fill_row<L: Ledger>(rows: &mut Rows, i: usize, page_runs: &[PageRun], steps: 
     ensures cost_empty { rows_seen.HasNoTree rows.old i → steps.new ≤ steps.old + 128 * length page_runs.now }
 {
     let mut p = 0u16;
-    'pieces: while u32::from(p) < MOST_PAGES {
+    'pieces: while p < MOST_PAGES {
         let edge = page_run_edge(page_runs, p);
         if let Some(page_run) = page_run_at(page_runs, p) {
             let range = Range { from: p, to: edge };
@@ -132,7 +125,7 @@ fn fill_row<L: Ledger>(rows: &mut Rows, i: usize, page_runs: &[PageRun], steps: 
 
 impl PageCells {
     /// The number of ranges that a place would have after `change`.
-    pub fn count_after(&self, i: usize, page_runs: &[PageRun], reads: &[ReadRange]) -> u32
+    pub fn count_after(&self, i: usize, page_runs: &[PageRun], reads: &[Range]) -> u32
         requires place { i < length (cells self.now) }
         requires page_runs { All (IsPageRun (length (cells self.now)) i) page_runs.now }
         ensures { result ≡ ranges MOST_PAGES
@@ -141,7 +134,7 @@ impl PageCells {
         let mut count = 0u32;
         let mut last = None;
         let mut p = 0u16;
-        'pieces: while u32::from(p) < MOST_PAGES {
+        'pieces: while p < MOST_PAGES {
             let piece = self.piece_at(i, page_runs, reads, p);
             let state = piece.state();
             if state.is_some() && last != state {
@@ -160,7 +153,7 @@ impl PageCells {
         &mut self,
         i: usize,
         page_runs: &[PageRun],
-        reads: &[ReadRange],
+        reads: &[Range],
         steps: &mut Steps<L>,
     )
         requires place { i < length (cells self.old) }

@@ -6,13 +6,13 @@ ghost use Rattle.cow_space.specs.Takes.{Takes, cell_bytes};
 
 use crate::rows::Rows;
 use frame_pool::{FrameNo, Pool};
-use lwc_base::{PAGE_BYTES, Tag};
+use lwc_base::{PAGE_BYTES, PageNumber, Tag};
 use page_tree::{PAGES, PageCell};
 use pool_base::Steps;
 use std::sync::ledger::Ledger;
 
 /// Puts what a piece at an address has of page p into the page's bytes.
-fn put_piece(page: &mut [u8; PAGE_BYTES], p: u16, at: u32, piece: &[u8])
+fn put_piece(page: &mut [u8; PAGE_BYTES], p: PageNumber, at: u32, piece: &[u8])
     ensures { page.new ≡ bytes_after (record { at = at; bytes = piece.now }) p page.old }
 {
     let start = p as usize * PAGE_BYTES;
@@ -25,7 +25,14 @@ fn put_piece(page: &mut [u8; PAGE_BYTES], p: u16, at: u32, piece: &[u8])
 }
 
 /// Takes a frame with the bytes of a cell once a piece is there.
-fn fill(frames: &mut Pool, cell: PageCell, p: u16, at: u32, piece: &[u8], tag: Tag) -> FrameNo
+fn fill(
+    frames: &mut Pool,
+    cell: PageCell,
+    p: PageNumber,
+    at: u32,
+    piece: &[u8],
+    tag: Tag,
+) -> FrameNo
     requires free { 0 < free_frames frames.old }
     requires held { (f : ℕ) → entry_for cell ≡ f + 2 → 0 < frame_count frames.old f }
     ensures { Takes frames.old frames.new result.n tag
@@ -50,7 +57,7 @@ fn copy_cell(frames: &mut Pool, cell: PageCell, tag: Tag) -> FrameNo
 }
 
 /// Puts what a piece has of page p into a frame that is held once.
-fn write_frame(frames: &mut Pool, frame: FrameNo, p: u16, at: u32, piece: &[u8])
+fn write_frame(frames: &mut Pool, frame: FrameNo, p: PageNumber, at: u32, piece: &[u8])
     requires once { frame_count frames.old frame.n ≡ 1 }
     ensures { frames.new ≡ refill_frame frames.old frame.n
         (bytes_after (record { at = at; bytes = piece.now }) p (frame_bytes frames.old frame.n)) }
@@ -71,7 +78,7 @@ impl Rows {
     pub(crate) fn part<L: Ledger>(
         &mut self,
         i: usize,
-        p: u16,
+        p: PageNumber,
         at: u32,
         piece: &[u8],
         tag: Tag,
@@ -98,7 +105,7 @@ impl Rows {
     /// Writes what a piece at an address has of page p of a row if the page does not part, and tells whether
     /// it did. If the page parts, nothing changes.
     #[inline(always)]
-    pub(crate) fn write_in_place(&mut self, i: usize, p: u16, at: u32, piece: &[u8]) -> bool
+    pub(crate) fn write_in_place(&mut self, i: usize, p: PageNumber, at: u32, piece: &[u8]) -> bool
         requires row { i < length (maps self.old) }
         requires page { p < PAGES }
         ensures tells { result ≡ not (parts (row_tags (maps self.old)) (row_of (maps self.old) i p)) }

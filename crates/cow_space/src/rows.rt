@@ -2,7 +2,7 @@ ghost use Rattle.std.specs.Prelude.{◌≡◌, ℕ, IfOk, replicate};
 ghost use Rattle.cow_space.specs.RowKept.{IsKept};
 
 use frame_pool::FrameNo;
-use lwc_base::OutOfMemory;
+use lwc_base::{OutOfMemory, PageNumber};
 use page_tree::{PAGES, PageCell, PageTree, Store, TREE_NODES};
 use std::alloc::Global;
 
@@ -57,7 +57,7 @@ impl Rows {
     }
 
     /// What a row's tree has for a page.
-    pub(crate) fn cell(&self, i: usize, p: u16) -> PageCell
+    pub(crate) fn cell(&self, i: usize, p: PageNumber) -> PageCell
         requires row { i < length self.now.trees.items }
         requires page { p < PAGES }
         ensures { result ≡ page self.now.store.nodes (slice_index self.now.trees.items i) p }
@@ -66,7 +66,7 @@ impl Rows {
     }
 
     /// The bytes of a page. A page without bytes, which reads as zeros, has none.
-    pub fn bytes(&self, i: usize, p: u16) -> Option<&[u8]>
+    pub fn bytes(&self, i: usize, p: PageNumber) -> Option<&[u8]>
         requires row { i < length (maps self.now) }
         requires page { p < PAGES }
         ensures value { option_copied result ≡ data_of (row_of (maps self.now) i p) }
@@ -80,7 +80,7 @@ impl Rows {
 
     /// The frame of a page that does not part when it is written: no other page has its tag.
     #[inline(always)]
-    pub(crate) fn lone_frame(&self, i: usize, p: u16) -> Option<FrameNo>
+    pub(crate) fn lone_frame(&self, i: usize, p: PageNumber) -> Option<FrameNo>
         requires row { i < length (maps self.now) }
         requires page { p < PAGES }
         ensures frame { IfSome result (λ frame. page self.now.store.nodes
@@ -103,7 +103,7 @@ impl Rows {
     }
 
     /// Whether a page parts when it is written: it is absent or zeros, or its tag is at another page too.
-    pub fn parts(&self, i: usize, p: u16) -> bool
+    pub fn parts(&self, i: usize, p: PageNumber) -> bool
         requires row { i < length (maps self.now) }
         requires page { p < PAGES }
         ensures { result ≡ parts (row_tags (maps self.now)) (row_of (maps self.now) i p) }

@@ -1,5 +1,5 @@
 use crate::cells::PageCells;
-use lwc_base::{Right, Tag};
+use lwc_base::{PageNumber, Right, Tag};
 use pool_base::Steps;
 use range_map::SegmentKind;
 use std::sync::ledger::Ledger;
@@ -30,7 +30,7 @@ impl PageCells {
     pub fn write<L: Ledger>(
         &mut self,
         i: usize,
-        p: u16,
+        p: PageNumber,
         at: u32,
         piece: &[u8],
         tag: Tag,
@@ -67,7 +67,7 @@ impl PageCells {
     /// does. If it did not, nothing changes.
     #[inline(always)]
     #[tactic(auto, unfolding(crate::specs::Seen::rights, crate::specs::Seen::frames_of, crate::specs::Seen::free_nodes))]
-    pub fn write_in_place(&mut self, i: usize, p: u16, at: u32, piece: &[u8]) -> bool
+    pub fn write_in_place(&mut self, i: usize, p: PageNumber, at: u32, piece: &[u8]) -> bool
         requires place { i < length (cells self.old) }
         ensures tells { (result ≡ true) ↔ (IsOwnPage (place_of (cells self.old) i p)
             × ((rights_of (rights self.old) i p ≡ Write) × (is_parting (cells self.old) i p ≡ false))) }

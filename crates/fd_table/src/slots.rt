@@ -6,7 +6,7 @@ ghost use Rattle.fd_table.specs.Tables.{no_table};
 use crate::filling::Filling;
 use crate::objects::Objects;
 use crate::table::Table;
-use lwc_base::{Cell, Lent, Name, OutOfMemory};
+use lwc_base::{Cell, Lent, Name, OutOfMemory, SlotNumber};
 use std::alloc::Global;
 
 /// How many numbers there are that slots can name.
@@ -58,7 +58,7 @@ impl Slots {
     }
 
     /// What a slot has, where it is filled.
-    fn filling(&self, i: usize, n: u8) -> Option<Filling<'_>>
+    fn filling(&self, i: usize, n: SlotNumber) -> Option<Filling<'_>>
         requires place { i < length (slots self.now) }
         requires slot { n < SLOTS }
         ensures none { IfNone result (row_of (slots self.now) i n ≡ empty_slot) }
@@ -71,7 +71,7 @@ impl Slots {
     }
 
     /// The cell of a slot, lent.
-    pub fn cell(&self, i: usize, n: u8) -> Cell<Lent<'_>>
+    pub fn cell(&self, i: usize, n: SlotNumber) -> Cell<Lent<'_>>
         requires place { i < length (slots self.now) }
         requires slot { n < SLOTS }
         ensures { cell_of result ≡ (row_of (slots self.now) i n).cell }
@@ -83,7 +83,7 @@ impl Slots {
     }
 
     /// The context that a slot of a place's own has a descriptor of, if it has one.
-    pub fn context(&self, i: usize, n: u8) -> Option<Name>
+    pub fn context(&self, i: usize, n: SlotNumber) -> Option<Name>
         requires place { i < length (slots self.now) }
         requires slot { n < SLOTS }
         ensures { result ≡ context_in (row_of (slots self.now) i n).cell }
@@ -96,7 +96,7 @@ impl Slots {
 
     /// Whether a slot of two places is one object, or has none in both. Slots that are not may be the same,
     /// too.
-    pub fn is_shared(&self, i: usize, j: usize, n: u8) -> bool
+    pub fn is_shared(&self, i: usize, j: usize, n: SlotNumber) -> bool
         requires place { i < length (slots self.now) }
         requires other { j < length (slots self.now) }
         requires slot { n < SLOTS }
@@ -140,7 +140,7 @@ impl Slots {
     }
 
     /// Puts another cell into a slot, with the number that it names.
-    pub fn put(&mut self, i: usize, n: u8, cell: Cell<Lent<'_>>, target: Option<u16>)
+    pub fn put(&mut self, i: usize, n: SlotNumber, cell: Cell<Lent<'_>>, target: Option<u16>)
         requires place { i < length (slots self.old) }
         requires slot { n < SLOTS }
         requires target { IfSome target (λ number. number < NUMBERS) }
@@ -156,7 +156,7 @@ impl Slots {
     }
 
     /// Empties a slot, and gives its object back.
-    fn empty_slot(&mut self, i: usize, n: u8)
+    fn empty_slot(&mut self, i: usize, n: SlotNumber)
         requires place { i < length (slots self.old) }
         requires slot { n < SLOTS }
         ensures { slots self.new ≡ slice_set (slots self.old) i
@@ -168,7 +168,7 @@ impl Slots {
     }
 
     /// Fills an empty slot with a new object.
-    fn fill_slot(&mut self, i: usize, n: u8, filling: &Filling<'_>)
+    fn fill_slot(&mut self, i: usize, n: SlotNumber, filling: &Filling<'_>)
         requires place { i < length (slots self.old) }
         requires slot { n < SLOTS }
         requires empty { row_of (slots self.old) i n ≡ empty_slot }
@@ -182,7 +182,7 @@ impl Slots {
     }
 
     /// Makes slot n of a place what slot m of a place is. Both slots share its object from then on.
-    pub fn copy_slot(&mut self, to: usize, n: u8, from: usize, m: u8)
+    pub fn copy_slot(&mut self, to: usize, n: SlotNumber, from: usize, m: SlotNumber)
         requires to { to < length (slots self.old) }
         requires slot { n < SLOTS }
         requires from { from < length (slots self.old) }

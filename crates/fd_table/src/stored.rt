@@ -6,13 +6,13 @@ ghost use Rattle.fd_table.specs.Slots.{cell_of};
 ghost use Rattle.fd_table.specs.Stored as spec;
 ghost use Rattle.fd_table.specs.Stored.{cell_in, keys_in};
 
-use lwc_base::{Cap, Cell, Grant, Lent, Name};
+use lwc_base::{Cap, Cell, Grant, Lent, Name, PageNumber};
 
 /// The keys of a descriptor, as they are stored: where they are neither all nor none, their words stand
 /// beside them.
 #[derive(Clone, Copy)]
 pub(crate) enum StoredKeys {
-    All { pages: u32 },
+    All { pages: PageNumber },
     None,
     Words,
 }

@@ -4,7 +4,7 @@ ghost use Rattle.lwc_base.specs.declared.descriptor.TheConstants.{SLOTS};
 ghost use Rattle.fd_table.specs.Tables.{times};
 
 use crate::bits::with_bit;
-use lwc_base::SLOTS;
+use lwc_base::{SLOTS, SlotNumber};
 
 /// The slots of a place: for each one more than the number of its object, or 0 where it is empty. Bit n of
 /// `filled` says that slot n has an object, and bit n of `common` that this is a group's cell.
@@ -28,7 +28,7 @@ impl Table {
     }
 
     /// Puts another entry into slot n, common or not.
-    pub(crate) fn set(&mut self, n: u8, entry: u32, common: bool)
+    pub(crate) fn set(&mut self, n: SlotNumber, entry: u32, common: bool)
         requires { n < SLOTS }
         ensures entries { self.new.entries ≡ slice_set self.old.entries n entry }
         ensures filled { (m : ℕ) → m < SLOTS →
@@ -42,7 +42,7 @@ impl Table {
     }
 
     /// Whether slot n is common.
-    pub(crate) fn is_common(&self, n: u8) -> bool
+    pub(crate) fn is_common(&self, n: SlotNumber) -> bool
         requires { n < SLOTS }
         ensures { result ≡ has_bit self.now.common n }
     {

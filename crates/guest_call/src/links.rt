@@ -7,7 +7,7 @@ ghost use Rattle.lwc_base.specs.declared.descriptor.TheConstants.{SLOTS};
 ghost use Rattle.lwc_base.specs.declared.refusal.Refusal.{Refusal};
 ghost use Rattle.world_face.specs.Calls.{IsLive};
 
-use lwc_base::{Grant, Lent, Name, Refusal, SLOTS};
+use lwc_base::{Grant, Lent, Name, Refusal, SLOTS, SlotNumber};
 use world_face::World;
 
 /// The context that the slot of a number has a descriptor of, with the keys of its capability. It is live.
@@ -43,7 +43,7 @@ pub fn descriptor_for<W: World>(world: &W, c: Name, n: u64) -> Lent<'_>
     ensures { descriptor_of result ≡ descriptor_for (W.seen world.now) c n }
 {
     if n < u64::from(SLOTS) {
-        world.slot(c, n as u8)
+        world.slot(c, n as SlotNumber)
     } else {
         Lent::Empty
     }

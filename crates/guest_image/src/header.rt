@@ -34,7 +34,7 @@ impl Header {
     {
         read_magic(reader, form)?;
         let instructions = read_count(reader, 1, MOST_INSTRUCTIONS)?;
-        let pages = read_count(reader, 0, form.pages())?;
+        let pages = read_count(reader, 0, u32::from(form.pages()))?;
         let files = read_count(reader, 0, MOST_FILES)?;
         let slots = read_count(reader, 0, MOST_IMAGE_SLOTS)?;
         let threads = read_count(reader, 1, MOST_THREADS)?;

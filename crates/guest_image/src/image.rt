@@ -5,7 +5,9 @@ ghost use Rattle.guest_image.specs.Limits.{pages_of};
 ghost use Rattle.guest_image.specs.Spelling.{magic};
 
 use guest_isa::Text;
-use lwc_base::{FileImage, MOST_PAGES, PAGES_OF_FORM_ONE, PageBytes, Sequence};
+use lwc_base::{
+    FileImage, MOST_PAGES, PAGES_OF_FORM_ONE, PageBytes, PageNumber, Sequence, SlotNumber,
+};
 
 /// The first slot that an image may fill; those below it are the console.
 pub const FIRST_SLOT: u8 = 2;
@@ -28,7 +30,7 @@ pub enum Form {
 
 impl Form {
     /// The number of pages that a context may have (`pages_of`).
-    pub fn pages(self) -> u32
+    pub fn pages(self) -> PageNumber
         ensures { result ≡ pages_of self }
     {
         match self {
@@ -52,7 +54,7 @@ impl Form {
 #[derive(Debug, Drop)]
 pub struct PageImage {
     /// The number, below the pages of the image's form.
-    pub number: u16,
+    pub number: PageNumber,
     /// What the page holds.
     pub bytes: PageBytes,
 }
@@ -61,7 +63,7 @@ pub struct PageImage {
 #[derive(Clone, Copy, Debug, PartialEq, Eq)]
 pub struct SlotImage {
     /// The slot, from `FIRST_SLOT` on.
-    pub slot: u8,
+    pub slot: SlotNumber,
     /// The file's place in the image's list of files.
     pub file: u8,
 }

@@ -14,7 +14,10 @@ use crate::image::{FIRST_SLOT, Form, PageImage, SlotImage};
 use crate::reader::Reader;
 use byte_reading::ReadError;
 use guest_isa::{Instr, decode};
-use lwc_base::{FileImage, MOST_FILE_BYTES, MOST_RANGES, PAGE_BYTES, PageBytes, SLOTS, Sequence};
+use lwc_base::{
+    FileImage, MOST_FILE_BYTES, MOST_RANGES, PAGE_BYTES, PageBytes, PageNumber, SLOTS, Sequence,
+    SlotNumber,
+};
 use std::alloc::Global;
 
 /// Reads an instruction of a text of this length.
@@ -54,7 +57,7 @@ pub(crate) fn read_page(
     alloc: Global,
     reader: &mut Reader,
     form: Form,
-    last: Option<u16>,
+    last: Option<PageNumber>,
     ranges: u32,
 ) -> Result<PageImage, ImageFault>
     requires { ranges ≤ MOST_RANGES }
@@ -72,9 +75,9 @@ pub(crate) fn read_page(
 fn read_page_number(
     reader: &mut Reader,
     form: Form,
-    last: Option<u16>,
+    last: Option<PageNumber>,
     ranges: u32,
-) -> Result<u16, ImageFault>
+) -> Result<PageNumber, ImageFault>
     requires { ranges ≤ MOST_RANGES }
     ensures read { Answers (λ n. (n, reader.new)) result (page_number_at form last ranges reader.old) }
     ensures room { IfOk result (λ n. ranges_with ranges last n ≤ MOST_RANGES) }
@@ -82,8 +85,8 @@ fn read_page_number(
     let at = reader.offset();
     let number = reader.number()?;
     let ranges = ranges_with(ranges, last, number);
-    if number < form.pages() && is_above(last, number) && ranges <= MOST_RANGES {
-        Ok(number as u16)
+    if number < u32::from(form.pages()) && is_above(last, number) && ranges <= MOST_RANGES {
+        Ok(number as PageNumber)
     } else {
         Err(ReadError::Refused {
             rule: ImageRule::BadPage,
@@ -103,7 +106,7 @@ fn is_above(last: Option<u16>, number: u32) -> bool
 }
 
 /// The number of ranges, with one more where a number begins one.
-pub(crate) fn ranges_with(ranges: u32, last: Option<u16>, number: u32) -> u32
+pub(crate) fn ranges_with(ranges: u32, last: Option<PageNumber>, number: u32) -> u32
     requires { ranges ≤ MOST_RANGES }
     ensures { result ≡ ranges_with ranges last number }
 {
@@ -115,7 +118,7 @@ pub(crate) fn ranges_with(ranges: u32, last: Option<u16>, number: u32) -> u32
 }
 
 /// Whether a number begins a range: it does not come directly after the number before it.
-fn begins(last: Option<u16>, number: u32) -> bool
+fn begins(last: Option<PageNumber>, number: u32) -> bool
     ensures { result ≡ begins last number }
 {
     match last {
@@ -200,13 +203,13 @@ pub(crate) fn read_slot(
 
 /// Reads the number of a slot.
 #[tactic(auto, unfolding(crate::specs::Reading::number_where))]
-fn read_slot_number(reader: &mut Reader, last: Option<u16>) -> Result<u8, ImageFault>
+fn read_slot_number(reader: &mut Reader, last: Option<u16>) -> Result<SlotNumber, ImageFault>
     ensures { Answers (λ n. (n, reader.new)) result (slot_number_at last reader.old) }
 {
     let at = reader.offset();
     let slot = reader.number()?;
     if u32::from(FIRST_SLOT) <= slot && slot < u32::from(SLOTS) && is_above(last, slot) {
-        Ok(slot as u8)
+        Ok(slot as SlotNumber)
     } else {
         Err(ReadError::Refused {
             rule: ImageRule::BadSlot,

@@ -29,7 +29,7 @@ use Rattle.range_map.specs.declared.segment.Segment.{Segment}
 use Rattle.range_map.specs.declared.segment.SegmentKind.{SegmentKind}
 use Rattle.range_map.specs.declared.segment.SegmentKind.TheVariants.{Own, Common}
 use Rattle.range_map.proofs.Built.{or_none}
-use Rattle.cow_space.specs.declared.page_runs.ReadRange.{ReadRange}
+use Rattle.lwc_base.specs.declared.range.Range.{Range}
 use Rattle.cow_space.specs.declared.page_runs.PageRun.{PageRun}
 use Rattle.cow_space.specs.Changes.{IsApart, IsPageRun, have_page}
 use Rattle.ctx_table.specs.NameTables.{ArePlaced}
@@ -159,7 +159,7 @@ module _ (items : List Item) (pages : ℕ) (spec : IsSpec pages items) (i : ℕ)
             ∙ or_none (gift_at page_runs q) ∙ so_far ∙ sym (ap (item_gift from) (mode_other off))
 
   -- of pages that may only be read, with one item more
-  module _ (ranges : List ReadRange) (so_far : have_page ranges q ≡ is_read (mode (take i items) (Page q))) where
+  module _ (ranges : List Range) (so_far : have_page ranges q ≡ is_read (mode (take i items) (Page q))) where
     none_read : names item (Page q) ≡ true → have_page ranges q ≡ false
     none_read here = so_far ∙ ap is_read (none_before here)
 
@@ -170,9 +170,9 @@ module _ (items : List Item) (pages : ℕ) (spec : IsSpec pages items) (i : ℕ)
         at true here = none_read here ∙ sym (ap is_read (mode_named here) ∙ other here)
         at false off = so_far ∙ sym (ap is_read (mode_other off))
 
-    pub read_pushed : (r : ReadRange) → is_between r.from r.to q ≡ names item (Page q) → is_read (Some item.mode) ≡ true → have_page (ranges ++ r ∷ []) q ≡ is_read (mode (take (i + 1) items) (Page q))
+    pub read_pushed : (r : Range) → is_between r.from r.to q ≡ names item (Page q) → is_read (Some item.mode) ≡ true → have_page (ranges ++ r ∷ []) q ≡ is_read (mode (take (i + 1) items) (Page q))
     read_pushed r same read =
-        list_any-append (λ (x : ReadRange). is_between x.from x.to q) ranges (r ∷ [])
+        list_any-append (λ (x : Range). is_between x.from x.to q) ranges (r ∷ [])
         ∙ ap (λ b. have_page ranges q || (b || false)) same ∙ at (names item (Page q)) refl
       where
         or_false : (b : Bool) → (b || (false || false)) ≡ b

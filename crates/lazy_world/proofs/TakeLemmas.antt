@@ -17,7 +17,7 @@ use Rattle.cow_space.specs.Changes.{cell_by, changed_place, changed_rights, chan
 use Rattle.range_map.specs.Kinds.{kind_of, state_of}
 use Rattle.cow_space.specs.declared.page_runs.Origin.{Origin}
 use Rattle.cow_space.specs.declared.page_runs.Origin.TheVariants as origins
-use Rattle.cow_space.specs.declared.page_runs.ReadRange.{ReadRange}
+use Rattle.lwc_base.specs.declared.range.Range.{Range}
 use Rattle.cow_space.specs.declared.page_runs.PageRun.{PageRun}
 use Rattle.lazy_world.specs.Cells.{Row, on_place, put_row, rows_of}
 use Rattle.lazy_world.specs.Transfers.{CanGet, given, given_or}
@@ -47,7 +47,7 @@ module _ (cells : List Place) (table : List (ℕ → slots.Slot)) (uids : List (
       at (Some s) = given_is s.origin
 
   -- and their rights and states
-  module _ (rights : List (ℕ → Right)) (page_runs : List PageRun) (reads : List ReadRange) where
+  module _ (rights : List (ℕ → Right)) (page_runs : List PageRun) (reads : List Range) where
     pub rights-given : (p : ℕ) → changed_rights cells rights i page_runs reads p
         ≡ shown_right (given_or old (Page p) (old i (Page p)) (origin_at page_runs p)) (have_page reads p) (gift_right (rights_of rights) p (rights_of rights i p) (gift_at page_runs p))
     unfolding changed_rights
@@ -79,7 +79,7 @@ module _ (cells : List Place) (table : List (ℕ → slots.Slot)) (uids : List (
         each Cred = refl
 
   -- the states of pages by page runs
-  pub states-given : (rights : List (ℕ → Right)) (page_runs : ArrayVec PageRun) (reads : ArrayVec ReadRange) →
+  pub states-given : (rights : List (ℕ → Right)) (page_runs : ArrayVec PageRun) (reads : ArrayVec Range) →
       changed_states cells rights i page_runs.items reads.items ≡ with_states old (rights_of rights) i (PageRuns page_runs reads)
   states-given rights page_runs reads = λ e p. state_of (kind_of (page_runs-given page_runs.items p e)) (rights-given rights page_runs.items reads.items p e)
 

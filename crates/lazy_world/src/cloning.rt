@@ -45,17 +45,13 @@ fn item_run(item: &Item, from: usize) -> Option<PageRun>
     ensures inside { IfSome result (λ s. s.range.to ≤ MOST_PAGES) }
     ensures gift { IfSome result (λ s. Some (gift_of s) ≡ item_gift from (Some item.now.mode)) }
 {
-    let origin = match (item.kind, item.mode) {
-        (Kind::Page, Mode::Share) => Origin::CopyOf(from),
-        (Kind::Page, Mode::Unmap) => Origin::Absent,
-        (Kind::Page, Mode::Copy | Mode::CopyRead) | (Kind::Slot | Kind::Cred, _) => return None,
-    };
-    let range = Range {
-        from: item.from as u16,
-        to: item.to as u16,
+    let origin = match item.mode {
+        Mode::Share => Origin::CopyOf(from),
+        Mode::Unmap => Origin::Absent,
+        Mode::Copy | Mode::CopyRead => return None,
     };
     Some(PageRun {
-        range,
+        range: item.pages()?,
         origin,
         right: None,
     })

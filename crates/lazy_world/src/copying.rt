@@ -68,7 +68,7 @@ impl Places {
         ensures all { HasOwnPages (rows self.now i) → result ≡ true }
     {
         let mut p = 0u16;
-        'pages: while u32::from(p) < MOST_PAGES {
+        'pages: while p < MOST_PAGES {
             if let Some(SegmentKind::Common(_)) = self.kind(i, p) {
                 return false;
             }

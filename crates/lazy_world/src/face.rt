@@ -1,7 +1,10 @@
 use crate::lazy::{LazyWorld, set_cached_roots};
 use crate::world::PlacedWorld;
 use arrayvec::ArrayVec;
-use lwc_base::{Lent, Name, OutOfMemory, Range, Regs, Spec, StoreFault, Summary, WorldSize};
+use lwc_base::{
+    Lent, Name, OutOfMemory, PageNumber, Range, Regs, SlotNumber, Spec, StoreFault, Summary,
+    WorldSize,
+};
 use std::alloc::Global;
 use std::marker::Brand;
 use std::sync::ledger::Blank;
@@ -29,7 +32,7 @@ impl World for LazyWorld {
         })
     }
 
-    fn pages(&self) -> u32 {
+    fn pages(&self) -> PageNumber {
         self.world.pages()
     }
 
@@ -61,11 +64,11 @@ impl World for LazyWorld {
         self.world.store(c, at, piece, job)
     }
 
-    fn slot(&self, c: Name, n: u8) -> Lent<'_> {
+    fn slot(&self, c: Name, n: SlotNumber) -> Lent<'_> {
         self.world.slot(c, n)
     }
 
-    fn set_slot(&mut self, c: Name, n: u8, value: Lent<'_>) {
+    fn set_slot(&mut self, c: Name, n: SlotNumber, value: Lent<'_>) {
         let i = self.world.place(c);
         // What the old descriptor is of may have lost its only link.
         let cut = self.world.linked(i, n);
@@ -73,7 +76,7 @@ impl World for LazyWorld {
         self.world.set_slot(c, i, n, value);
     }
 
-    fn dup_slot(&mut self, c: Name, from: u8, to: u8) {
+    fn dup_slot(&mut self, c: Name, from: SlotNumber, to: SlotNumber) {
         let i = self.world.place(c);
         // As in `set_slot`.
         let lost = self.world.linked(i, to);
@@ -81,7 +84,7 @@ impl World for LazyWorld {
         self.world.dup_slot(c, i, from, to);
     }
 
-    fn lowest_empty(&self, c: Name) -> Option<u8> {
+    fn lowest_empty(&self, c: Name) -> Option<SlotNumber> {
         self.world.lowest_empty(c)
     }
 

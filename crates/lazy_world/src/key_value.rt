@@ -1,8 +1,8 @@
-use lwc_base::Lent;
+use lwc_base::{Lent, SlotNumber};
 
 /// A key that is no page, and a value that is put under it.
 #[derive(Clone, Copy)]
 pub enum KeyValue<'a> {
-    Slot(u8, Lent<'a>),
+    Slot(SlotNumber, Lent<'a>),
     Cred(u32),
 }

@@ -23,7 +23,6 @@ pub mod reaping;
 pub mod registers;
 pub mod sharing;
 pub mod store;
-pub mod touched;
 pub mod transfer;
 pub mod world;
 pub mod writes;

@@ -16,7 +16,7 @@ ghost use Rattle.lazy_world.specs.Worlds.{parts, seen};
 
 use crate::world::PlacedWorld;
 use fd_table::lowest_bit;
-use lwc_base::{Lent, Name};
+use lwc_base::{Lent, Name, SlotNumber};
 
 /// The garbage among some contexts, which is what no root reaches, as far as that is seen without a search.
 #[derive(Clone, Copy, Debug, PartialEq, Eq)]
@@ -38,7 +38,7 @@ fn is_among(names: &[Name], c: Name) -> bool
 
 impl PlacedWorld {
     /// The context that a slot of the context at a place has a descriptor of, if it has one.
-    pub(crate) fn linked(&self, i: usize, n: u8) -> Option<Name>
+    pub(crate) fn linked(&self, i: usize, n: SlotNumber) -> Option<Name>
         requires place { i < count self.now.places }
         requires slot { n < SLOTS }
         ensures { result ≡ context_of (value_of (seen self.now) (Slot n) (rows self.now.places i (Slot n))) }
@@ -121,7 +121,7 @@ impl PlacedWorld {
 
     /// Whether what a slot of the context at a place links to is near the roots, if it links to a context. It
     /// looks first whether the slot is one that a root shares.
-    fn has_near(&self, roots: &[Name], first: Option<usize>, i: usize, n: u8) -> bool
+    fn has_near(&self, roots: &[Name], first: Option<usize>, i: usize, n: SlotNumber) -> bool
         requires live { All (λ root. IsLive (seen self.now) root) roots.now }
         requires first { IfSome first (HasRoot (parts self.now) roots.now) }
         requires first_inside { IfSome first (λ j. j < count self.now.places) }

@@ -13,12 +13,12 @@ ghost use Rattle.lazy_world.specs.Worlds.{parts};
 
 use crate::places::Places;
 use crate::world::PlacedWorld;
-use lwc_base::{Cell, Name, SLOTS};
+use lwc_base::{Cell, Name, PageNumber, SLOTS, SlotNumber};
 use range_map::SegmentKind;
 
 impl Places {
     /// The group that a page of a place is common of, if it is.
-    fn page_group(&self, i: usize, p: u16) -> Option<Name>
+    fn page_group(&self, i: usize, p: PageNumber) -> Option<Name>
         requires { i < count self.now }
         ensures { result ≡ group_in (rows self.now i (Page p)) }
     {
@@ -29,7 +29,7 @@ impl Places {
     }
 
     /// The group that a slot of a place is common of, if it is.
-    fn slot_group(&self, i: usize, n: u8) -> Option<Name>
+    fn slot_group(&self, i: usize, n: SlotNumber) -> Option<Name>
         requires place { i < count self.now }
         requires slot { n < SLOTS }
         ensures { result ≡ group_in (rows self.now i (Slot n)) }
@@ -114,7 +114,7 @@ impl PlacedWorld {
             (range_with_len 0 self.now.size.pages))
             marks.old marks.new }
     {
-        let pages = self.pages() as u16;
+        let pages = self.pages();
         let mut p = 0u16;
         'runs: while p < pages {
             self.mark_group(self.places.page_group(i, p), marks);

@@ -8,9 +8,8 @@ ghost use Rattle.cow_space.specs.Maps.{data_of};
 ghost use Rattle.lazy_world.specs.Memory.{byte_in, holder, page_in};
 ghost use Rattle.lazy_world.specs.Seen.{count, rows};
 
-use crate::touched::{Touched, touched_pages};
 use crate::world::PlacedWorld;
-use lwc_base::{Name, PAGE_BYTES};
+use lwc_base::{Name, PAGE_BYTES, PageNumber, Range, touched_pages};
 use range_map::SegmentKind;
 
 /// The byte at an offset of a page that has these bytes; 0 of one without bytes.
@@ -32,7 +31,7 @@ impl PlacedWorld {
 
     /// The place that has what is under a page of the context at a place: that place itself, or the place of
     /// the group that the page is common of. `None` if the page is absent, or that group is not live.
-    pub(crate) fn holder(&self, i: usize, p: u16) -> Option<usize>
+    pub(crate) fn holder(&self, i: usize, p: PageNumber) -> Option<usize>
         requires { i < count self.now.places }
         ensures place { result ≡ holder (parts self.now) i p }
         ensures inside { IfSome result (λ j. j < count self.now.places) }
@@ -48,7 +47,7 @@ impl PlacedWorld {
     }
 
     /// The bytes of a page of the context at a place. A page that is absent or zeros has none.
-    fn page_bytes(&self, i: usize, p: u16) -> Option<&[u8]>
+    fn page_bytes(&self, i: usize, p: PageNumber) -> Option<&[u8]>
         requires place { i < count self.now.places }
         requires page { p < MOST_PAGES }
         ensures { option_copied result ≡ data_of (page_in (seen self.now) (rows self.now.places i) p) }
@@ -71,7 +70,7 @@ impl PlacedWorld {
         for (k, byte) in out.iter_mut().enumerate() {
             let address = at + k;
             if k == 0 || address % PAGE_BYTES == 0 {
-                page = self.page_bytes(i, (address / PAGE_BYTES) as u16);
+                page = self.page_bytes(i, (address / PAGE_BYTES) as PageNumber);
             }
             *byte = byte_of(page, address % PAGE_BYTES);
         }
@@ -90,13 +89,13 @@ impl PlacedWorld {
         ensures same { result ≡ false → out.new ≡ out.old }
     {
         let pages = touched_pages(at, out.len());
-        if pages.end - pages.first != 1 {
+        if pages.to - pages.from != 1 {
             return false;
         }
-        match self.places.kind(i, pages.first) {
+        match self.places.kind(i, pages.from) {
             Some(SegmentKind::Own) => {
                 let from = at % PAGE_BYTES;
-                match self.places.bytes(i, pages.first) {
+                match self.places.bytes(i, pages.from) {
                     Some(bytes) => out.copy_from_slice(&bytes[from..from + out.len()]),
                     None => out.fill(0),
                 }
@@ -107,12 +106,12 @@ impl PlacedWorld {
     }
 
     /// Whether all of some pages of the context at a place are present.
-    pub(crate) fn are_present(&self, i: usize, pages: Touched) -> bool
+    pub(crate) fn are_present(&self, i: usize, pages: Range) -> bool
         requires { i < count self.now.places }
         ensures { result ≡ list_all (λ p. is_some (page_in (seen self.now) (rows self.now.places i) p))
-            (range_with_len pages.first (pages.end - pages.first)) }
+            (range_with_len pages.from (pages.to - pages.from)) }
     {
-        (pages.first..pages.end).all(|p| self.is_present(i, p))
+        (pages.from..pages.to).all(|p| self.is_present(i, p))
     }
 
     /// Reads `out.len()` bytes of the context's memory from the address `at` on into `out`. Answers

@@ -1,7 +1,7 @@
 use crate::places::Places;
 use arrayvec::ArrayVec;
-use cow_space::{Origin, PageRun, ReadRange};
-use lwc_base::{Cell, Lent, MOST_ITEMS, MOST_PAGE_RUNS, NOBODY, SLOTS};
+use cow_space::{Origin, PageRun};
+use lwc_base::{Cell, Lent, MOST_ITEMS, MOST_PAGE_RUNS, NOBODY, Range, SLOTS, SlotNumber};
 use pool_base::Steps;
 use std::sync::ledger::Ledger;
 
@@ -10,7 +10,7 @@ use std::sync::ledger::Ledger;
 #[derive(Drop)]
 pub enum PageOrigins {
     AllOf(usize),
-    PageRuns(ArrayVec<PageRun, MOST_PAGE_RUNS>, ArrayVec<ReadRange, MOST_ITEMS>),
+    PageRuns(ArrayVec<PageRun, MOST_PAGE_RUNS>, ArrayVec<Range, MOST_ITEMS>),
 }
 
 /// Where a place gets its cells: its pages, each of its slots, and its credential. Those without an origin
@@ -70,7 +70,7 @@ impl Places {
         &mut self,
         i: usize,
         page_runs: &ArrayVec<PageRun, MOST_PAGE_RUNS>,
-        reads: &ArrayVec<ReadRange, MOST_ITEMS>,
+        reads: &ArrayVec<Range, MOST_ITEMS>,
         steps: &mut Steps<L>,
     )
         requires place { i < count self.old }
@@ -130,7 +130,7 @@ impl Places {
     }
 
     /// Makes slot n of a place what slot m of a place is.
-    pub(crate) fn copy_slot(&mut self, i: usize, n: u8, j: usize, m: u8)
+    pub(crate) fn copy_slot(&mut self, i: usize, n: SlotNumber, j: usize, m: SlotNumber)
         requires place { i < count self.old }
         requires slot { n < SLOTS }
         requires origin { j < count self.old }
@@ -145,7 +145,7 @@ impl Places {
     }
 
     /// Makes a slot of a place what an origin gives.
-    fn fill_slot(&mut self, i: usize, n: u8, origin: Origin)
+    fn fill_slot(&mut self, i: usize, n: SlotNumber, origin: Origin)
         requires place { i < count self.old }
         requires slot { n < SLOTS }
         requires given { CanGet (count self.old) i (Some origin) }
@@ -164,7 +164,7 @@ impl Places {
     }
 
     /// Makes a slot of a place what its origin says, if it has one.
-    fn take_slot(&mut self, i: usize, n: u8, origin: Option<Origin>)
+    fn take_slot(&mut self, i: usize, n: SlotNumber, origin: Option<Origin>)
         requires place { i < count self.old }
         requires slot { n < SLOTS }
         requires given { CanGet (count self.old) i origin }

@@ -11,7 +11,7 @@ ghost use Rattle.lazy_world.specs.Kept.{IsKept, number_of};
 use crate::key_value::KeyValue;
 use cow_space::PageCells;
 use fd_table::{NUMBERS, Slots};
-use lwc_base::{Cell, Lent, NOBODY, Name, OutOfMemory, Right};
+use lwc_base::{Cell, Lent, NOBODY, Name, OutOfMemory, PageNumber, Right, SlotNumber};
 use range_map::{PageState, Segment, SegmentKind};
 use std::alloc::Global;
 
@@ -84,7 +84,7 @@ impl Places {
     }
 
     /// The kind of a page of a place; `None` where it is absent.
-    pub fn kind(&self, i: usize, p: u16) -> Option<SegmentKind>
+    pub fn kind(&self, i: usize, p: PageNumber) -> Option<SegmentKind>
         requires { i < count self.now }
         ensures { result ≡ kind_of (rows self.now i (Page p)) }
     {
@@ -92,7 +92,7 @@ impl Places {
     }
 
     /// The right of a page of a place; `Write` where it is absent.
-    pub fn right(&self, i: usize, p: u16) -> Right
+    pub fn right(&self, i: usize, p: PageNumber) -> Right
         requires { i < count self.now }
         ensures { result ≡ rights self.now i p }
     {
@@ -100,7 +100,7 @@ impl Places {
     }
 
     /// The kind and the right of a page of a place; `None` where it is absent.
-    pub fn state(&self, i: usize, p: u16) -> Option<PageState>
+    pub fn state(&self, i: usize, p: PageNumber) -> Option<PageState>
         requires { i < count self.now }
         ensures { result ≡ states_of (rows self.now i) (rights self.now i) p }
     {
@@ -109,7 +109,7 @@ impl Places {
 
     /// The first page of a place after one that has another kind or another right, or the end of all pages.
     /// There are at most 64 ranges, so that a walk from edge to edge is short.
-    pub fn next_edge(&self, i: usize, p: u16) -> u16
+    pub fn next_edge(&self, i: usize, p: PageNumber) -> PageNumber
         requires place { i < count self.now }
         requires page { p < MOST_PAGES }
         ensures past { p < result }
@@ -138,7 +138,7 @@ impl Places {
     }
 
     /// The bytes of a page that is the place's own. A page that is absent, common or zeros has none.
-    pub fn bytes(&self, i: usize, p: u16) -> Option<&[u8]>
+    pub fn bytes(&self, i: usize, p: PageNumber) -> Option<&[u8]>
         requires place { i < count self.now }
         requires page { p < MOST_PAGES }
         ensures value { option_copied result ≡ data_of (own_value (rows self.now i (Page p))) }
@@ -148,7 +148,7 @@ impl Places {
     }
 
     /// The cell of a slot of a place, lent.
-    pub fn slot(&self, i: usize, n: u8) -> Cell<Lent<'_>>
+    pub fn slot(&self, i: usize, n: SlotNumber) -> Cell<Lent<'_>>
         requires place { i < count self.now }
         requires slot { n < SLOTS }
         ensures { cell_of result ≡ rows self.now i (Slot n) }
@@ -176,7 +176,7 @@ impl Places {
     }
 
     /// The context that a slot of a place's own has a descriptor of, if it has one.
-    pub fn context(&self, i: usize, n: u8) -> Option<Name>
+    pub fn context(&self, i: usize, n: SlotNumber) -> Option<Name>
         requires place { i < count self.now }
         requires slot { n < SLOTS }
         ensures { result ≡ context_in (rows self.now i (Slot n)) }
@@ -193,7 +193,7 @@ impl Places {
     }
 
     /// Whether a slot of a place is common.
-    pub fn is_common(&self, i: usize, n: u8) -> bool
+    pub fn is_common(&self, i: usize, n: SlotNumber) -> bool
         requires place { i < count self.now }
         requires slot { n < SLOTS }
         ensures { result ≡ is_common (rows self.now i (Slot n)) }
@@ -202,7 +202,7 @@ impl Places {
     }
 
     /// Whether two slots of a place are both its own.
-    pub fn are_own(&self, i: usize, n: u8, m: u8) -> bool
+    pub fn are_own(&self, i: usize, n: SlotNumber, m: SlotNumber) -> bool
         requires place { i < count self.now }
         requires slot { n < SLOTS }
         requires other { m < SLOTS }
@@ -221,7 +221,7 @@ impl Places {
     }
 
     /// Whether two places share a slot. Slots that are not shared may be the same, too.
-    pub fn is_shared(&self, i: usize, j: usize, n: u8) -> bool
+    pub fn is_shared(&self, i: usize, j: usize, n: SlotNumber) -> bool
         requires place { i < count self.now }
         requires other { j < count self.now }
         requires slot { n < SLOTS }
@@ -231,7 +231,7 @@ impl Places {
     }
 
     /// Whether a slot of a place is more than an empty slot of its own.
-    pub fn is_filled(&self, i: usize, n: u8) -> bool
+    pub fn is_filled(&self, i: usize, n: SlotNumber) -> bool
         requires place { i < count self.now }
         requires slot { n < SLOTS }
         ensures { result ≡ is_filled (rows self.now i (Slot n)) }
@@ -247,7 +247,7 @@ impl Places {
     }
 
     /// Puts another cell into a slot of a place.
-    pub fn put_slot(&mut self, i: usize, n: u8, cell: Cell<Lent<'_>>)
+    pub fn put_slot(&mut self, i: usize, n: SlotNumber, cell: Cell<Lent<'_>>)
         requires place { i < count self.old }
         requires slot { n < SLOTS }
         ensures rows { rows self.new

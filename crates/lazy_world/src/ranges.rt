@@ -15,12 +15,15 @@ use crate::transfer::{Found, Transfer};
 use crate::world::PlacedWorld;
 use arrayvec::ArrayVec;
 use cow_space::{Origin, PageRun};
-use lwc_base::{Cell, Item, Key, Kind, MOST_PAGE_RUNS, MOST_PAGES, Range, Right, SLOTS, Spec};
+use lwc_base::{
+    Cell, Item, Key, Kind, MOST_PAGE_RUNS, MOST_PAGES, PageNumber, Range, Right, SLOTS, SlotNumber,
+    Spec,
+};
 use range_map::{PageState, SegmentKind, sooner_edge};
 use res_spec::mode_of;
 
 /// Where an item of pages first begins or ends past a page, if that is before the edge.
-fn item_edge(item: &Item, p: u16, edge: u16) -> u16
+fn item_edge(item: &Item, p: PageNumber, edge: PageNumber) -> PageNumber
     requires item { IsItem MOST_PAGES item.now }
     requires page { p < edge }
     ensures past { p < result }
@@ -28,15 +31,15 @@ fn item_edge(item: &Item, p: u16, edge: u16) -> u16
     ensures alike { (q : ℕ) → p ≤ q → q < result → names item.now (Page q) ≡ names item.now (Page p) }
     ensures one { result < edge → (result ≡ item.now.from) ⊎ (result ≡ item.now.to) }
 {
-    match item.kind {
-        Kind::Page => sooner_edge(item.from as u16, item.to as u16, p, edge),
-        _ => edge,
+    match item.pages() {
+        Some(range) => sooner_edge(range.from, range.to, p, edge),
+        None => edge,
     }
 }
 
 /// Where an item of pages first begins or ends past a page, if that is before the edge; else the edge. Up to
 /// there the pages have the mode of this one.
-pub(crate) fn mode_edge(spec: &Spec, p: u16, edge: u16) -> u16
+pub(crate) fn mode_edge(spec: &Spec, p: PageNumber, edge: PageNumber) -> PageNumber
     requires { p < edge }
     ensures past { p < result }
     ensures within { result ≤ edge }
@@ -122,7 +125,7 @@ impl PlacedWorld {
 
     /// What is found at a page of a place, and the first later page of another state, or the end of all
     /// pages.
-    pub(crate) fn found_page(&self, i: usize, p: u16) -> (Found, u16)
+    pub(crate) fn found_page(&self, i: usize, p: PageNumber) -> (Found, PageNumber)
         requires place { i < count self.now.places }
         requires page { p < MOST_PAGES }
         ensures past { p < result.1 }
@@ -153,8 +156,8 @@ impl PlacedWorld {
         spec: &Spec,
         from: usize,
         to: usize,
-        p: u16,
-    ) -> (Option<PageRun>, u16)
+        p: PageNumber,
+    ) -> (Option<PageRun>, PageNumber)
         requires from { from < count self.now.places }
         requires transfer { IsFor (parts self.now).size.contexts from to transfer }
         requires page { p < MOST_PAGES }
@@ -217,7 +220,7 @@ impl PlacedWorld {
     {
         let mut page_runs = ArrayVec::new();
         let mut p = 0u16;
-        'pages: while u32::from(p) < MOST_PAGES {
+        'pages: while p < MOST_PAGES {
             let (page_run, end) = self.run_from_page(transfer, spec, from, to, p);
             if let Some(page_run) = page_run {
                 page_runs.push(page_run);
@@ -228,7 +231,7 @@ impl PlacedWorld {
     }
 
     /// What is found in a slot of a place.
-    pub(crate) fn found_slot(&self, i: usize, n: u8) -> Found
+    pub(crate) fn found_slot(&self, i: usize, n: SlotNumber) -> Found
         requires place { i < count self.now.places }
         requires slot { n < SLOTS }
         ensures { IsFound (seen self.now) (parts self.now).size.contexts (count self.now.places)
@@ -253,7 +256,7 @@ impl PlacedWorld {
         spec: &Spec,
         from: usize,
         to: usize,
-        n: u8,
+        n: SlotNumber,
     ) -> Option<Origin>
         requires from { from < count self.now.places }
         requires transfer { IsFor (parts self.now).size.contexts from to transfer }

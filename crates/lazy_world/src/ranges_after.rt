@@ -15,8 +15,8 @@ use crate::places::Places;
 use crate::transfer::Transfer;
 use crate::world::PlacedWorld;
 use arrayvec::ArrayVec;
-use cow_space::{PageRun, ReadRange};
-use lwc_base::{MOST_ITEMS, MOST_PAGE_RUNS, Name, Spec};
+use cow_space::PageRun;
+use lwc_base::{MOST_ITEMS, MOST_PAGE_RUNS, Name, Range, Spec};
 
 impl Places {
     /// The number of ranges of a place.
@@ -33,7 +33,7 @@ impl Places {
         &self,
         i: usize,
         page_runs: &ArrayVec<PageRun, MOST_PAGE_RUNS>,
-        reads: &ArrayVec<ReadRange, MOST_ITEMS>,
+        reads: &ArrayVec<Range, MOST_ITEMS>,
     ) -> u32
         requires place { i < count self.now }
         requires given { All (IsPageRun (count self.now) i) page_runs.now.items }

@@ -7,7 +7,7 @@ ghost use Rattle.lwc_base.specs.declared.limits.TheConstants.{MOST_PAGES, MOST_T
 
 use crate::world::PlacedWorld;
 use fd_table::lowest_bit;
-use lwc_base::{Cell, Lent, NOBODY, Name, Regs, SLOTS, Summary};
+use lwc_base::{Cell, Lent, NOBODY, Name, PageNumber, Regs, SLOTS, SlotNumber, Summary};
 use range_map::SegmentKind;
 
 impl PlacedWorld {
@@ -26,7 +26,7 @@ impl PlacedWorld {
 
     /// The number of pages of each context.
     #[tactic(auto, unfolding(crate::specs::Worlds::seen, crate::specs::Worlds::parts, crate::specs::States::world_of))]
-    pub(crate) fn pages(&self) -> u32
+    pub(crate) fn pages(&self) -> PageNumber
         ensures pages { result ≡ (seen self.now).size.pages }
         ensures few { (seen self.now).size.pages ≤ MOST_PAGES }
     {
@@ -63,7 +63,7 @@ impl PlacedWorld {
     }
 
     /// The value of a group's slot, lent.
-    fn group_slot(&self, g: Name, n: u8) -> Lent<'_>
+    fn group_slot(&self, g: Name, n: SlotNumber) -> Lent<'_>
         requires { n < SLOTS }
         ensures { descriptor_of result ≡ (group (seen self.now) g).value (Slot n) }
     {
@@ -77,7 +77,7 @@ impl PlacedWorld {
     }
 
     /// The descriptor in a slot of the context at a place, lent.
-    pub(crate) fn slot_at(&self, i: usize, n: u8) -> Lent<'_>
+    pub(crate) fn slot_at(&self, i: usize, n: SlotNumber) -> Lent<'_>
         requires place { i < count self.now.places }
         requires slot { n < SLOTS }
         ensures { descriptor_of result ≡ value_of (seen self.now) (Slot n) (rows self.now.places i (Slot n)) }
@@ -89,7 +89,7 @@ impl PlacedWorld {
     }
 
     /// The descriptor in a slot of the context, lent.
-    pub(crate) fn slot(&self, c: Name, n: u8) -> Lent<'_>
+    pub(crate) fn slot(&self, c: Name, n: SlotNumber) -> Lent<'_>
         requires live { IsLive (seen self.now) c }
         requires within { n < SLOTS }
         ensures value { descriptor_of result ≡ slot_at (seen self.now) c n }
@@ -98,7 +98,7 @@ impl PlacedWorld {
     }
 
     /// Whether a slot of the context at a place is empty.
-    fn is_slot_empty(&self, i: usize, n: u8) -> bool
+    fn is_slot_empty(&self, i: usize, n: SlotNumber) -> bool
         requires place { i < count self.now.places }
         requires slot { n < SLOTS }
         ensures { result ≡ is_empty (value_of (seen self.now) (Slot n) (rows self.now.places i (Slot n))) }
@@ -123,7 +123,7 @@ impl PlacedWorld {
     }
 
     /// The lowest empty slot of the context at a place.
-    fn lowest_empty_at(&self, i: usize) -> Option<u8>
+    fn lowest_empty_at(&self, i: usize) -> Option<SlotNumber>
         requires { i < count self.now.places }
         ensures { result
             ≡ find (λ n. is_empty (value_of (seen self.now) (Slot n) (rows self.now.places i (Slot n))))
@@ -141,7 +141,7 @@ impl PlacedWorld {
     }
 
     /// The lowest empty slot of the context; `None` if no slot is empty.
-    pub(crate) fn lowest_empty(&self, c: Name) -> Option<u8>
+    pub(crate) fn lowest_empty(&self, c: Name) -> Option<SlotNumber>
         requires { IsLive (seen self.now) c }
         ensures { result ≡ lowest_empty (seen self.now) c }
     {
@@ -173,7 +173,7 @@ impl PlacedWorld {
     }
 
     /// Whether a page of a group is present.
-    fn has_group_page(&self, g: Name, p: u16) -> bool
+    fn has_group_page(&self, g: Name, p: PageNumber) -> bool
         ensures { result ≡ is_some ((group (seen self.now) g).value (Page p)) }
     {
         match self.group_place(g) {
@@ -183,7 +183,7 @@ impl PlacedWorld {
     }
 
     /// Whether a page of the context at a place is present.
-    pub(crate) fn is_present(&self, i: usize, p: u16) -> bool
+    pub(crate) fn is_present(&self, i: usize, p: PageNumber) -> bool
         requires { i < count self.now.places }
         ensures { result ≡ is_some (value_of (seen self.now) (Page p) (rows self.now.places i (Page p))) }
     {
@@ -203,9 +203,7 @@ impl PlacedWorld {
             (range_with_len 0 (seen self.now).size.pages) }
         ensures few { result < 2 ^ 32 }
     {
-        (0..self.pages() as u16)
-            .filter(|p| self.is_present(i, *p))
-            .count()
+        (0..self.pages()).filter(|p| self.is_present(i, *p)).count()
     }
 
     /// The number of slots of the context at a place that are not empty.

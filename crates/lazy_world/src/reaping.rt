@@ -8,7 +8,7 @@ ghost use Rattle.lazy_world.specs.Worlds.{seen};
 
 use crate::world::PlacedWorld;
 use arrayvec::ArrayVec;
-use lwc_base::Name;
+use lwc_base::{Name, SlotNumber};
 use reach::{Links, Marks, mark};
 
 /// The places are those of contexts.
@@ -17,7 +17,7 @@ impl Links for PlacedWorld {
 
     ghost link_of = { spec.link_of };
 
-    fn link(&self, place: usize, slot: u8) -> Option<usize> {
+    fn link(&self, place: usize, slot: SlotNumber) -> Option<usize> {
         self.contexts.at(place)?;
         if !self.places.is_filled(place, slot) {
             return None;

@@ -39,7 +39,7 @@ impl PlacedWorld {
             → moves spec.now (Page p) (rows self.now.places i) ≡ false }
     {
         let mut p = 0u16;
-        'pages: while u32::from(p) < MOST_PAGES {
+        'pages: while p < MOST_PAGES {
             let (found, edge) = self.found_page(i, p);
             if found.moves(mode_of(spec, Key::Page(p))) {
                 return true;

@@ -16,9 +16,8 @@ ghost use Rattle.lazy_world.specs.Seen.{count, frame_count, pages, rights, rows}
 
 use crate::counts::Counts;
 use crate::places::Places;
-use crate::touched::{Touched, touched_pages};
 use crate::world::PlacedWorld;
-use lwc_base::{Name, Right, StoreFault, Tag};
+use lwc_base::{Name, PageNumber, Range, Right, StoreFault, Tag, touched_pages};
 use pool_base::Steps;
 use range_map::SegmentKind;
 use std::marker::Brand;
@@ -37,7 +36,7 @@ impl Places {
     /// Whether a page of a place parts when it is written: it has no bytes of its own, or its tag is at
     /// another page too.
     #[tactic(auto, unfolding(crate::specs::Seen::pages, crate::specs::Seen::count))]
-    pub fn is_parting(&self, i: usize, p: u16) -> bool
+    pub fn is_parting(&self, i: usize, p: PageNumber) -> bool
         requires { i < count self.now }
         ensures { result ≡ places.is_parting (pages self.now) i p }
     {
@@ -52,7 +51,7 @@ impl Places {
     /// part, and tells whether it did. If it did not, nothing changes.
     #[inline(always)]
     #[tactic(auto, unfolding(crate::specs::Seen::pages, crate::specs::Seen::count, crate::specs::Seen::frame_count))]
-    pub fn write_in_place(&mut self, i: usize, p: u16, at: u32, piece: &[u8]) -> bool
+    pub fn write_in_place(&mut self, i: usize, p: PageNumber, at: u32, piece: &[u8]) -> bool
         requires { i < count self.old }
         ensures own { result ≡ true → IsOwnPage (place_of (pages self.old) i p) }
         ensures may { result ≡ true → rights self.old i p ≡ Write }
@@ -76,7 +75,7 @@ impl Places {
     fn write_counted<L: Ledger>(
         &mut self,
         i: usize,
-        p: u16,
+        p: PageNumber,
         at: u32,
         piece: &[u8],
         tag: Tag,
@@ -109,7 +108,7 @@ impl Places {
 
     /// Writes what a piece has of a page that is the place's own, under a new tag if the page parts, and
     /// tells whether it did.
-    pub fn write(&mut self, i: usize, p: u16, at: u32, piece: &[u8], tag: Tag) -> bool
+    pub fn write(&mut self, i: usize, p: PageNumber, at: u32, piece: &[u8], tag: Tag) -> bool
         requires place { i < count self.old }
         requires own { IsOwnPage (place_of (pages self.old) i p) }
         requires new { places.IsNewTag (pages self.old) tag }
@@ -151,7 +150,7 @@ impl PlacedWorld {
 
     /// Whether a page of the context at a place parts when it is stored to. An absent page reads as zeros,
     /// which part.
-    fn is_parting(&self, i: usize, p: u16) -> bool
+    fn is_parting(&self, i: usize, p: PageNumber) -> bool
         requires { i < count self.now.places }
         ensures { result ≡ is_parting (seen self.now)
             (unwrap_or (page_in (seen self.now) (rows self.now.places i) p) Zero) }
@@ -164,14 +163,14 @@ impl PlacedWorld {
 
     /// The number of pages that a store to some pages of the context at a place parts.
     #[tactic(auto, using(lwc_base::proofs::Small::count_of_range))]
-    fn parting_count(&self, i: usize, pages: Touched) -> usize
+    fn parting_count(&self, i: usize, pages: Range) -> usize
         requires { i < count self.now.places }
         ensures parting { result ≡ count_by (λ p. is_parting (seen self.now)
             (unwrap_or (page_in (seen self.now) (rows self.now.places i) p) Zero))
-            (range_with_len pages.first (pages.end - pages.first)) }
-        ensures few { result ≤ pages.end - pages.first }
+            (range_with_len pages.from (pages.to - pages.from)) }
+        ensures few { result ≤ pages.to - pages.from }
     {
-        (pages.first..pages.end)
+        (pages.from..pages.to)
             .filter(|p| self.is_parting(i, *p))
             .count()
     }
@@ -179,26 +178,26 @@ impl PlacedWorld {
     /// Whether the frames in use and the pages that a store to some pages of the context at a place parts
     /// are more than the frames. These pages are looked at only where all of them could not part.
     #[tactic(auto, using(lwc_base::proofs::Small::count_of_range))]
-    fn lacks_frames(&self, i: usize, pages: Touched) -> bool
+    fn lacks_frames(&self, i: usize, pages: Range) -> bool
         requires place { i < count self.now.places }
-        requires order { pages.first ≤ pages.end }
+        requires order { pages.from ≤ pages.to }
         ensures lacking { result ≡ true → (seen self.now).size.frames < used (seen self.now)
             + count_by (λ p. is_parting (seen self.now)
             (unwrap_or (page_in (seen self.now) (rows self.now.places i) p) Zero))
-            (range_with_len pages.first (pages.end - pages.first)) }
+            (range_with_len pages.from (pages.to - pages.from)) }
         ensures enough { result ≡ false → used (seen self.now)
             + count_by (λ p. is_parting (seen self.now)
             (unwrap_or (page_in (seen self.now) (rows self.now.places i) p) Zero))
-            (range_with_len pages.first (pages.end - pages.first)) ≤ (seen self.now).size.frames }
+            (range_with_len pages.from (pages.to - pages.from)) ≤ (seen self.now).size.frames }
     {
         let used = self.used() as usize;
         let frames = self.size.frames as usize;
-        let most = (pages.end - pages.first) as usize;
+        let most = (pages.to - pages.from) as usize;
         frames < used + most && frames < used + self.parting_count(i, pages)
     }
 
     /// Whether bytes may be stored to a page of the context at a place.
-    fn is_writable(&self, i: usize, p: u16) -> bool
+    fn is_writable(&self, i: usize, p: PageNumber) -> bool
         requires { i < count self.now.places }
         ensures { result ≡ may_write (rights self.now.places i p) }
     {
@@ -209,16 +208,16 @@ impl PlacedWorld {
     }
 
     /// Whether bytes may be stored to each of some pages of the context at a place.
-    fn are_writable(&self, i: usize, pages: Touched) -> bool
+    fn are_writable(&self, i: usize, pages: Range) -> bool
         requires { i < count self.now.places }
         ensures { result ≡ list_all (λ p. may_write (rights self.now.places i p))
-            (range_with_len pages.first (pages.end - pages.first)) }
+            (range_with_len pages.from (pages.to - pages.from)) }
     {
-        (pages.first..pages.end).all(|p| self.is_writable(i, p))
+        (pages.from..pages.to).all(|p| self.is_writable(i, p))
     }
 
     /// Writes what a piece has of a present page of the context, under the job's next tag if the page parts.
-    fn write_page(&mut self, c: Name, p: u16, at: u32, piece: &[u8], job: u32)
+    fn write_page(&mut self, c: Name, p: PageNumber, at: u32, piece: &[u8], job: u32)
         requires live { IsLive (seen self.old) c }
         requires there { is_some (page_at (seen self.old) c p) ≡ true }
         requires known { job < (seen self.old).size.jobs }
@@ -246,20 +245,20 @@ impl PlacedWorld {
     }
 
     /// Writes a piece to present pages of the context, under the job's next tags.
-    fn write_pages(&mut self, c: Name, pages: Touched, at: u32, piece: &[u8], job: u32)
+    fn write_pages(&mut self, c: Name, pages: Range, at: u32, piece: &[u8], job: u32)
         requires live { IsLive (seen self.old) c }
-        requires order { pages.first ≤ pages.end }
+        requires order { pages.from ≤ pages.to }
         requires there { list_all (λ p. is_some (page_at (seen self.old) c p))
-            (range_with_len pages.first (pages.end - pages.first)) ≡ true }
+            (range_with_len pages.from (pages.to - pages.from)) ≡ true }
         requires known { job < (seen self.old).size.jobs }
         requires few { ((seen self.old).next job).tags < 2 ^ 31 }
         requires enough { used (seen self.old)
-            + count_by (parts_at (seen self.old) c) (range_with_len pages.first (pages.end - pages.first))
+            + count_by (parts_at (seen self.old) c) (range_with_len pages.from (pages.to - pages.from))
             ≤ (seen self.old).size.frames }
         ensures { seen self.new ≡ store_pages (seen self.old) c job (record { at = at; bytes = piece.now })
-            (range_with_len pages.first (pages.end - pages.first)) }
+            (range_with_len pages.from (pages.to - pages.from)) }
     {
-        for p in pages.first..pages.end {
+        for p in pages.from..pages.to {
             self.write_page(c, p, at, piece, job);
         }
     }
@@ -276,10 +275,10 @@ impl PlacedWorld {
     {
         let i = self.place(c);
         let pages = touched_pages(at as usize, piece.len());
-        if pages.end - pages.first != 1 {
+        if pages.to - pages.from != 1 {
             return false;
         }
-        self.places.write_in_place(i, pages.first, at, piece)
+        self.places.write_in_place(i, pages.from, at, piece)
     }
 
     /// Stores bytes in the context's memory from the address `at` on, for a job.

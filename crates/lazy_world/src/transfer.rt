@@ -8,8 +8,8 @@ ghost use Rattle.lazy_world.specs.Transfers.{copied_origin, is_read, moved_origi
 ghost use Rattle.lazy_world.specs.Transfers.{taken_origin, origin_of};
 
 use arrayvec::ArrayVec;
-use cow_space::{Origin, ReadRange};
-use lwc_base::{Item, Kind, MOST_ITEMS, Mode, Name, Right, Spec};
+use cow_space::Origin;
+use lwc_base::{Item, MOST_ITEMS, Mode, Name, Range, Right, Spec};
 use range_map::SegmentKind;
 
 /// What a place gets of the cells of a context, by the modes of their keys.
@@ -37,24 +37,21 @@ pub struct Found {
 }
 
 /// The pages of an item that are copied and may only be read then, if it says so of pages.
-fn read_range(item: &Item) -> Option<ReadRange>
+fn read_range(item: &Item) -> Option<Range>
     requires { IsItem MOST_PAGES item.now }
     ensures none { IfNone result ((q : ℕ) → names item.now (Page q) ≡ true
         → is_read (Some item.now.mode) ≡ false) }
     ensures pages { IfSome result (λ r. (q : ℕ) → is_between r.from r.to q ≡ names item.now (Page q)) }
     ensures read { IfSome result (λ r. is_read (Some item.now.mode) ≡ true) }
 {
-    match (item.kind, item.mode) {
-        (Kind::Page, Mode::CopyRead) => Some(ReadRange {
-            from: item.from as u16,
-            to: item.to as u16,
-        }),
-        (Kind::Page, Mode::Copy | Mode::Share | Mode::Unmap) | (Kind::Slot | Kind::Cred, _) => None,
+    match item.mode {
+        Mode::CopyRead => item.pages(),
+        Mode::Copy | Mode::Share | Mode::Unmap => None,
     }
 }
 
 /// The pages that items copy and that may only be read then.
-pub(crate) fn read_pages(spec: &Spec) -> ArrayVec<ReadRange, MOST_ITEMS>
+pub(crate) fn read_pages(spec: &Spec) -> ArrayVec<Range, MOST_ITEMS>
     ensures { (q : ℕ) → have_page result.items q ≡ is_read (mode spec.now (Page q)) }
 {
     let mut pages = ArrayVec::new();
@@ -119,7 +116,7 @@ impl Found {
 
 impl Transfer {
     /// The pages that may only be read in the place that gets something.
-    pub fn reads(self, spec: &Spec) -> ArrayVec<ReadRange, MOST_ITEMS>
+    pub fn reads(self, spec: &Spec) -> ArrayVec<Range, MOST_ITEMS>
         ensures { (q : ℕ) → have_page result.items q ≡ reads self (mode spec.now (Page q)) }
     {
         match self {

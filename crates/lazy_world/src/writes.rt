@@ -7,7 +7,7 @@ use crate::counts::Counts;
 use crate::key_value::KeyValue;
 use crate::world::PlacedWorld;
 use access_cap::owned;
-use lwc_base::{Lent, Name, Regs};
+use lwc_base::{Lent, Name, Regs, SlotNumber};
 
 impl PlacedWorld {
     ghost use Rattle.lwc_base.specs.Cells.{put_at, put_slot, put_uid, slot_at, with_value};
@@ -46,7 +46,7 @@ impl PlacedWorld {
     }
 
     /// Puts another descriptor into a slot of the context at a place.
-    pub(crate) fn set_slot(&mut self, c: Name, i: usize, n: u8, value: Lent<'_>)
+    pub(crate) fn set_slot(&mut self, c: Name, i: usize, n: SlotNumber, value: Lent<'_>)
         requires found { fm.get (parts self.old).contexts.map c ≡ Some i }
         requires inside { i < count self.old.places }
         requires within { n < SLOTS }
@@ -57,7 +57,7 @@ impl PlacedWorld {
 
     /// Puts the descriptor in the slot `from` of the context at a place into its slot `to` too. Where both slots
     /// are the context's own, they share it.
-    pub(crate) fn dup_slot(&mut self, c: Name, i: usize, from: u8, to: u8)
+    pub(crate) fn dup_slot(&mut self, c: Name, i: usize, from: SlotNumber, to: SlotNumber)
         requires found { fm.get (parts self.old).contexts.map c ≡ Some i }
         requires inside { i < count self.old.places }
         requires from { from < SLOTS }

@@ -1,10 +1,11 @@
 ghost use Rattle.std.specs.Prelude.{◌≡◌};
 ghost use Rattle.lwc_base.specs.Lending.{descriptor_of};
 
+use crate::key::{PageNumber, SlotNumber};
 use crate::name::Name;
 
 /// The number of slots of a context.
-pub const SLOTS: u8 = 64;
+pub const SLOTS: SlotNumber = 64;
 
 /// An access capability: the set of keys that may be taken from a context. Page p is bit p mod 64 of
 /// `pages[p / 64]`, slot n is bit n of `slots`, and the credential is `cred`.
@@ -56,7 +57,7 @@ impl Descriptor {
 #[derive(Clone, Copy)]
 pub enum Grant<'a> {
     /// Every key of a context with this number of pages.
-    All { pages: u32 },
+    All { pages: PageNumber },
     /// No key.
     None,
     /// The keys of a capability.

@@ -1,4 +1,10 @@
-use crate::key::Kind;
+ghost use Rattle.std.specs.Prelude.{◌≡◌, ◌≢◌, IfNone, IfSome};
+ghost use Rattle.lwc_base.specs.Modes.{IsItem};
+ghost use Rattle.lwc_base.specs.declared.key.Kind.TheVariants.{Page};
+ghost use Rattle.lwc_base.specs.declared.limits.TheConstants.{MOST_PAGES};
+
+use crate::key::{Kind, PageNumber};
+use crate::range::Range;
 
 /// What a new context or an overlay gets under a key.
 #[derive(Clone, Copy, Debug, Default, PartialEq, Eq)]
@@ -21,4 +27,22 @@ pub struct Item {
     pub mode: Mode,
     pub from: u32,
     pub to: u32,
+}
+
+impl Item {
+    /// The pages that the item names; `None` if its keys are of another kind.
+    pub fn pages(&self) -> Option<Range>
+        requires { IsItem MOST_PAGES self.now }
+        ensures pages { IfSome result (λ range. (self.now.kind ≡ Page)
+            × (range.from ≡ self.now.from) × (range.to ≡ self.now.to)) }
+        ensures other { IfNone result (self.now.kind ≢ Page) }
+    {
+        match self.kind {
+            Kind::Page => Some(Range {
+                from: self.from as PageNumber,
+                to: self.to as PageNumber,
+            }),
+            Kind::Slot | Kind::Cred => None,
+        }
+    }
 }

@@ -1,3 +1,9 @@
+/// The number of a page of a context, below `MOST_PAGES`; or a number of pages.
+pub type PageNumber = u16;
+
+/// The number of a slot of a context, below `SLOTS`; or a number of slots.
+pub type SlotNumber = u8;
+
 /// The kinds of keys: pages, slots, and the credential.
 #[derive(Clone, Copy, Debug, Default, PartialEq, Eq)]
 pub enum Kind {
@@ -10,8 +16,8 @@ pub enum Kind {
 /// What a context has a value under: a page of its memory, a slot of its descriptor table, or the credential.
 #[derive(Clone, Copy, Debug, PartialEq, Eq)]
 pub enum Key {
-    Page(u16),
-    Slot(u8),
+    Page(PageNumber),
+    Slot(SlotNumber),
     Cred,
 }
 

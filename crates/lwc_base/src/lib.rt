@@ -28,7 +28,7 @@ pub use channels::{Channels, FileImage, Requests, may_open, may_set};
 pub use descriptor::{Cap, Descriptor, Grant, Lent, SLOTS};
 pub use fault::{Fault, ThreadStatus};
 pub use item::{Item, Mode};
-pub use key::{Key, Kind, NOBODY};
+pub use key::{Key, Kind, NOBODY, PageNumber, SlotNumber};
 pub use limits::{
     MOST_BUDGET, MOST_BYTES_OF_CALL, MOST_BYTES_OF_FORM_ONE, MOST_CONSOLE_BYTES, MOST_CONTEXTS,
     MOST_CONTEXTS_OF_JOB, MOST_FILE_BYTES, MOST_FILES, MOST_FRAMES, MOST_GROUPS,
@@ -41,7 +41,7 @@ pub use limits::{
 pub use memory::OutOfMemory;
 pub use name::{Name, Tag};
 pub use page::{PAGE_BYTES, PageBytes, PageValue};
-pub use range::Range;
+pub use range::{Range, touched_pages};
 pub use refusal::Refusal;
 pub use regs::Regs;
 pub use right::Right;

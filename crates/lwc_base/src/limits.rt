@@ -1,8 +1,10 @@
+use crate::key::PageNumber;
+
 /// The most pages of a context, which one of an image of form 2 has; the number of each is below it.
-pub const MOST_PAGES: u32 = 16384;
+pub const MOST_PAGES: PageNumber = 16384;
 
 /// The pages of a context of an image of form 1.
-pub const PAGES_OF_FORM_ONE: u32 = 1024;
+pub const PAGES_OF_FORM_ONE: PageNumber = 1024;
 
 /// The most ranges of a context: runs of consecutive pages that are all its own, or all common of one group.
 pub const MOST_RANGES: u32 = 64;

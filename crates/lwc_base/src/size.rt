@@ -1,3 +1,5 @@
+use crate::key::PageNumber;
+
 /// The size of a world: its frames, the most contexts and groups that live at once, its jobs, and its pages.
 #[derive(Clone, Copy, Debug, PartialEq, Eq)]
 pub struct WorldSize {
@@ -5,7 +7,7 @@ pub struct WorldSize {
     pub contexts: u32,
     pub groups: u32,
     pub jobs: u32,
-    pub pages: u32,
+    pub pages: PageNumber,
 }
 
 /// What a report says of a context: the numbers of its pages and of its slots in use, and the uid.

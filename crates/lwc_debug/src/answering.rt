@@ -17,7 +17,7 @@ ghost use Rattle.lwc_debug.specs.Transcript as spec;
 use crate::command::Command;
 use crate::moving::place_for;
 use kernel_core::Kernel;
-use lwc_base::{Lent, Name, OutOfMemory, PAGE_BYTES, SLOTS};
+use lwc_base::{Lent, Name, OutOfMemory, PAGE_BYTES, SLOTS, SlotNumber};
 use lwc_text::{bytes_text, context_line, name_text, thread_lines, used_line};
 use std::alloc::Global;
 use world_face::World;
@@ -103,7 +103,7 @@ fn page_answer<W: World>(
     if !is_live(world, name) {
         return append(out, "no context\n");
     }
-    if p >= world.pages() {
+    if p >= u32::from(world.pages()) {
         return append(out, "no page\n");
     }
     let alloc = *out.allocator();
@@ -137,7 +137,7 @@ fn slot_answer<W: World>(
         return append(out, "no slot\n");
     }
     let alloc = *out.allocator();
-    let text = slot_text(alloc, world.slot(name, n as u8))?;
+    let text = slot_text(alloc, world.slot(name, n as SlotNumber))?;
     let name = name_text(alloc, name)?;
     let line = format!(in alloc; "slot {name} {n} {text}\n")?;
     append(out, line.as_str())

@@ -19,7 +19,7 @@ use crate::numbers::{EXIT, LW_TRAP, NOT_FRESH, TRAPPED};
 use guest_isa::{Instr, Op};
 use guest_machine::Next;
 use kernel_core::{LW_OVERLAY, LW_SWITCH, LW_SYSCALL, Thread};
-use lwc_base::{Name, Refusal};
+use lwc_base::{Name, Refusal, SlotNumber};
 use trap_calls::{TrapRefusal, Traps, forbids_overlay, is_live, names_anothers, trap_target};
 use world_face::World;
 
@@ -31,7 +31,7 @@ pub enum Ruling {
     /// It traps this context.
     Trap(Name),
     /// Its thread goes to the monitor, and this slot of the monitor gets a descriptor of the caller.
-    Monitor { monitor: Name, slot: u8 },
+    Monitor { monitor: Name, slot: SlotNumber },
 }
 
 /// The ruling on what comes next for a running thread with these registers, with the number of the call that

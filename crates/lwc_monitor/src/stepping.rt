@@ -20,7 +20,7 @@ use crate::ruling::{Ruling, rule_on_next};
 use guest_isa::Text;
 use guest_machine::advance;
 use kernel_core::{Change, Effect, Thread, step_thread};
-use lwc_base::{Channels, Name, OutOfMemory, Regs, ThreadStatus};
+use lwc_base::{Channels, Name, OutOfMemory, Regs, SlotNumber, ThreadStatus};
 use lwc_switch::enter;
 use trap_calls::Traps;
 use world_face::World;
@@ -150,7 +150,7 @@ fn enter_monitor<W: World>(
     t: u32,
     thread: &mut Thread,
     monitor: Name,
-    slot: u8,
+    slot: SlotNumber,
     number: u32,
 )
     requires number { t < MOST_THREADS }

@@ -7,7 +7,7 @@ ghost use Rattle.world_face.specs.Calls.{IsLive};
 use crate::naming::named;
 use access_cap::meet_granted;
 use guest_call::with_answer;
-use lwc_base::{Answer, Grant, Lent, Name, Regs};
+use lwc_base::{Answer, Grant, Lent, Name, Regs, SlotNumber};
 use res_spec::SpecCall;
 use world_face::World;
 
@@ -24,7 +24,7 @@ pub fn restrict<W: World>(world: &mut W, c: Name, regs: &Regs) -> Answer
         Ok(((name, keys), items)) => {
             let cap = meet_granted(keys, &items);
             let keys = Grant::Of(&cap);
-            world.set_slot(c, regs.r[1] as u8, Lent::Ctx { name, keys });
+            world.set_slot(c, regs.r[1] as SlotNumber, Lent::Ctx { name, keys });
             Answer::Done(with_answer(regs, 0))
         }
         Err(refusal) => Answer::Refused(refusal),

@@ -11,7 +11,7 @@ ghost use Rattle.lwc_switch.specs.Switch.{IfRefused};
 ghost use Rattle.world_face.specs.Calls.{IsLive};
 
 use guest_call::{context_for, with_answer};
-use lwc_base::{Grant, Lent, Moved, Name, Refusal, Regs};
+use lwc_base::{Grant, Lent, Moved, Name, Refusal, Regs, SlotNumber};
 use world_face::World;
 
 /// Takes a thread from context `c` to the context that the slot in r1 has a descriptor of, with r2 as the
@@ -44,7 +44,7 @@ pub fn enter<W: World>(
     t: u32,
     regs: &Regs,
     target: Name,
-    slot: u8,
+    slot: SlotNumber,
     argument: u64,
 ) -> Regs
     requires live { IsLive (W.seen world.old) c }
@@ -98,7 +98,7 @@ fn entered<W: World>(world: &W, c: Name, t: u32) -> Regs
 }
 
 /// The registers that a thread arrives with: the slot's number is in r1, and the argument in r2.
-fn arriving(regs: &Regs, slot: u8, argument: u64) -> Regs
+fn arriving(regs: &Regs, slot: SlotNumber, argument: u64) -> Regs
     ensures { result ≡ spec.arriving regs.now slot argument }
 {
     let mut r = regs.r;

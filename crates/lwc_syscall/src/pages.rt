@@ -4,7 +4,7 @@ ghost use Rattle.lwc_syscall.specs.Plain as spec;
 ghost use Rattle.world_face.specs.Calls.{IsLive};
 
 use crate::answer::CallAnswer;
-use lwc_base::{MOST_RANGES, Name, OutOfMemory, Range, Refusal};
+use lwc_base::{MOST_RANGES, Name, OutOfMemory, PageNumber, Range, Refusal};
 use world_face::World;
 
 /// Maps or unmaps the pages of a range. The only error is out of memory, and then nothing has changed.
@@ -26,8 +26,8 @@ pub fn map<W: World>(
         return Ok(CallAnswer::Refused(Refusal::BadRange));
     }
     let range = Range {
-        from: from as u16,
-        to: to as u16,
+        from: from as PageNumber,
+        to: to as PageNumber,
     };
     if world.ranges_after_map(memory, range, present) > MOST_RANGES {
         return Ok(CallAnswer::Refused(Refusal::TooManyRanges));

@@ -11,7 +11,7 @@ ghost use Rattle.world_face.specs.Calls.{IsLive};
 use crate::answer::CallAnswer;
 use crate::calls::CallContexts;
 use guest_call::descriptor_for;
-use lwc_base::{FileImage, Lent, Name, Refusal, may_open};
+use lwc_base::{FileImage, Lent, Name, Refusal, SlotNumber, may_open};
 use world_face::World;
 
 /// Opens a file: the lowest empty slot gets a descriptor of it.
@@ -69,7 +69,11 @@ pub fn dup<W: World>(world: &mut W, slots: Name, n: u64) -> CallAnswer
 
 /// The slot of a number and the descriptor in it, lent; `None` if no slot has the number or the slot is empty.
 #[tactic(auto, unfolding(guest_call::specs::Guest::descriptor_for))]
-pub(crate) fn filled_slot<W: World>(world: &W, slots: Name, n: u64) -> Option<(u8, Lent<'_>)>
+pub(crate) fn filled_slot<W: World>(
+    world: &W,
+    slots: Name,
+    n: u64,
+) -> Option<(SlotNumber, Lent<'_>)>
     requires { IsLive (W.seen world.now) slots }
     ensures empty { is_none result ≡ is_empty (descriptor_for (W.seen world.now) slots n) }
     ensures slot { IfSome result (λ found. (found.0 ≡ n) × (n < SLOTS)) }
@@ -79,7 +83,7 @@ pub(crate) fn filled_slot<W: World>(world: &W, slots: Name, n: u64) -> Option<(u
 {
     match descriptor_for(world, slots, n) {
         Lent::Empty => None,
-        value => Some((n as u8, value)),
+        value => Some((n as SlotNumber, value)),
     }
 }
 

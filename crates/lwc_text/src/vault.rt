@@ -12,7 +12,7 @@ ghost use Rattle.lwc_text.specs.VaultFiles as spec;
 use crate::fault::{InputFault, InputRule};
 use byte_reading::ReadError;
 use guest_image::{MOST_VAULT_PAGES, PageImage, Vault};
-use lwc_base::{PAGE_BYTES, PageBytes, Sequence};
+use lwc_base::{PAGE_BYTES, PageBytes, PageNumber, Sequence};
 use std::alloc::Global;
 
 /// The number of bytes of a number.
@@ -38,7 +38,7 @@ pub fn read_vault(
     alloc: Global,
     bytes: &[u8],
     instructions: u32,
-    pages: u32,
+    pages: PageNumber,
 ) -> Result<Vault, InputFault>
     requires { pages ≤ MOST_PAGES }
     ensures exact { Answers (λ vault. vault) result (spec.vault_at instructions pages bytes.now) }
@@ -55,7 +55,7 @@ fn read_limited(
     alloc: Global,
     bytes: &[u8],
     instructions: u32,
-    pages: u32,
+    pages: PageNumber,
 ) -> Result<Vault, InputFault>
     requires { pages ≤ MOST_PAGES }
     ensures { Answers (λ vault. vault) result (spec.vault_at instructions pages bytes.now) }
@@ -84,7 +84,11 @@ fn read_limited(
 }
 
 /// Reads the pages that follow the entry.
-fn read_pages(alloc: Global, bytes: &[u8], pages: u32) -> Result<Sequence<PageImage>, InputFault>
+fn read_pages(
+    alloc: Global,
+    bytes: &[u8],
+    pages: PageNumber,
+) -> Result<Sequence<PageImage>, InputFault>
     requires few { pages ≤ MOST_PAGES }
     requires short { length bytes.now + NUMBER_BYTES ≤ MOST_VAULT_BYTES }
     ensures { Answers (λ read. read) result
@@ -112,8 +116,8 @@ fn read_page(
     alloc: Global,
     rest: &[u8],
     at: u64,
-    last: Option<u16>,
-    pages: u32,
+    last: Option<PageNumber>,
+    pages: PageNumber,
 ) -> Result<PageImage, InputFault>
     requires few { pages ≤ MOST_PAGES }
     requires short { at + length rest.now ≤ MOST_VAULT_BYTES }
@@ -127,7 +131,7 @@ fn read_page(
         });
     }
     let number = number_in(rest);
-    if number >= pages || !is_above(last, number) {
+    if number >= u32::from(pages) || !is_above(last, number) {
         return Err(ReadError::Refused {
             rule: InputRule::BadPage,
             at,
@@ -141,13 +145,13 @@ fn read_page(
     }
     let bytes = PageBytes::from_slice(alloc, &rest[NUMBER_BYTES..NUMBERED_PAGE_BYTES])?;
     Ok(PageImage {
-        number: number as u16,
+        number: number as PageNumber,
         bytes,
     })
 }
 
 /// Whether a number is above the one before it.
-fn is_above(last: Option<u16>, number: u32) -> bool
+fn is_above(last: Option<PageNumber>, number: u32) -> bool
     ensures { result ≡ is_above last number }
 {
     match last {

@@ -11,7 +11,7 @@ ghost use Rattle.page_tree.specs.Sound.{IsSound, IsTree, trees_at};
 
 use crate::cell::{PageCell, cell_from};
 use crate::store::{PAGES, ROOT_LEVEL, Store, node_of};
-use lwc_base::Range;
+use lwc_base::{PageNumber, Range};
 use pool_base::Steps;
 use std::marker::Model;
 use std::sync::ledger::Ledger;
@@ -63,7 +63,7 @@ impl PageTree {
     }
 
     /// What the tree has for a page.
-    pub fn get(&self, store: &Store, p: u16) -> PageCell
+    pub fn get(&self, store: &Store, p: PageNumber) -> PageCell
         requires sound { IsSound store.now.nodes store.now.frames }
         requires tree { IsTree store.now.nodes self.now }
         requires page { p < PAGES }
@@ -73,7 +73,7 @@ impl PageTree {
     }
 
     /// Whether nobody else holds the nodes on the way to a page, and all of them are there.
-    pub fn is_alone(&self, store: &Store, p: u16) -> bool
+    pub fn is_alone(&self, store: &Store, p: PageNumber) -> bool
         requires sound { IsSound store.now.nodes store.now.frames }
         requires tree { IsTree store.now.nodes self.now }
         requires page { p < PAGES }
@@ -85,7 +85,7 @@ impl PageTree {
     /// What the tree has for a page, and whether nobody else holds the nodes on the way there, and all of
     /// them are there.
     #[inline(always)]
-    pub fn look(&self, store: &Store, p: u16) -> (PageCell, bool)
+    pub fn look(&self, store: &Store, p: PageNumber) -> (PageCell, bool)
         requires sound { IsSound store.now.nodes store.now.frames }
         requires tree { IsTree store.now.nodes self.now }
         requires page { p < PAGES }
@@ -100,7 +100,7 @@ impl PageTree {
     pub fn set<L: Ledger>(
         &mut self,
         store: &mut Store,
-        p: u16,
+        p: PageNumber,
         cell: PageCell,
         steps: &mut Steps<L>,
     )
@@ -131,7 +131,12 @@ impl PageTree {
     }
 
     /// Lets nobody else hold the nodes on the way to a page. No page changes.
-    pub fn unshare_path<L: Ledger>(&mut self, store: &mut Store, p: u16, steps: &mut Steps<L>)
+    pub fn unshare_path<L: Ledger>(
+        &mut self,
+        store: &mut Store,
+        p: PageNumber,
+        steps: &mut Steps<L>,
+    )
         requires sound { IsSound store.old.nodes store.old.frames }
         requires tree { IsTree store.old.nodes self.old }
         requires page { p < PAGES }

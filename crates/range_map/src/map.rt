@@ -6,7 +6,7 @@ ghost use Rattle.range_map.specs.Kinds.{IsCanonical, IsSegment, are_alike, put_s
 use crate::runs;
 use crate::segment::{Change, PageState, Segment, SegmentKind};
 use arrayvec::ArrayVec;
-use lwc_base::{MOST_PAGES, MOST_RANGES, Right};
+use lwc_base::{MOST_PAGES, MOST_RANGES, PageNumber, Right};
 use std::marker::Model;
 
 /// A change would leave a context with more than 64 ranges.
@@ -71,7 +71,7 @@ impl RangeMap {
     }
 
     /// The state of a page; `None` where it is absent, as are all past the last one.
-    pub fn state_at(&self, p: u16) -> Option<PageState>
+    pub fn state_at(&self, p: PageNumber) -> Option<PageState>
         ensures state { result ≡ spec.state_at self.now p }
         ensures past { MOST_PAGES ≤ p → result ≡ None }
     {
@@ -79,7 +79,7 @@ impl RangeMap {
     }
 
     /// The kind of a page; `None` where it is absent.
-    pub fn kind_at(&self, p: u16) -> Option<SegmentKind>
+    pub fn kind_at(&self, p: PageNumber) -> Option<SegmentKind>
         ensures kind { result ≡ spec.kind_at self.now p }
         ensures past { MOST_PAGES ≤ p → result ≡ None }
     {
@@ -87,7 +87,7 @@ impl RangeMap {
     }
 
     /// The right of a page; `None` where it is absent.
-    pub fn right_at(&self, p: u16) -> Option<Right>
+    pub fn right_at(&self, p: PageNumber) -> Option<Right>
         ensures right { result ≡ spec.right_at self.now p }
         ensures past { MOST_PAGES ≤ p → result ≡ None }
     {
@@ -96,7 +96,7 @@ impl RangeMap {
 
     /// The first page after one that has another state, or the end of all pages. There are at most 64
     /// ranges, so that a walk from edge to edge is short.
-    pub fn next_edge(&self, p: u16) -> u16
+    pub fn next_edge(&self, p: PageNumber) -> PageNumber
         requires { p < MOST_PAGES }
         ensures past { p < result }
         ensures within { result ≤ MOST_PAGES }
@@ -109,7 +109,7 @@ impl RangeMap {
 
     /// Gives a state to the pages from `from` up to and without `to`, where no page from `from` on is
     /// present. The last segment grows if it ends there and its pages have that state.
-    pub fn append(&mut self, from: u16, to: u16, state: PageState)
+    pub fn append(&mut self, from: PageNumber, to: PageNumber, state: PageState)
         requires order { from < to }
         requires inside { to ≤ MOST_PAGES }
         requires clear { (q : ℕ) → from ≤ q → spec.state_at self.old q ≡ None }
@@ -128,7 +128,7 @@ impl RangeMap {
 
     /// Lets the last segment end at `to` if it ends at `from` and its pages have a state. Tells whether it
     /// did.
-    fn grow_last(&mut self, from: u16, to: u16, state: PageState) -> bool
+    fn grow_last(&mut self, from: PageNumber, to: PageNumber, state: PageState) -> bool
         requires order { from < to }
         requires inside { to ≤ MOST_PAGES }
         requires clear { (q : ℕ) → from ≤ q → spec.state_at self.old q ≡ None }
@@ -167,7 +167,7 @@ impl RangeMap {
         let segments = self.segments.as_slice();
         let mut count = 0u32;
         let mut p = 0u16;
-        'runs: while u32::from(p) < MOST_PAGES {
+        'runs: while p < MOST_PAGES {
             if runs::state_after(segments, changes, p).is_some() {
                 count += 1;
             }
@@ -207,7 +207,7 @@ fn segments_after(segments: &[Segment], changes: &[Change]) -> ArrayVec<Segment,
 {
     let mut after = ArrayVec::new();
     let mut p = 0u16;
-    'runs: while u32::from(p) < MOST_PAGES {
+    'runs: while p < MOST_PAGES {
         let end = runs::run_end(segments, changes, p);
         if let Some(state) = runs::state_after(segments, changes, p) {
             after.push(Segment {

@@ -6,11 +6,11 @@ ghost use Rattle.range_map.specs.Kinds as spec;
 ghost use Rattle.range_map.specs.Kinds.{begins_range, is_between, is_edge};
 
 use crate::segment::{Change, PageState, Segment};
-use lwc_base::MOST_PAGES;
+use lwc_base::{MOST_PAGES, PageNumber};
 
 /// The state of a page; `None` where it is absent.
 #[tactic(auto, unfolding(crate::specs::Kinds::state_at))]
-pub(crate) fn state_at(segments: &[Segment], p: u16) -> Option<PageState>
+pub(crate) fn state_at(segments: &[Segment], p: PageNumber) -> Option<PageState>
     ensures { result ≡ spec.state_at segments.now p }
 {
     segments
@@ -21,7 +21,11 @@ pub(crate) fn state_at(segments: &[Segment], p: u16) -> Option<PageState>
 
 /// The state of a page after the changes: that of the first change that has it, or the state before.
 #[tactic(auto, unfolding(crate::specs::Kinds::state_after))]
-pub(crate) fn state_after(segments: &[Segment], changes: &[Change], p: u16) -> Option<PageState>
+pub(crate) fn state_after(
+    segments: &[Segment],
+    changes: &[Change],
+    p: PageNumber,
+) -> Option<PageState>
     ensures { result ≡ spec.state_after changes.now segments.now p }
 {
     match change_at(changes, p) {
@@ -31,7 +35,7 @@ pub(crate) fn state_after(segments: &[Segment], changes: &[Change], p: u16) -> O
 }
 
 /// The first change that has a page.
-fn change_at(changes: &[Change], p: u16) -> Option<&Change>
+fn change_at(changes: &[Change], p: PageNumber) -> Option<&Change>
     ensures { option_copied result ≡ find (λ c. is_between c.from c.to p) changes.now }
 {
     changes
@@ -41,7 +45,7 @@ fn change_at(changes: &[Change], p: u16) -> Option<&Change>
 
 /// The first page past a page at which the state after the changes is another one; the end of all pages
 /// where there is none.
-pub(crate) fn run_end(segments: &[Segment], changes: &[Change], p: u16) -> u16
+pub(crate) fn run_end(segments: &[Segment], changes: &[Change], p: PageNumber) -> PageNumber
     requires { p < MOST_PAGES }
     ensures past { p < result }
     ensures within { result ≤ MOST_PAGES }
@@ -52,14 +56,14 @@ pub(crate) fn run_end(segments: &[Segment], changes: &[Change], p: u16) -> u16
 {
     let state = state_after(segments, changes, p);
     let mut end = next_edge(segments, changes, p);
-    'runs: while u32::from(end) < MOST_PAGES && state == state_after(segments, changes, end) {
+    'runs: while end < MOST_PAGES && state == state_after(segments, changes, end) {
         end = next_edge(segments, changes, end);
     }
     end
 }
 
 /// Where the first segment or change after a page begins or ends, or the end of all pages.
-fn next_edge(segments: &[Segment], changes: &[Change], p: u16) -> u16
+fn next_edge(segments: &[Segment], changes: &[Change], p: PageNumber) -> PageNumber
     requires { p < MOST_PAGES }
     ensures past { p < result }
     ensures within { result ≤ MOST_PAGES }
@@ -74,7 +78,7 @@ fn next_edge(segments: &[Segment], changes: &[Change], p: u16) -> u16
 }
 
 /// Where the first segment after a page begins or ends, or the end of all pages.
-pub(crate) fn segment_edge(segments: &[Segment], p: u16) -> u16
+pub(crate) fn segment_edge(segments: &[Segment], p: PageNumber) -> PageNumber
     requires { p < MOST_PAGES }
     ensures past { p < result }
     ensures within { result ≤ MOST_PAGES }
@@ -82,7 +86,7 @@ pub(crate) fn segment_edge(segments: &[Segment], p: u16) -> u16
         → spec.state_at segments.now q ≡ spec.state_at segments.now p }
     ensures edge { result < MOST_PAGES → is_edge segments.now result ≡ true }
 {
-    let mut edge = MOST_PAGES as u16;
+    let mut edge = MOST_PAGES;
     for segment in segments {
         edge = sooner_edge(segment.from, segment.to, p, edge);
     }
@@ -91,7 +95,7 @@ pub(crate) fn segment_edge(segments: &[Segment], p: u16) -> u16
 
 /// Where the pages from one up to and without another first begin or end past a page, if that is before the
 /// edge; else the edge.
-pub fn sooner_edge(from: u16, to: u16, p: u16, edge: u16) -> u16
+pub fn sooner_edge(from: PageNumber, to: PageNumber, p: PageNumber, edge: PageNumber) -> PageNumber
     requires { p < edge }
     ensures past { p < result }
     ensures within { result ≤ edge }
@@ -102,7 +106,7 @@ pub fn sooner_edge(from: u16, to: u16, p: u16, edge: u16) -> u16
 }
 
 /// The lesser of an edge and another number, if that lies past the page.
-fn sooner(p: u16, edge: u16, other: u16) -> u16
+fn sooner(p: PageNumber, edge: PageNumber, other: PageNumber) -> PageNumber
     requires { p < edge }
     ensures past { p < result }
     ensures within { result ≤ edge }

@@ -1,7 +1,7 @@
 ghost use Rattle.std.specs.Prelude.{◌≡◌};
 ghost use Rattle.range_map.specs.Kinds.{given, state_in};
 
-use lwc_base::{Name, Right};
+use lwc_base::{Name, PageNumber, Right};
 
 /// What a present page is: the context's own, or common of the group of this name.
 #[derive(Clone, Copy, Debug, Default, PartialEq, Eq)]
@@ -21,8 +21,8 @@ pub struct PageState {
 /// The pages from `from` up to and without `to`, which are all of one kind and of one right.
 #[derive(Clone, Copy, Debug, Default, PartialEq, Eq)]
 pub struct Segment {
-    pub from: u16,
-    pub to: u16,
+    pub from: PageNumber,
+    pub to: PageNumber,
     pub kind: SegmentKind,
     pub right: Right,
 }
@@ -31,8 +31,8 @@ pub struct Segment {
 /// become absent.
 #[derive(Clone, Copy, Debug, Default, PartialEq, Eq)]
 pub struct Change {
-    pub from: u16,
-    pub to: u16,
+    pub from: PageNumber,
+    pub to: PageNumber,
     pub kind: Option<SegmentKind>,
     pub right: Right,
 }

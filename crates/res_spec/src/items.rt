@@ -12,7 +12,7 @@ ghost use Rattle.res_spec.specs.Spelling.{Spells, IsBadMode, IsBadRange, IsOverl
 
 use arrayvec::ArrayVec;
 use byteorder::{ByteOrder, LittleEndian};
-use lwc_base::{Item, Kind, MOST_ITEMS, Mode, SLOTS, Spec};
+use lwc_base::{Item, Kind, MOST_ITEMS, Mode, PageNumber, SLOTS, Spec};
 
 /// The number of bytes of an item: its kind, its mode, and the numbers from and to, each of four bytes, the
 /// lowest first.
@@ -42,7 +42,7 @@ pub enum SpecFault {
 /// # Errors
 ///
 /// `BadMode`, `BadRange`, `Overlap`, in this order, each tested over all items before the next.
-pub fn read_items(bytes: &[u8], call: SpecCall, pages: u32) -> Result<Spec, SpecFault>
+pub fn read_items(bytes: &[u8], call: SpecCall, pages: PageNumber) -> Result<Spec, SpecFault>
     requires items { length bytes.now % ITEM_BYTES ≡ 0 }
     requires few { length bytes.now ≤ MOST_ITEMS * ITEM_BYTES }
     requires pages { pages ≤ MOST_PAGES }
@@ -70,7 +70,7 @@ pub fn items_that_are_read_are_a_spec()
 
 /// The items that bytes spell, tested in the order of the faults.
 #[tactic(auto, unfolding(crate::specs::Items::faults, crate::specs::Items::read))]
-fn test_items(bytes: &[u8], call: SpecCall, pages: u32) -> Result<Spec, SpecFault>
+fn test_items(bytes: &[u8], call: SpecCall, pages: PageNumber) -> Result<Spec, SpecFault>
     requires few { length bytes.now ≤ MOST_ITEMS * ITEM_BYTES }
     requires pages { pages ≤ MOST_PAGES }
     ensures read { read call pages bytes.now ≡ result }
@@ -171,11 +171,11 @@ fn all_taken(call: SpecCall, bytes: &[u8]) -> bool
 }
 
 /// The number of keys of a kind.
-fn limit(pages: u32, kind: Kind) -> u32
+fn limit(pages: PageNumber, kind: Kind) -> u32
     ensures { result ≡ modes.limit pages kind }
 {
     match kind {
-        Kind::Page => pages,
+        Kind::Page => u32::from(pages),
         Kind::Slot => u32::from(SLOTS),
         Kind::Cred => 1,
     }
@@ -183,7 +183,7 @@ fn limit(pages: u32, kind: Kind) -> u32
 
 /// Whether each item names at least one key, and none past the limit of its kind.
 #[tactic(auto, unfolding(crate::specs::Items::all_within))]
-fn all_within(pages: u32, items: &[Item]) -> bool
+fn all_within(pages: PageNumber, items: &[Item]) -> bool
     ensures { result ≡ spec.all_within pages items.now }
 {
     items.iter().all(|item| item.from < item.to && item.to <= limit(pages, item.kind))

@@ -1,5 +1,6 @@
 ghost use Rattle.std.specs.Prelude.{◌≡◌, ◌<◌, ◌+◌, ◌-◌, ◌%◌, ◌&&◌, ◌==◌, if◌then◌else◌, ℕ, None, Some, nat_lt};
 
+use lwc_base::SlotNumber;
 use reach::links::Links;
 use reach::marks::{Marks, mark};
 use std::test::Fail;
@@ -13,7 +14,7 @@ impl Links for Cycles {
     ghost link_of = { λ _ place slot. if nat_lt place 4 && slot == 63
         then Some (if place % 2 == 0 then place + 1 else place - 1) else None };
 
-    fn link(&self, place: usize, slot: u8) -> Option<usize> {
+    fn link(&self, place: usize, slot: SlotNumber) -> Option<usize> {
         if place < 4 && slot == 63 {
             Some(if place % 2 == 0 { place + 1 } else { place - 1 })
         } else {

@@ -13,7 +13,8 @@ use crate::key_value::KeyValue;
 use crate::world::WholeWorld;
 use access_cap::owned;
 use lwc_base::{
-    Key, Mode, NOBODY, Name, OutOfMemory, PageBytes, PageValue, Regs, Right, SLOTS, Spec,
+    Key, Mode, NOBODY, Name, OutOfMemory, PageBytes, PageNumber, PageValue, Regs, Right, SLOTS,
+    Spec,
 };
 use res_spec::mode_of;
 use std::alloc::Global;
@@ -95,7 +96,7 @@ impl WholeWorld {
     }
 
     /// The right that a page of a new context gets by its mode.
-    pub(crate) fn cloned_right(&self, c: Name, p: u16, mode: Mode) -> Right
+    pub(crate) fn cloned_right(&self, c: Name, p: PageNumber, mode: Mode) -> Right
         requires { IsTrue (is_live (seen self.now) c) }
         ensures { result ≡ cloned_right (seen self.now) c p mode }
     {
@@ -107,7 +108,7 @@ impl WholeWorld {
     }
 
     /// The right of a page that is copied to be read alone: Read where it is present.
-    fn read_right(&self, c: Name, p: u16) -> Right
+    fn read_right(&self, c: Name, p: PageNumber) -> Right
         requires { IsTrue (is_live (seen self.now) c) }
         ensures { result ≡ read_right (has_page (context (seen self.now) c) p) }
     {

@@ -21,7 +21,10 @@ ghost use Rattle.whole_world.specs.Sound.{HasKey, HasSlot, HasSizeOf, IsWhole};
 
 use crate::holder::Holder;
 use crate::key_value::KeyValue;
-use lwc_base::{Cell, Descriptor, Key, Mode, Name, OutOfMemory, PageValue, Regs, Right, SLOTS};
+use lwc_base::{
+    Cell, Descriptor, Key, Mode, Name, OutOfMemory, PageNumber, PageValue, Regs, Right, SLOTS,
+    SlotNumber,
+};
 use std::alloc::Global;
 
 /// What a context has: under each key its cell, the right of each page, the registers that it begins with,
@@ -39,7 +42,12 @@ pub struct ContextRow {
 impl ContextRow {
     /// A context as it is made, with none of this number of pages present. The only error is out of memory.
     #[tactic(auto, unfolding(crate::specs::Rows::context_of, crate::specs::Rows::cell_of))]
-    pub fn new(alloc: Global, pages: u16, uid: u32, entry: &Regs) -> Result<ContextRow, OutOfMemory>
+    pub fn new(
+        alloc: Global,
+        pages: PageNumber,
+        uid: u32,
+        entry: &Regs,
+    ) -> Result<ContextRow, OutOfMemory>
         ensures whole { IfOk result (IsWhole pages) }
         ensures context { IfOk result (λ row. context_of row ≡ new_context uid entry.now) }
     {
@@ -55,7 +63,7 @@ impl ContextRow {
 
     /// The cell of a page; `None` past the last page.
     #[tactic(auto, unfolding(crate::specs::Rows::context_of, crate::specs::Rows::cell_of))]
-    pub fn page(&self, p: u16) -> Option<&Cell<Option<PageValue>>>
+    pub fn page(&self, p: PageNumber) -> Option<&Cell<Option<PageValue>>>
         ensures { unwrap_or (option_copied result) (Own None) ≡ (context_of self.now).cell (Page p) }
     {
         let p = p as usize;
@@ -68,7 +76,7 @@ impl ContextRow {
 
     /// The right of a page; Write past the last page.
     #[tactic(auto, unfolding(crate::specs::Rows::context_of))]
-    pub fn right(&self, p: u16) -> Right
+    pub fn right(&self, p: PageNumber) -> Right
         ensures { result ≡ (context_of self.now).right p }
     {
         let p = p as usize;
@@ -80,7 +88,7 @@ impl ContextRow {
     }
 
     /// Whether there is a page.
-    pub fn has_page(&self, p: u16) -> bool
+    pub fn has_page(&self, p: PageNumber) -> bool
         ensures { result ≡ has_page (context_of self.now) p }
     {
         match self.page(p) {
@@ -92,7 +100,7 @@ impl ContextRow {
 
     /// The cell of a slot.
     #[tactic(auto, unfolding(crate::specs::Rows::context_of, crate::specs::Rows::cell_of))]
-    pub fn slot(&self, n: u8) -> &Cell<Descriptor>
+    pub fn slot(&self, n: SlotNumber) -> &Cell<Descriptor>
         requires { n < vec_len self.now.slots }
         ensures { result.now ≡ (context_of self.now).cell (Slot n) }
     {
@@ -108,7 +116,7 @@ impl ContextRow {
     }
 
     /// Who has the value of a page.
-    fn page_holder(&self, p: u16) -> Holder
+    fn page_holder(&self, p: PageNumber) -> Holder
         ensures { result ≡ holder_of (Page p) ((context_of self.now).cell (Page p)) }
     {
         match self.page(p) {
@@ -203,7 +211,7 @@ impl ContextRow {
     }
 
     /// Makes each page of a range present, as zeros of the context's own, or absent, with the right Write.
-    pub fn set_pages(&mut self, from: u16, to: u16, present: bool)
+    pub fn set_pages(&mut self, from: PageNumber, to: PageNumber, present: bool)
         requires order { from ≤ to }
         requires pages { to ≤ vec_len self.old.pages }
         requires rights { to ≤ vec_len self.old.rights }
@@ -217,7 +225,7 @@ impl ContextRow {
     }
 
     /// Gives a page another right.
-    pub fn set_right(&mut self, p: u16, right: Right)
+    pub fn set_right(&mut self, p: PageNumber, right: Right)
         requires { p < vec_len self.old.rights }
         ensures size { HasSizeOf self.old self.new }
         ensures context { context_of self.new ≡ with_right p right (context_of self.old) }
@@ -256,7 +264,10 @@ fn give<T: Drop>(cell: &mut Cell<T>, group: Name) -> T
 }
 
 /// The cells of pages of which none is present. The only error is out of memory.
-fn absent_pages(alloc: Global, count: u16) -> Result<Vec<Cell<Option<PageValue>>>, OutOfMemory>
+fn absent_pages(
+    alloc: Global,
+    count: PageNumber,
+) -> Result<Vec<Cell<Option<PageValue>>>, OutOfMemory>
     ensures absent { IfOk result (λ pages. pages.items ≡ replicate count (Own None)) }
     ensures many { IfOk result (λ pages. vec_len pages ≡ count) }
 {
@@ -268,7 +279,7 @@ fn absent_pages(alloc: Global, count: u16) -> Result<Vec<Cell<Option<PageValue>>
 }
 
 /// The rights of pages to all of which bytes may be stored. The only error is out of memory.
-fn writable_pages(alloc: Global, count: u16) -> Result<Vec<Right>, OutOfMemory>
+fn writable_pages(alloc: Global, count: PageNumber) -> Result<Vec<Right>, OutOfMemory>
     ensures writable { IfOk result (λ rights. rights.items ≡ replicate count Write) }
     ensures many { IfOk result (λ rights. vec_len rights ≡ count) }
 {

@@ -10,7 +10,7 @@ ghost use Rattle.whole_world.specs.Rows.{group_of};
 ghost use Rattle.whole_world.specs.Sound.{HasGroupSizeOf, HasKey, IsWholeGroup};
 
 use crate::key_value::KeyValue;
-use lwc_base::{Descriptor, NOBODY, OutOfMemory, PageValue, SLOTS};
+use lwc_base::{Descriptor, NOBODY, OutOfMemory, PageNumber, PageValue, SLOTS, SlotNumber};
 use std::alloc::Global;
 
 /// What a group has: the values that contexts have in common, and nothing under each other key.
@@ -24,7 +24,7 @@ pub struct GroupRow {
 impl GroupRow {
     /// A group with nothing in it, with this number of pages. The only error is out of memory.
     #[tactic(auto, unfolding(crate::specs::Rows::group_of, crate::specs::Rows::value_of))]
-    pub fn new(alloc: Global, pages: u16) -> Result<GroupRow, OutOfMemory>
+    pub fn new(alloc: Global, pages: PageNumber) -> Result<GroupRow, OutOfMemory>
         ensures whole { IfOk result (IsWholeGroup pages) }
         ensures group { IfOk result (λ row. group_of row ≡ new_group) }
     {
@@ -37,7 +37,7 @@ impl GroupRow {
 
     /// The value under a page, if there is one.
     #[tactic(auto, unfolding(crate::specs::Rows::group_of, crate::specs::Rows::value_of))]
-    pub fn page(&self, p: u16) -> Option<&PageValue>
+    pub fn page(&self, p: PageNumber) -> Option<&PageValue>
         ensures { option_copied result ≡ (group_of self.now).value (Page p) }
     {
         let p = p as usize;
@@ -50,7 +50,7 @@ impl GroupRow {
 
     /// The descriptor under a slot.
     #[tactic(auto, unfolding(crate::specs::Rows::group_of, crate::specs::Rows::value_of))]
-    pub fn slot(&self, n: u8) -> &Descriptor
+    pub fn slot(&self, n: SlotNumber) -> &Descriptor
         requires { n < vec_len self.now.slots }
         ensures { result.now ≡ (group_of self.now).value (Slot n) }
     {
@@ -80,7 +80,7 @@ impl GroupRow {
 }
 
 /// Pages that are all absent. The only error is out of memory.
-fn no_pages(alloc: Global, count: u16) -> Result<Vec<Option<PageValue>>, OutOfMemory>
+fn no_pages(alloc: Global, count: PageNumber) -> Result<Vec<Option<PageValue>>, OutOfMemory>
     ensures none { IfOk result (λ pages. pages.items ≡ replicate count None) }
     ensures many { IfOk result (λ pages. vec_len pages ≡ count) }
 {

@@ -2,13 +2,13 @@ ghost use Rattle.std.specs.Prelude.{◌≡◌};
 ghost use Rattle.lwc_base.specs.Keys.{nothing};
 ghost use Rattle.whole_world.specs.KeyValues.{key_in, value_in};
 
-use lwc_base::{Descriptor, Key, NOBODY, PageValue};
+use lwc_base::{Descriptor, Key, NOBODY, PageNumber, PageValue, SlotNumber};
 
 /// A key, and a value that is put under it.
 #[derive(Drop)]
 pub enum KeyValue {
-    Page(u16, Option<PageValue>),
-    Slot(u8, Descriptor),
+    Page(PageNumber, Option<PageValue>),
+    Slot(SlotNumber, Descriptor),
     Cred(u32),
 }
 

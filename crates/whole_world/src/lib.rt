@@ -16,7 +16,6 @@ mod sharing;
 mod store;
 mod table;
 mod tags;
-mod touched;
 mod world;
 mod writes;
 

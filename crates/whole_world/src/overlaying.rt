@@ -8,7 +8,7 @@ ghost use Rattle.whole_world.specs.Sound.{HasSizeOf, IsWhole};
 
 use crate::context_row::ContextRow;
 use crate::world::WholeWorld;
-use lwc_base::{Key, Kind, Name, Spec};
+use lwc_base::{Key, Kind, Name, PageNumber, SlotNumber, Spec};
 use res_spec::mode_of;
 
 /// The key of a kind that has a number.
@@ -17,8 +17,8 @@ fn key_of(kind: Kind, n: usize) -> Key
     ensures { result ≡ key_of kind n }
 {
     match kind {
-        Kind::Page => Key::Page(n as u16),
-        Kind::Slot => Key::Slot(n as u8),
+        Kind::Page => Key::Page(n as PageNumber),
+        Kind::Slot => Key::Slot(n as SlotNumber),
         Kind::Cred => Key::Cred,
     }
 }
@@ -43,7 +43,7 @@ where
 
 impl ContextRow {
     /// Takes the cells of the keys that a spec names, and the rights of its pages, out of another row.
-    pub fn take_named(&mut self, pages: u16, spec: &Spec, other: ContextRow)
+    pub fn take_named(&mut self, pages: PageNumber, spec: &Spec, other: ContextRow)
         requires pages { pages ≤ MOST_PAGES }
         requires whole { IsWhole pages self.old }
         requires other { IsWhole pages other }

@@ -4,7 +4,7 @@ ghost use Rattle.lwc_base.specs.declared.page.PageValue.TheVariants.{Zero};
 ghost use Rattle.lwc_base.specs.Pages.{bytes_of};
 ghost use Rattle.lwc_base.specs.Store.{byte_after, bytes_after, stored_value};
 
-use lwc_base::{OutOfMemory, PAGE_BYTES, PageBytes, PageValue, Tag};
+use lwc_base::{OutOfMemory, PAGE_BYTES, PageBytes, PageNumber, PageValue, Tag};
 use std::alloc::Global;
 
 /// The bytes that a page reads as; an absent page reads as zeros.
@@ -29,7 +29,7 @@ fn byte_with(at: usize, piece: &[u8], place: usize, old: u8) -> u8
 }
 
 /// Puts what a piece has of a page into the page's bytes.
-fn put_piece(page: &mut PageBytes, p: u16, at: usize, piece: &[u8])
+fn put_piece(page: &mut PageBytes, p: PageNumber, at: usize, piece: &[u8])
     ensures { page.new ≡ bytes_after (record { at = at; bytes = piece.now }) p page.old }
 {
     let count = page.as_slice().len();
@@ -55,7 +55,7 @@ pub fn new_value(
     alloc: Global,
     parting: bool,
     new: Tag,
-    p: u16,
+    p: PageNumber,
     at: usize,
     piece: &[u8],
     old: Option<&PageValue>,

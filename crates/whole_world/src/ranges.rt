@@ -5,7 +5,7 @@ ghost use Rattle.whole_world.specs.declared.holder.Holder.TheVariants.{Nobody, O
 
 use crate::holder::{Holder, Side};
 use crate::world::WholeWorld;
-use lwc_base::{Key, Mode, Name, Range, Right, Spec};
+use lwc_base::{Key, Mode, Name, PageNumber, Range, Right, Spec};
 use res_spec::{mode_of, mode_or_copy};
 
 /// Who has a value once a clone has moved the context's own values of mode share.
@@ -26,7 +26,7 @@ fn own_if(present: bool) -> Holder
 }
 
 /// The number of ranges of this number of pages, by who has the value of each, and its right.
-fn count_ranges<F: Fn(u16) -> Side>(pages: u16, side: F) -> u32
+fn count_ranges<F: Fn(PageNumber) -> Side>(pages: PageNumber, side: F) -> u32
     requires { F.IsAlwaysCallable side }
     ensures { (each : ℕ → sides.Side) → ((p : ℕ) (s : sides.Side)
         → p < pages → F.post side p s → s ≡ each p) → result ≡ count_of_ranges pages each }
@@ -115,7 +115,7 @@ impl WholeWorld {
 
     /// Who has the value of a page of a context.
     #[tactic(auto, unfolding(crate::specs::Holders::page_holder))]
-    fn page_holder(&self, c: Name, p: u16) -> Holder
+    fn page_holder(&self, c: Name, p: PageNumber) -> Holder
         requires { IsTrue (is_live (seen self.now) c) }
         ensures { result ≡ page_holder (seen self.now) c p }
     {
@@ -124,7 +124,7 @@ impl WholeWorld {
 
     /// The holder of a page of the context after it has been cloned.
     #[tactic(auto, unfolding(crate::specs::Holders::holder_after_clone))]
-    fn holder_after_clone(&self, c: Name, spec: &Spec, p: u16) -> Holder
+    fn holder_after_clone(&self, c: Name, spec: &Spec, p: PageNumber) -> Holder
         requires { IsTrue (is_live (seen self.now) c) }
         ensures { result ≡ holder_after_clone (seen self.now) c spec.now p }
     {
@@ -134,7 +134,7 @@ impl WholeWorld {
 
     /// The holder of a page of the clone.
     #[tactic(auto, unfolding(crate::specs::Holders::holder_in_clone))]
-    fn holder_in_clone(&self, c: Name, spec: &Spec, p: u16) -> Holder
+    fn holder_in_clone(&self, c: Name, spec: &Spec, p: PageNumber) -> Holder
         requires { IsTrue (is_live (seen self.now) c) }
         ensures { result ≡ holder_in_clone (seen self.now) c spec.now p }
     {
@@ -147,7 +147,7 @@ impl WholeWorld {
 
     /// The holder of a page of the context `to` once it has taken over from the context `from`.
     #[tactic(auto, unfolding(crate::specs::Holders::holder_after_overlay))]
-    fn holder_after_overlay(&self, to: Name, from: Name, spec: &Spec, p: u16) -> Holder
+    fn holder_after_overlay(&self, to: Name, from: Name, spec: &Spec, p: PageNumber) -> Holder
         requires to { IsTrue (is_live (seen self.now) to) }
         requires from { IsTrue (is_live (seen self.now) from) }
         ensures { result ≡ holder_after_overlay (seen self.now) to from spec.now p }
@@ -162,7 +162,7 @@ impl WholeWorld {
 
     /// The holder of a page of the context after the pages of a range are made present or absent.
     #[tactic(auto, unfolding(crate::specs::Holders::holder_after_map))]
-    fn holder_after_map(&self, c: Name, range: Range, present: bool, p: u16) -> Holder
+    fn holder_after_map(&self, c: Name, range: Range, present: bool, p: PageNumber) -> Holder
         requires { IsTrue (is_live (seen self.now) c) }
         ensures { result ≡ holder_after_map (seen self.now) c range.from range.to present p }
     {
@@ -174,7 +174,7 @@ impl WholeWorld {
     }
     /// A page of the context after it has been cloned.
     #[tactic(auto, unfolding(crate::specs::Holders::side_after_clone))]
-    fn side_after_clone(&self, c: Name, spec: &Spec, p: u16) -> Side
+    fn side_after_clone(&self, c: Name, spec: &Spec, p: PageNumber) -> Side
         requires { IsTrue (is_live (seen self.now) c) }
         ensures { result ≡ side_after_clone (seen self.now) c spec.now p }
     {
@@ -186,7 +186,7 @@ impl WholeWorld {
 
     /// A page of the clone.
     #[tactic(auto, unfolding(crate::specs::Holders::side_in_clone))]
-    fn side_in_clone(&self, c: Name, spec: &Spec, p: u16) -> Side
+    fn side_in_clone(&self, c: Name, spec: &Spec, p: PageNumber) -> Side
         requires { IsTrue (is_live (seen self.now) c) }
         ensures { result ≡ side_in_clone (seen self.now) c spec.now p }
     {
@@ -198,7 +198,7 @@ impl WholeWorld {
 
     /// A page of the context `to` once it has taken over from the context `from`.
     #[tactic(auto, unfolding(crate::specs::Holders::side_after_overlay))]
-    fn side_after_overlay(&self, to: Name, from: Name, spec: &Spec, p: u16) -> Side
+    fn side_after_overlay(&self, to: Name, from: Name, spec: &Spec, p: PageNumber) -> Side
         requires to { IsTrue (is_live (seen self.now) to) }
         requires from { IsTrue (is_live (seen self.now) from) }
         ensures { result ≡ side_after_overlay (seen self.now) to from spec.now p }
@@ -210,7 +210,7 @@ impl WholeWorld {
     }
 
     /// The right of a page of the context `to` once it has taken over from the context `from`.
-    fn overlaid_right(&self, to: Name, from: Name, spec: &Spec, p: u16) -> Right
+    fn overlaid_right(&self, to: Name, from: Name, spec: &Spec, p: PageNumber) -> Right
         requires to { IsTrue (is_live (seen self.now) to) }
         requires from { IsTrue (is_live (seen self.now) from) }
         ensures { result ≡ overlaid_right (seen self.now) from p (mode spec.now (Page p))
@@ -224,7 +224,7 @@ impl WholeWorld {
 
     /// A page of the context after the pages of a range are made present or absent.
     #[tactic(auto, unfolding(crate::specs::Holders::side_after_map))]
-    fn side_after_map(&self, c: Name, range: Range, present: bool, p: u16) -> Side
+    fn side_after_map(&self, c: Name, range: Range, present: bool, p: PageNumber) -> Side
         requires { IsTrue (is_live (seen self.now) c) }
         ensures { result ≡ side_after_map (seen self.now) c range.from range.to present p }
     {
@@ -235,7 +235,7 @@ impl WholeWorld {
     }
 
     /// The right of a page of the context after the pages of a range are made present or absent.
-    fn right_after_map(&self, c: Name, range: Range, p: u16) -> Right
+    fn right_after_map(&self, c: Name, range: Range, p: PageNumber) -> Right
         requires { IsTrue (is_live (seen self.now) c) }
         ensures { result ≡ writable_in range.from range.to (context (seen self.now) c).right p }
     {

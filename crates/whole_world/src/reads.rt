@@ -6,9 +6,10 @@ ghost use Rattle.lwc_base.specs.declared.key.Key.TheVariants.{Page, Slot, Cred};
 
 use crate::context_row::ContextRow;
 use crate::group_row::GroupRow;
-use crate::touched::Touched;
 use crate::world::WholeWorld;
-use lwc_base::{Cell, Lent, NOBODY, Name, PAGE_BYTES, PageValue, Right, SLOTS};
+use lwc_base::{
+    Cell, Lent, NOBODY, Name, PAGE_BYTES, PageNumber, PageValue, Range, Right, SLOTS, SlotNumber,
+};
 
 impl WholeWorld {
     ghost use Rattle.std.specs.List.{list_all, range_with_len};
@@ -24,10 +25,10 @@ impl WholeWorld {
 
     /// The number of pages of each context.
     #[tactic(auto, unfolding(crate::specs::Worlds::seen, crate::specs::States::world_of))]
-    pub(crate) fn page_count(&self) -> u16
+    pub(crate) fn page_count(&self) -> PageNumber
         ensures { result ≡ (seen self.now).size.pages }
     {
-        self.size.pages as u16
+        self.size.pages
     }
 
     /// The row of a live context.
@@ -52,7 +53,7 @@ impl WholeWorld {
     }
 
     /// The value of a group's page.
-    fn group_page(&self, g: Name, p: u16) -> Option<&PageValue>
+    fn group_page(&self, g: Name, p: PageNumber) -> Option<&PageValue>
         ensures { option_copied result ≡ (group (seen self.now) g).value (Page p) }
     {
         match self.group(g) {
@@ -62,7 +63,7 @@ impl WholeWorld {
     }
 
     /// The value of a group's slot, lent.
-    fn group_slot(&self, g: Name, n: u8) -> Lent<'_>
+    fn group_slot(&self, g: Name, n: SlotNumber) -> Lent<'_>
         requires { n < SLOTS }
         ensures { descriptor_of result ≡ (group (seen self.now) g).value (Slot n) }
     {
@@ -84,7 +85,7 @@ impl WholeWorld {
 
     /// The value of a page of a context.
     #[tactic(auto, unfolding(lwc_base::specs::Cells::value_at))]
-    pub(crate) fn page_value(&self, c: Name, p: u16) -> Option<&PageValue>
+    pub(crate) fn page_value(&self, c: Name, p: PageNumber) -> Option<&PageValue>
         requires { IsTrue (is_live (seen self.now) c) }
         ensures { option_copied result ≡ page_at (seen self.now) c p }
     {
@@ -97,7 +98,7 @@ impl WholeWorld {
 
     /// The descriptor in a slot of a context, lent.
     #[tactic(auto, unfolding(lwc_base::specs::Cells::value_at))]
-    pub(crate) fn slot_value(&self, c: Name, n: u8) -> Lent<'_>
+    pub(crate) fn slot_value(&self, c: Name, n: SlotNumber) -> Lent<'_>
         requires live { IsTrue (is_live (seen self.now) c) }
         requires within { n < SLOTS }
         ensures { descriptor_of result ≡ slot_at (seen self.now) c n }
@@ -121,7 +122,7 @@ impl WholeWorld {
     }
 
     /// Whether a page is present.
-    pub(crate) fn is_present(&self, c: Name, p: u16) -> bool
+    pub(crate) fn is_present(&self, c: Name, p: PageNumber) -> bool
         requires { IsTrue (is_live (seen self.now) c) }
         ensures { result ≡ is_some (page_at (seen self.now) c p) }
     {
@@ -129,16 +130,16 @@ impl WholeWorld {
     }
 
     /// Whether all of some pages are present.
-    pub(crate) fn are_present(&self, c: Name, pages: Touched) -> bool
+    pub(crate) fn are_present(&self, c: Name, pages: Range) -> bool
         requires { IsTrue (is_live (seen self.now) c) }
         ensures { result ≡ list_all (λ p. is_some (page_at (seen self.now) c p))
-            (range_with_len pages.first (pages.end - pages.first)) }
+            (range_with_len pages.from (pages.to - pages.from)) }
     {
-        (pages.first..pages.end).all(|p| self.is_present(c, p))
+        (pages.from..pages.to).all(|p| self.is_present(c, p))
     }
 
     /// The right of a page.
-    pub(crate) fn right(&self, c: Name, p: u16) -> Right
+    pub(crate) fn right(&self, c: Name, p: PageNumber) -> Right
         requires { IsTrue (is_live (seen self.now) c) }
         ensures { result ≡ right_at (seen self.now) c p }
     {
@@ -146,7 +147,7 @@ impl WholeWorld {
     }
 
     /// Whether bytes may be stored to a page.
-    fn may_write(&self, c: Name, p: u16) -> bool
+    fn may_write(&self, c: Name, p: PageNumber) -> bool
         requires { IsTrue (is_live (seen self.now) c) }
         ensures { result ≡ may_write (right_at (seen self.now) c p) }
     {
@@ -154,16 +155,16 @@ impl WholeWorld {
     }
 
     /// Whether bytes may be stored to all of some pages.
-    pub(crate) fn are_writable(&self, c: Name, pages: Touched) -> bool
+    pub(crate) fn are_writable(&self, c: Name, pages: Range) -> bool
         requires { IsTrue (is_live (seen self.now) c) }
         ensures { result ≡ list_all (λ p. may_write (right_at (seen self.now) c p))
-            (range_with_len pages.first (pages.end - pages.first)) }
+            (range_with_len pages.from (pages.to - pages.from)) }
     {
-        (pages.first..pages.end).all(|p| self.may_write(c, p))
+        (pages.from..pages.to).all(|p| self.may_write(c, p))
     }
 
     /// Whether a slot of a context is empty.
-    pub(crate) fn is_slot_empty(&self, c: Name, n: u8) -> bool
+    pub(crate) fn is_slot_empty(&self, c: Name, n: SlotNumber) -> bool
         requires live { IsTrue (is_live (seen self.now) c) }
         requires within { n < SLOTS }
         ensures { result ≡ is_empty (slot_at (seen self.now) c n) }
@@ -202,7 +203,7 @@ impl WholeWorld {
         requires within { at < 2 ^ 28 }
         ensures { result ≡ byte_at (seen self.now) c at }
     {
-        match self.page_value(c, (at / PAGE_BYTES) as u16) {
+        match self.page_value(c, (at / PAGE_BYTES) as PageNumber) {
             Some(PageValue::Data(_, bytes)) => bytes.as_slice()[at % PAGE_BYTES],
             _ => 0,
         }

@@ -13,7 +13,7 @@ ghost use Rattle.whole_world.specs.Worlds.{seen};
 use crate::context_row::ContextRow;
 use crate::world::WholeWorld;
 use arrayvec::ArrayVec;
-use lwc_base::{Cell, Lent, Name};
+use lwc_base::{Cell, Lent, Name, SlotNumber};
 use reach::{Links, Marks, mark};
 
 /// The places are those of the rows of contexts.
@@ -22,7 +22,7 @@ impl Links for WholeWorld {
 
     ghost link_of = { spec.link_of };
 
-    fn link(&self, place: usize, slot: u8) -> Option<usize> {
+    fn link(&self, place: usize, slot: SlotNumber) -> Option<usize> {
         match self.contexts.name_at(place) {
             Some(c) => self.place_of(self.slot_value(c, slot)),
             None => None,

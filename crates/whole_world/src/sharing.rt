@@ -16,13 +16,13 @@ ghost use Rattle.whole_world.specs.Sound.{HasGroupSizeOf, HasKey, HasSizeOf, Has
 use crate::context_row::ContextRow;
 use crate::group_row::GroupRow;
 use crate::world::WholeWorld;
-use lwc_base::{Key, Mode, Name, OutOfMemory, SLOTS, Spec};
+use lwc_base::{Key, Mode, Name, OutOfMemory, PageNumber, SLOTS, Spec};
 use res_spec::mode_or_copy;
 
 impl ContextRow {
     /// Whether any value moves into a group, where the spec gives each key its mode.
     #[tactic(auto, unfolding(lwc_base::specs::Sharing::any_key))]
-    pub fn moves_any(&self, pages: u16, spec: &Spec) -> bool
+    pub fn moves_any(&self, pages: PageNumber, spec: &Spec) -> bool
         requires { IsWhole pages self.now }
         ensures { result ≡ any_key pages (λ k. is_moved (mode_or_copy spec.now k) k
             ((context_of self.now).cell k)) }
@@ -31,7 +31,7 @@ impl ContextRow {
     }
 
     /// Whether the value of any page moves.
-    fn moves_pages(&self, pages: u16, spec: &Spec) -> bool
+    fn moves_pages(&self, pages: PageNumber, spec: &Spec) -> bool
         ensures { result ≡ list_any (λ p. is_moved (mode_or_copy spec.now (Page p)) (Page p)
             ((context_of self.now).cell (Page p))) (range_with_len 0 pages) }
     {
@@ -56,7 +56,7 @@ impl ContextRow {
     }
 
     /// Moves the own values under share into a group of this name with nothing in it.
-    pub fn move_values(&mut self, pages: u16, spec: &Spec, name: Name, group: &mut GroupRow)
+    pub fn move_values(&mut self, pages: PageNumber, spec: &Spec, name: Name, group: &mut GroupRow)
         requires whole { IsWhole pages self.old }
         requires whole_group { IsWholeGroup pages group.old }
         requires within { IsSpec pages spec.now }
@@ -72,7 +72,7 @@ impl ContextRow {
     }
 
     /// Moves the own pages under share.
-    fn move_pages(&mut self, pages: u16, spec: &Spec, name: Name, group: &mut GroupRow)
+    fn move_pages(&mut self, pages: PageNumber, spec: &Spec, name: Name, group: &mut GroupRow)
         requires whole { IsWhole pages self.old }
         requires whole_group { IsWholeGroup pages group.old }
         ensures whole { IsWhole pages self.new }
@@ -89,7 +89,7 @@ impl ContextRow {
     }
 
     /// Moves the own slots under share.
-    fn move_slots(&mut self, pages: u16, spec: &Spec, name: Name, group: &mut GroupRow)
+    fn move_slots(&mut self, pages: PageNumber, spec: &Spec, name: Name, group: &mut GroupRow)
         requires whole { IsWhole pages self.old }
         requires whole_group { IsWholeGroup pages group.old }
         ensures whole { IsWhole pages self.new }

@@ -1,9 +1,8 @@
 ghost use Rattle.std.specs.Prelude.{◌≡◌, ◌-◌, ◌<◌, ◌≤◌, ◌^◌, IfOk, IsTrue, count_by};
 
 use crate::pages::new_value;
-use crate::touched::Touched;
 use crate::world::WholeWorld;
-use lwc_base::{Name, OutOfMemory, PageValue, Tag};
+use lwc_base::{Name, OutOfMemory, PageNumber, PageValue, Range, Tag};
 
 impl WholeWorld {
     ghost use Rattle.std.specs.List.{range_with_len};
@@ -14,14 +13,14 @@ impl WholeWorld {
 
     /// The number of pages that a store to some pages parts.
     #[tactic(auto, using(lwc_base::proofs::Small::count_of_range))]
-    pub(crate) fn parting_count(&self, c: Name, pages: Touched) -> usize
+    pub(crate) fn parting_count(&self, c: Name, pages: Range) -> usize
         requires { IsTrue (is_live (seen self.now) c) }
         ensures parting { result ≡ count_by (λ p. is_parting (seen self.now) (page_value_at
             (seen self.now) c p))
-            (range_with_len pages.first (pages.end - pages.first)) }
-        ensures few { result ≤ pages.end - pages.first }
+            (range_with_len pages.from (pages.to - pages.from)) }
+        ensures few { result ≤ pages.to - pages.from }
     {
-        (pages.first..pages.end)
+        (pages.from..pages.to)
             .filter(|p| self.is_parting(c, *p))
             .count()
     }
@@ -33,18 +32,18 @@ impl WholeWorld {
         at: usize,
         piece: &[u8],
         job: u32,
-        pages: Touched,
-    ) -> Result<Vec<(u16, PageValue)>, OutOfMemory>
+        pages: Range,
+    ) -> Result<Vec<(PageNumber, PageValue)>, OutOfMemory>
         requires live { IsTrue (is_live (seen self.now) c) }
         requires job { job < (seen self.now).size.jobs }
         requires counted { ((seen self.now).next job).tags < 2 ^ 31 }
         ensures { IfOk result (λ values. values.items
             ≡ stored_pages (seen self.now) c job (record { at = at; bytes = piece.now })
-            ((seen self.now).next job).tags (range_with_len pages.first (pages.end - pages.first))) }
+            ((seen self.now).next job).tags (range_with_len pages.from (pages.to - pages.from))) }
     {
         let mut k = self.counts_of(job).tags;
         let mut values = Vec::new(self.alloc);
-        for p in pages.first..pages.end {
+        for p in pages.from..pages.to {
             let parting = self.is_parting(c, p);
             let value = new_value(
                 self.alloc,

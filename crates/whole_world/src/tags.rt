@@ -10,7 +10,7 @@ ghost use Rattle.whole_world.specs.Tags.{times};
 use crate::context_row::ContextRow;
 use crate::group_row::GroupRow;
 use crate::world::WholeWorld;
-use lwc_base::{Cell, Name, PageValue, Tag};
+use lwc_base::{Cell, Name, PageNumber, PageValue, Tag};
 
 /// The tag of a page's value, if it has one.
 fn tag_of(value: Option<&PageValue>) -> Option<Tag>
@@ -246,7 +246,7 @@ impl WholeWorld {
     }
 
     /// Whether a store to a page of a context parts it. An absent page reads as zeros, which part.
-    pub(crate) fn is_parting(&self, c: Name, p: u16) -> bool
+    pub(crate) fn is_parting(&self, c: Name, p: PageNumber) -> bool
         requires { IsTrue (is_live (seen self.now) c) }
         ensures { result ≡ is_parting (seen self.now) (page_value_at (seen self.now) c p) }
     {

@@ -8,10 +8,10 @@ use crate::counts::Counts;
 use crate::group_row::GroupRow;
 use crate::key_value::KeyValue;
 use crate::table::Table;
-use crate::touched::touched_pages;
 use access_cap::owned;
 use lwc_base::{
-    Lent, Mode, Name, OutOfMemory, Range, Regs, SLOTS, Spec, StoreFault, Summary, WorldSize,
+    Lent, Mode, Name, OutOfMemory, PageNumber, Range, Regs, SLOTS, SlotNumber, Spec, StoreFault,
+    Summary, WorldSize, touched_pages,
 };
 use std::alloc::Global;
 use world_face::World;
@@ -46,8 +46,8 @@ impl World for WholeWorld {
         })
     }
 
-    fn pages(&self) -> u32 {
-        u32::from(self.page_count())
+    fn pages(&self) -> PageNumber {
+        self.page_count()
     }
 
     fn first(&mut self, uid: u32, entry: &Regs) -> Result<Name, OutOfMemory> {
@@ -97,21 +97,21 @@ impl World for WholeWorld {
         }
     }
 
-    fn slot(&self, c: Name, n: u8) -> Lent<'_> {
+    fn slot(&self, c: Name, n: SlotNumber) -> Lent<'_> {
         self.slot_value(c, n)
     }
 
-    fn set_slot(&mut self, c: Name, n: u8, value: Lent<'_>) {
+    fn set_slot(&mut self, c: Name, n: SlotNumber, value: Lent<'_>) {
         self.put(c, KeyValue::Slot(n, owned(value)));
     }
 
-    fn dup_slot(&mut self, c: Name, from: u8, to: u8) {
+    fn dup_slot(&mut self, c: Name, from: SlotNumber, to: SlotNumber) {
         let value = owned(self.slot_value(c, from));
         self.put(c, KeyValue::Slot(to, value));
     }
 
     #[tactic(auto, unfolding(lwc_base::specs::Slots::lowest_empty))]
-    fn lowest_empty(&self, c: Name) -> Option<u8> {
+    fn lowest_empty(&self, c: Name) -> Option<SlotNumber> {
         (0..SLOTS).find(|n| self.is_slot_empty(c, *n))
     }
 

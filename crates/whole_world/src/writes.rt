@@ -5,7 +5,7 @@ use crate::context_row::ContextRow;
 use crate::holder::Holder;
 use crate::key_value::KeyValue;
 use crate::world::WholeWorld;
-use lwc_base::{Name, OutOfMemory, PageValue, Range, Regs};
+use lwc_base::{Name, OutOfMemory, PageNumber, PageValue, Range, Regs};
 
 impl WholeWorld {
     ghost use Rattle.lwc_base.specs.Cells.{put_at, with_value};
@@ -63,7 +63,7 @@ impl WholeWorld {
     }
 
     /// Puts other values under pages of a context, one after another.
-    pub(crate) fn put_pages(&mut self, c: Name, values: Vec<(u16, PageValue)>)
+    pub(crate) fn put_pages(&mut self, c: Name, values: Vec<(PageNumber, PageValue)>)
         requires { IsTrue (is_live (seen self.old) c) }
         ensures { seen self.new ≡ put_pages (seen self.old) c values.items }
     {

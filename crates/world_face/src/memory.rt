@@ -5,10 +5,10 @@ ghost use Rattle.lwc_base.specs.declared.page.TheConstants.{PAGE_BYTES};
 ghost use Rattle.world_face.specs.Calls.{IsLive};
 
 use crate::world::World;
-use lwc_base::{Name, PAGE_BYTES};
+use lwc_base::{Name, PAGE_BYTES, PageNumber};
 
 /// Whether `count` bytes from the address `at` on end within `pages` pages.
-pub fn is_within(pages: u32, at: u64, count: usize) -> bool
+pub fn is_within(pages: PageNumber, at: u64, count: usize) -> bool
     requires { pages ≤ MOST_PAGES }
     ensures { result ≡ nat_le (at + count) (pages * PAGE_BYTES) }
 {

@@ -22,7 +22,10 @@ ghost use Rattle.lwc_base.specs.declared.limits.TheConstants.{MOST_PAGES, MOST_R
 ghost use Rattle.lwc_base.specs.declared.page.TheConstants.{PAGE_BYTES};
 ghost use Rattle.world_face.specs.Calls.{AreFew, HasGroupPlace, HasPlace, IsSize, IsLive, MayName};
 
-use lwc_base::{Lent, Name, OutOfMemory, Range, Regs, Spec, StoreFault, Summary, WorldSize};
+use lwc_base::{
+    Lent, Name, OutOfMemory, PageNumber, Range, Regs, SlotNumber, Spec, StoreFault, Summary,
+    WorldSize,
+};
 use std::alloc::Global;
 
 /// A world of contexts and groups. However it is represented, it stands for the value `seen`; each call
@@ -41,7 +44,7 @@ pub trait World: Sized + Drop + Send + Sync {
 
     /// The number of pages that a context may have, at most `MOST_PAGES`: 1024 for an image of form 1, 16384
     /// for form 2.
-    fn pages(&self) -> u32
+    fn pages(&self) -> PageNumber
         ensures pages { result ≡ (seen self.now).size.pages }
         ensures few { (seen self.now).size.pages ≤ MOST_PAGES };
 
@@ -109,26 +112,26 @@ pub trait World: Sized + Drop + Send + Sync {
         ensures ample { roomy ≡ true → result ≢ Err StoreFault.OutOfMemory };
 
     /// The descriptor in a slot of the context, lent.
-    fn slot(&self, c: Name, n: u8) -> Lent<'_>
+    fn slot(&self, c: Name, n: SlotNumber) -> Lent<'_>
         requires live { IsLive (seen self.now) c }
         requires within { n < SLOTS }
         ensures value { descriptor_of result ≡ slot_at (seen self.now) c n };
 
     /// Puts another descriptor into a slot of the context.
-    fn set_slot(&mut self, c: Name, n: u8, value: Lent<'_>)
+    fn set_slot(&mut self, c: Name, n: SlotNumber, value: Lent<'_>)
         requires live { IsLive (seen self.old) c }
         requires within { n < SLOTS }
         ensures put { seen self.new ≡ put_slot (seen self.old) c n (descriptor_of value.entry) };
 
     /// Puts the descriptor in the slot `from` of the context into its slot `to` too.
-    fn dup_slot(&mut self, c: Name, from: u8, to: u8)
+    fn dup_slot(&mut self, c: Name, from: SlotNumber, to: SlotNumber)
         requires live { IsLive (seen self.old) c }
         requires from { from < SLOTS }
         requires to { to < SLOTS }
         ensures put { seen self.new ≡ put_slot (seen self.old) c to (slot_at (seen self.old) c from) };
 
     /// The lowest empty slot of the context; `None` if no slot is empty.
-    fn lowest_empty(&self, c: Name) -> Option<u8>
+    fn lowest_empty(&self, c: Name) -> Option<SlotNumber>
         requires live { IsLive (seen self.now) c }
         ensures lowest { result ≡ lowest_empty (seen self.now) c };
 

@@ -115,7 +115,7 @@ pieces-preserved g c =
 pub returns-clause-maps : goal.returns-clause-maps
 returns-clause-maps g c =
     let before = maps c.args.rows.now in
-    let last : c.pieces.p ≡ MOST_PAGES = omega (arith, c.pieces-test.false, c.from.ensures, c.pieces.invariant.inside) in
+    let last : c.pieces.p ≡ MOST_PAGES = omega (arith, c.pieces-test.false, c.pieces.invariant.inside) in
     filled-all before c.args.i (changed_row before c.args.i c.args.page_runs.now) (maps c.pieces.rows) (c.pieces.invariant.maps ∙ ap (filled before c.args.i (changed_row before c.args.i c.args.page_runs.now)) last)
     (λ q past. by-page_run before c.args.i q c.args.page_runs.now None (past-page_run (length before) c.args.i q c.args.page_runs.now past c.requires.page_runs))
 

@@ -4,7 +4,7 @@ use Rattle.lwc_base.specs.declared.item.Item.{Item}
 use Rattle.lwc_base.specs.declared.key.Key.TheVariants.{Page}
 use Rattle.lwc_base.specs.declared.limits.TheConstants.{MOST_PAGES}
 use Rattle.lwc_base.specs.Modes.{IsSpec, mode}
-use Rattle.cow_space.specs.declared.page_runs.ReadRange.{ReadRange}
+use Rattle.lwc_base.specs.declared.range.Range.{Range}
 use Rattle.cow_space.specs.Changes.{have_page}
 use Rattle.lazy_world.specs.Transfers.{is_read}
 use Rattle.lazy_world.proofs.CloneOrigins.{read_passed, read_pushed}
@@ -13,7 +13,7 @@ use Rattle.lazy_world.proofs.transfer.read_pages.Goals as goal
 pub loop-item-init : goal.loop-item-init
 unfolding mode
 loop-item-init c = record {
-  reads = λ q. ap (λ (xs : List ReadRange). have_page xs q) c.new-pages.ensures;
+  reads = λ q. ap (λ (xs : List Range). have_page xs q) c.new-pages.ensures;
   few = omega (arith, ap length c.new-pages.ensures);
 }
 
@@ -38,7 +38,7 @@ loop-item-preserved c =
     let told = c.in-Some.ensures in
     let valid = subst (IsSpec MOST_PAGES) (sym c.items-item-items.ensures.items) c.items-item-items.ensures.valid in
     record {
-      reads = λ q. ap (λ (xs : List ReadRange). have_page xs q) c.push.ensures.items
+      reads = λ q. ap (λ (xs : List Range). have_page xs q) c.push.ensures.items
           ∙ read_pushed c.items-item-items.result.now MOST_PAGES valid c.loop-item.item-index _ c.loop-item-test.true q c.loop-item.pages.items (inv.reads q) r (told.pages q) told.read;
       few = omega (arith, ap length c.push.ensures.items, length-append c.loop-item.pages.items (r ∷ []), inv.few);
     }

@@ -18,7 +18,7 @@ pub push-requires : goal.push-requires
 push-requires c =
     let kinds = state_after c.args.changes.now c.args.segments.now in
     let end = c.run_end-end.ensures in
-    let inside : c.runs.p < MOST_PAGES = omega (arith, c.runs-test.true, c.from.ensures) in
+    let inside : c.runs.p < MOST_PAGES = omega (arith, c.runs-test.true) in
     let some : kinds c.runs.p ≡ Some c.in-Some.state = sym c.state_after.ensures ∙ c.in-Some.is in
     let more = one_more kinds c.runs.p (c.run_end-end.result - c.runs.p - 1) c.run_end-end.result (omega (arith, end.past)) end.alike (c.runs.invariant.begins inside) in
     let all = ranges_grow kinds c.run_end-end.result (MOST_PAGES - c.run_end-end.result) MOST_PAGES (omega (arith, end.within)) in
@@ -29,7 +29,7 @@ pub runs-preserved-in-Some : goal.runs-preserved-in-Some
 runs-preserved-in-Some c =
     let kinds = state_after c.args.changes.now c.args.segments.now in
     let end = c.run_end-end.ensures in
-    let inside : c.runs.p < MOST_PAGES = omega (arith, c.runs-test.true, c.from.ensures) in
+    let inside : c.runs.p < MOST_PAGES = omega (arith, c.runs-test.true) in
     let some : kinds c.runs.p ≡ Some c.in-Some.state = sym c.state_after.ensures ∙ c.in-Some.is in
     record {
       inside = end.within;
@@ -42,7 +42,7 @@ pub runs-preserved : goal.runs-preserved
 runs-preserved c =
     let kinds = state_after c.args.changes.now c.args.segments.now in
     let end = c.run_end-end.ensures in
-    let inside : c.runs.p < MOST_PAGES = omega (arith, c.runs-test.true, c.from.ensures) in
+    let inside : c.runs.p < MOST_PAGES = omega (arith, c.runs-test.true) in
     record {
       inside = end.within;
       begins = end.begins;
@@ -53,5 +53,5 @@ runs-preserved c =
 pub returns-clause-canonical : goal.returns-clause-canonical
 returns-clause-canonical c =
     let kinds = state_after c.args.changes.now c.args.segments.now in
-    let last : c.runs.p ≡ MOST_PAGES = omega (arith, c.runs-test.false, c.from.ensures, c.runs.invariant.inside) in
+    let last : c.runs.p ≡ MOST_PAGES = omega (arith, c.runs-test.false, c.runs.invariant.inside) in
     all_built kinds c.runs.after.items (subst (λ p. HasRunsBelow p kinds c.runs.after.items) last c.runs.invariant.built)

@@ -28,7 +28,7 @@ pages-init c =
 pub push-requires : goal.push-requires
 push-requires c =
     let w = c.args.self.now in
-    let inside : c.pages.p < MOST_PAGES = omega (arith, c.pages-test.true, c.from.ensures) in
+    let inside : c.pages.p < MOST_PAGES = omega (arith, c.pages-test.true) in
     (omega arith, few-turns (states_of (rows w.places c.args.from) (rights w.places c.args.from)) c.args.spec.now c.pages.p (length c.pages.page_runs.items) inside c.run_from_page-page_run.ensures.few c.requires.within.few (c.pages.invariant.few inside))
 
 pub pages-preserved-in-Some : goal.pages-preserved-in-Some
@@ -49,9 +49,9 @@ pages-preserved-in-Some c =
           })
           (subst (λ o. CanGet (count w.places) c.args.to (option_map (λ (s : PageRun). s.origin) o)) is got.can));
       few = λ early. more-turns (states_of (rows w.places c.args.from) (rights w.places c.args.from)) c.args.spec.now c.pages.p c.run_from_page-page_run.result.1 (length c.pages.page_runs.items) (length c.push.new.self.items) got.past got.alike (got.edge early)
-          (omega (arith, ap length c.push.ensures.items, length-append c.pages.page_runs.items (c.in-Some.page_run ∷ []))) (c.pages.invariant.few (omega (arith, c.pages-test.true, c.from.ensures)));
+          (omega (arith, ap length c.push.ensures.items, length-append c.pages.page_runs.items (c.in-Some.page_run ∷ []))) (c.pages.invariant.few (omega (arith, c.pages-test.true)));
       most =
-          let inside : c.pages.p < MOST_PAGES = omega (arith, c.pages-test.true, c.from.ensures) in
+          let inside : c.pages.p < MOST_PAGES = omega (arith, c.pages-test.true) in
           let all = most-turns (states_of (rows w.places c.args.from) (rights w.places c.args.from)) c.args.spec.now c.pages.p (length c.pages.page_runs.items) inside (c.pages.invariant.few inside) in
           omega (arith, all, ap length c.push.ensures.items, length-append c.pages.page_runs.items (c.in-Some.page_run ∷ []));
     }
@@ -71,15 +71,15 @@ pages-preserved c =
                 (gift_right (rights w.places) q (rights w.places c.args.to q) (option_map gift_of o))) is) ∙ got.rights q low high;
           });
       few = λ early. more-turns (states_of (rows w.places c.args.from) (rights w.places c.args.from)) c.args.spec.now c.pages.p c.run_from_page-page_run.result.1 (length c.pages.page_runs.items) (length c.pages.page_runs.items) got.past got.alike (got.edge early)
-          (omega arith) (c.pages.invariant.few (omega (arith, c.pages-test.true, c.from.ensures)));
+          (omega arith) (c.pages.invariant.few (omega (arith, c.pages-test.true)));
       most = c.pages.invariant.most;
     }
 
 pub returns-clause-gives : goal.returns-clause-gives
-returns-clause-gives c q low = (c.pages.invariant.has.done q (omega (arith, c.pages-test.false, c.from.ensures))).cell
+returns-clause-gives c q low = (c.pages.invariant.has.done q (omega (arith, c.pages-test.false))).cell
 
 pub returns-clause-rights : goal.returns-clause-rights
-returns-clause-rights c q low = (c.pages.invariant.has.done q (omega (arith, c.pages-test.false, c.from.ensures))).right
+returns-clause-rights c q low = (c.pages.invariant.has.done q (omega (arith, c.pages-test.false))).right
 
 pub returns-clause-past : goal.returns-clause-past
 returns-clause-past c q low = c.pages.invariant.has.rest q (omega (arith, c.pages.invariant.inside))

@@ -50,9 +50,9 @@ unfolding parts
 is_full c =
     let w = seen c.args.self.now in
     let there = present-touched _ _ _ _ _ _ _ c.place-i.ensures.context c.touched_pages-pages.ensures.pages c.are_present.ensures ∙ c.if-not-are_present.false in
-    let many = parting-in w c.args.c (context_at (parts c.args.self.now) c.place-i.result) (range_with_len c.touched_pages-pages.result.first (c.touched_pages-pages.result.end - c.touched_pages-pages.result.first)) c.place-i.ensures.context in
+    let many = parting-in w c.args.c (context_at (parts c.args.self.now) c.place-i.result) (range_with_len c.touched_pages-pages.result.from (c.touched_pages-pages.result.to - c.touched_pages-pages.result.from)) c.place-i.ensures.context in
     let may = writable-touched w c.args.c (context_at (parts c.args.self.now) c.place-i.result) _ _ _ _ c.place-i.ensures.context c.touched_pages-pages.ensures.pages c.are_writable.ensures ∙ c.if-not-are_writable.false in
-    store-full w c.args.c c.args.job (record { at = c.args.at; bytes = c.args.piece.now }) there may (range_with_len c.touched_pages-pages.result.first (c.touched_pages-pages.result.end - c.touched_pages-pages.result.first)) c.touched_pages-pages.ensures.pages (let lacks = c.lacks_frames.ensures.lacking c.if-lacks_frames.true in omega (arith, many, lacks))
+    store-full w c.args.c c.args.job (record { at = c.args.at; bytes = c.args.piece.now }) there may (range_with_len c.touched_pages-pages.result.from (c.touched_pages-pages.result.to - c.touched_pages-pages.result.from)) c.touched_pages-pages.ensures.pages (let lacks = c.lacks_frames.ensures.lacking c.if-lacks_frames.true in omega (arith, many, lacks))
 
 pub returns-then-lacks_frames-clause-bad_address : goal.returns-then-lacks_frames-clause-bad_address
 returns-then-lacks_frames-clause-bad_address c = (λ same. cc, λ absent. let full = is_full c in cc)
@@ -65,12 +65,12 @@ returns-then-lacks_frames-clause-no_frame c = (λ _. is_full c, λ _. refl)
 
 pub write_pages-requires-clause-there : goal.write_pages-requires-clause-there
 unfolding parts
-write_pages-requires-clause-there c = all-in (seen c.args.self.now) c.args.c (context_at (parts c.args.self.now) c.place-i.result) (range_with_len c.touched_pages-pages.result.first (c.touched_pages-pages.result.end - c.touched_pages-pages.result.first)) c.place-i.ensures.context c.are_present.result c.are_present.ensures ∙ c.if-not-are_present.false
+write_pages-requires-clause-there c = all-in (seen c.args.self.now) c.args.c (context_at (parts c.args.self.now) c.place-i.result) (range_with_len c.touched_pages-pages.result.from (c.touched_pages-pages.result.to - c.touched_pages-pages.result.from)) c.place-i.ensures.context c.are_present.result c.are_present.ensures ∙ c.if-not-are_present.false
 
 pub write_pages-requires-clause-enough : goal.write_pages-requires-clause-enough
 unfolding parts
 write_pages-requires-clause-enough c =
-    let many = parting-in (seen c.args.self.now) c.args.c (context_at (parts c.args.self.now) c.place-i.result) (range_with_len c.touched_pages-pages.result.first (c.touched_pages-pages.result.end - c.touched_pages-pages.result.first)) c.place-i.ensures.context in
+    let many = parting-in (seen c.args.self.now) c.args.c (context_at (parts c.args.self.now) c.place-i.result) (range_with_len c.touched_pages-pages.result.from (c.touched_pages-pages.result.to - c.touched_pages-pages.result.from)) c.place-i.ensures.context in
     let enough = c.lacks_frames.ensures.enough c.if-lacks_frames.false in omega (arith, many, enough)
 
 pub returns-clause-done : goal.returns-clause-done
@@ -78,9 +78,9 @@ unfolding parts
 returns-clause-done c =
     let w = seen c.args.self.now in
     let there = present-touched _ _ _ _ _ _ _ c.place-i.ensures.context c.touched_pages-pages.ensures.pages c.are_present.ensures ∙ c.if-not-are_present.false in
-    let many = parting-in w c.args.c (context_at (parts c.args.self.now) c.place-i.result) (range_with_len c.touched_pages-pages.result.first (c.touched_pages-pages.result.end - c.touched_pages-pages.result.first)) c.place-i.ensures.context in
+    let many = parting-in w c.args.c (context_at (parts c.args.self.now) c.place-i.result) (range_with_len c.touched_pages-pages.result.from (c.touched_pages-pages.result.to - c.touched_pages-pages.result.from)) c.place-i.ensures.context in
     let may = writable-touched w c.args.c (context_at (parts c.args.self.now) c.place-i.result) _ _ _ _ c.place-i.ensures.context c.touched_pages-pages.ensures.pages c.are_writable.ensures ∙ c.if-not-are_writable.false in
-    store-done w c.args.c c.args.job (record { at = c.args.at; bytes = c.args.piece.now }) there may (range_with_len c.touched_pages-pages.result.first (c.touched_pages-pages.result.end - c.touched_pages-pages.result.first)) c.touched_pages-pages.ensures.pages (let enough = c.lacks_frames.ensures.enough c.if-lacks_frames.false in omega (arith, many, enough))
+    store-done w c.args.c c.args.job (record { at = c.args.at; bytes = c.args.piece.now }) there may (range_with_len c.touched_pages-pages.result.from (c.touched_pages-pages.result.to - c.touched_pages-pages.result.from)) c.touched_pages-pages.ensures.pages (let enough = c.lacks_frames.ensures.enough c.if-lacks_frames.false in omega (arith, many, enough))
     ∙ ap Done (sym c.write_pages.ensures)
 
 pub returns-clause-bad_address : goal.returns-clause-bad_address

@@ -20,7 +20,7 @@ pub runs-preserved : goal.runs-preserved
 runs-preserved c =
     let kinds = state_after c.args.changes.now c.as_slice-segments.result.now in
     let end = c.run_end-p.ensures in
-    let inside : c.runs.p < MOST_PAGES = omega (arith, c.runs-test.true, c.from.ensures) in
+    let inside : c.runs.p < MOST_PAGES = omega (arith, c.runs-test.true) in
     let counted = c.runs.invariant.counted in
     let more = one_more kinds c.runs.p (c.run_end-p.result - c.runs.p - 1) c.run_end-p.result (omega arith) end.alike (c.runs.invariant.begins inside) in
     record {
