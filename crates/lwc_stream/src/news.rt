@@ -7,7 +7,7 @@ use std::hint::spin_loop;
 use std::sync::Wait;
 use std::sync::atomic::{AtomicBool, AtomicU64, Ordering};
 
-/// How often the caller looks for news before it sleeps. To sleep and to be woken costs more than these looks.
+/// How often the caller looks for news before it sleeps. `docs/DECISIONS.md` has what other numbers cost.
 const LOOKS: u32 = 1000;
 
 /// How often the caller was called, how many workers have ended, whether the caller sleeps, and whether it is itself at

@@ -73,15 +73,6 @@ impl Finished {
             bytes: ReplyBytes::of(self.bytes.as_slice()),
         }
     }
-
-    /// Makes this record the same as another one. It takes no memory.
-    pub fn copy_from(&mut self, other: &Finished)
-        ensures { self.new ≡ other.now }
-    {
-        self.request = other.request;
-        self.status = other.status;
-        self.bytes.set(other.bytes.as_slice());
-    }
 }
 
 /// What is recorded of request `r`, whose thread has ended with a status: the bytes are those written so far.
@@ -109,8 +100,7 @@ mod tests {
         let mut io = Channels::open(rt.alloc(), Sequence::of(Vec::new(rt.alloc())), requests)?;
         io.append_reply(0, [4, 5].as_slice());
         let finished = finish(&io, 0, ThreadStatus::Done { code: 3 });
-        let mut same = finish(&io, 0, ThreadStatus::Idle);
-        same.copy_from(&finished.same());
+        let same = finished.same();
         assert_eq!(rt; same.request, 0);
         assert_eq!(rt; same.status, ThreadStatus::Done { code: 3 });
         assert_eq!(rt; same.bytes.as_slice(), [4, 5].as_slice());
