@@ -194,7 +194,7 @@ impl PageCells {
         ensures past { (p : ℕ) → MOST_PAGES ≤ p → state_at result p ≡ None }
     {
         let mut kinds = RangeMap::empty();
-        let mut p = 0u16;
+        let mut p: PageNumber = 0;
         'pieces: while p < MOST_PAGES {
             let piece = self.piece_at(i, page_runs, reads, p);
             if let Some(state) = piece.state() {

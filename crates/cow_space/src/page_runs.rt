@@ -15,7 +15,7 @@ ghost use Rattle.cow_space.specs.Seen.{cells, frames_of, free_frames, free_nodes
 use crate::cells::PageCells;
 use crate::kinds::{has_own_page, page_run_at, page_run_edge};
 use crate::rows::Rows;
-use lwc_base::{MOST_PAGES, Name, Range, Right};
+use lwc_base::{MOST_PAGES, Name, PageNumber, Range, Right};
 use pool_base::Steps;
 use range_map::RangeMap;
 use std::sync::ledger::Ledger;
@@ -112,7 +112,7 @@ fn fill_row<L: Ledger>(rows: &mut Rows, i: usize, page_runs: &[PageRun], steps: 
     ensures cost { steps.new ≤ steps.old + 1532 * length page_runs.now }
     ensures cost_empty { rows_seen.HasNoTree rows.old i → steps.new ≤ steps.old + 128 * length page_runs.now }
 {
-    let mut p = 0u16;
+    let mut p: PageNumber = 0;
     'pieces: while p < MOST_PAGES {
         let edge = page_run_edge(page_runs, p);
         if let Some(page_run) = page_run_at(page_runs, p) {
@@ -133,7 +133,7 @@ impl PageCells {
     {
         let mut count = 0u32;
         let mut last = None;
-        let mut p = 0u16;
+        let mut p: PageNumber = 0;
         'pieces: while p < MOST_PAGES {
             let piece = self.piece_at(i, page_runs, reads, p);
             let state = piece.state();

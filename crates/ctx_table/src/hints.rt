@@ -13,7 +13,7 @@ pub(crate) const HINTS: u32 = 2048;
 /// wrong.
 #[derive(Drop)]
 pub(crate) struct Hints {
-    places: Vec<u16>,
+    places: Vec<usize>,
 }
 
 impl Model for Hints {
@@ -41,7 +41,7 @@ impl Hints {
     pub(crate) fn open(alloc: Global) -> Result<Hints, OutOfMemory>
         ensures { IfOk result (λ hints. hints ≡ replicate HINTS 0) }
     {
-        let places = vec![in alloc; 0u16; HINTS as usize]?;
+        let places = vec![in alloc; 0usize; HINTS as usize]?;
         Ok(Hints { places })
     }
 
@@ -49,12 +49,12 @@ impl Hints {
     pub(crate) fn place(&self, name: Name) -> usize
         ensures { result ≡ slice_index_or self.now (number_of name) 0 }
     {
-        usize::from(self.places[number_of(name)])
+        self.places[number_of(name)]
     }
 
     /// Makes a place the hint for a name. `hinted` is the live name at the place that the hint gives now, if
     /// there is one. If it shares the hint, the hint stays, so that a name that lives long keeps its hint.
-    pub(crate) fn offer(&mut self, name: Name, place: u16, hinted: Option<Name>)
+    pub(crate) fn offer(&mut self, name: Name, place: usize, hinted: Option<Name>)
         ensures { self.new
             ≡ (if shares_hint hinted name then self.old else slice_set self.old (number_of name) place) }
     {

@@ -72,7 +72,7 @@ impl Names {
         let hinted = self.at(self.hints.place(name));
         let place = self.free_place();
         self.index.insert(name, place);
-        self.hints.offer(name, place as u16, hinted);
+        self.hints.offer(name, place, hinted);
         self.places[place] = Some(name);
         self.taken = place + 1;
         place

@@ -2,13 +2,14 @@ ghost use Rattle.std.specs.Prelude.{◌≡◌};
 ghost use Rattle.fd_table.specs.Slots.{context_in, is_common, is_filled};
 ghost use Rattle.fd_table.specs.Fillings.{slot_of};
 
+use crate::slots::TargetNumber;
 use lwc_base::{Cell, Lent, Name};
 
 /// What a slot has, lent: its cell, and the number that it names.
 #[derive(Drop)]
 pub(crate) struct Filling<'a> {
     pub(crate) cell: Cell<Lent<'a>>,
-    pub(crate) target: Option<u16>,
+    pub(crate) target: Option<TargetNumber>,
 }
 
 impl Filling<'_> {

@@ -4,6 +4,7 @@ ghost use Rattle.fd_table.specs.Fillings.{slot_of};
 ghost use Rattle.fd_table.specs.Slots.{Slot, empty_slot};
 
 use crate::filling::Filling;
+use crate::slots::TargetNumber;
 use crate::stored::{StoredCell, words_of};
 use lwc_base::{Cap, OutOfMemory};
 use std::alloc::Global;
@@ -13,7 +14,7 @@ use std::marker::Model;
 #[derive(Clone, Copy)]
 pub(crate) struct Stored {
     cell: StoredCell,
-    target: Option<u16>,
+    target: Option<TargetNumber>,
 }
 
 /// Stored fillings, seen as the slots that they stand for. Each has room for the words of a capability beside

@@ -12,4 +12,4 @@ pub mod stored;
 pub mod table;
 
 pub use bits::lowest_bit;
-pub use slots::{NUMBERS, Slots};
+pub use slots::{NUMBERS, Slots, TargetNumber};

@@ -7,6 +7,7 @@ ghost use Rattle.fd_table.specs.Tables.{times};
 
 use crate::filling::Filling;
 use crate::pool::Pool;
+use crate::slots::TargetNumber;
 use lwc_base::OutOfMemory;
 use std::alloc::Global;
 
@@ -29,7 +30,7 @@ fn names_any(entries: &[u32]) -> bool
 }
 
 /// Counts one more object for a place, if there is one.
-fn count_more(named: &mut Vec<u32>, place: Option<u16>)
+fn count_more(named: &mut Vec<u32>, place: Option<TargetNumber>)
     requires inside { IfSome place (λ p. p < length named.old.items) }
     requires fits { IfSome place (λ p. slice_index named.old.items p + 1 < 2 ^ 32) }
     ensures { named.new.items ≡ counted_more named.old.items place }
@@ -40,7 +41,7 @@ fn count_more(named: &mut Vec<u32>, place: Option<u16>)
 }
 
 /// Counts one object less for a place, if there is one.
-fn count_less(named: &mut Vec<u32>, place: Option<u16>)
+fn count_less(named: &mut Vec<u32>, place: Option<TargetNumber>)
     requires { IfSome place (λ p. 0 < slice_index named.old.items p) }
     ensures { named.new.items ≡ counted_less named.old.items place }
 {
@@ -112,7 +113,7 @@ impl Objects {
     }
 
     /// The place that a held object names, where it is held once.
-    fn last_target(&self, o: u32) -> Option<u16>
+    fn last_target(&self, o: u32) -> Option<TargetNumber>
         requires { 0 < count_of self.now.pool o }
         ensures { result ≡ last_target (held_at self.now.pool o) }
     {
@@ -170,7 +171,7 @@ impl Objects {
     }
 
     /// Whether a held object names a place.
-    pub(crate) fn is_named(&self, place: u16) -> bool
+    pub(crate) fn is_named(&self, place: TargetNumber) -> bool
         requires { place < length self.now.named.items }
         ensures { result ≡ nat_lt 0 (count_by (is_naming place) self.now.pool) }
     {

@@ -9,6 +9,9 @@ use crate::table::Table;
 use lwc_base::{Cell, Lent, Name, OutOfMemory, SlotNumber};
 use std::alloc::Global;
 
+/// A number that a slot can name, below `NUMBERS`. It stands for what the slot's cell names.
+pub type TargetNumber = u16;
+
 /// How many numbers there are that slots can name.
 pub const NUMBERS: u32 = 65536;
 
@@ -131,7 +134,7 @@ impl Slots {
     }
 
     /// Whether a slot of any place names a number.
-    pub fn is_named(&self, number: u16) -> bool
+    pub fn is_named(&self, number: TargetNumber) -> bool
         requires { number < NUMBERS }
         ensures { IsTrue result ↔
             ((i : ℕ) × (n : ℕ) × ((row_of (slots self.now) i n).target ≡ Some number)) }
@@ -140,7 +143,13 @@ impl Slots {
     }
 
     /// Puts another cell into a slot, with the number that it names.
-    pub fn put(&mut self, i: usize, n: SlotNumber, cell: Cell<Lent<'_>>, target: Option<u16>)
+    pub fn put(
+        &mut self,
+        i: usize,
+        n: SlotNumber,
+        cell: Cell<Lent<'_>>,
+        target: Option<TargetNumber>,
+    )
         requires place { i < length (slots self.old) }
         requires slot { n < SLOTS }
         requires target { IfSome target (λ number. number < NUMBERS) }

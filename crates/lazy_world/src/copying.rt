@@ -15,7 +15,7 @@ use crate::places::Places;
 use crate::transfer::Transfer;
 use crate::world::PlacedWorld;
 use cow_space::Origin;
-use lwc_base::{Cell, MOST_PAGES, Spec};
+use lwc_base::{Cell, MOST_PAGES, PageNumber, Spec};
 use pool_base::Steps;
 use range_map::SegmentKind;
 use std::sync::ledger::Ledger;
@@ -67,7 +67,7 @@ impl Places {
         ensures own { result ≡ true → (p : ℕ) → p < MOST_PAGES → is_own (rows self.now i (Page p)) ≡ true }
         ensures all { HasOwnPages (rows self.now i) → result ≡ true }
     {
-        let mut p = 0u16;
+        let mut p: PageNumber = 0;
         'pages: while p < MOST_PAGES {
             if let Some(SegmentKind::Common(_)) = self.kind(i, p) {
                 return false;

@@ -115,7 +115,7 @@ impl PlacedWorld {
             marks.old marks.new }
     {
         let pages = self.pages();
-        let mut p = 0u16;
+        let mut p: PageNumber = 0;
         'runs: while p < pages {
             self.mark_group(self.places.page_group(i, p), marks);
             p = self.places.next_edge(i, p).min(pages);

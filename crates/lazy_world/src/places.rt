@@ -10,7 +10,7 @@ ghost use Rattle.lazy_world.specs.Kept.{IsKept, number_of};
 
 use crate::key_value::KeyValue;
 use cow_space::PageCells;
-use fd_table::{NUMBERS, Slots};
+use fd_table::{NUMBERS, Slots, TargetNumber};
 use lwc_base::{Cell, Lent, NOBODY, Name, OutOfMemory, PageNumber, Right, SlotNumber};
 use range_map::{PageState, Segment, SegmentKind};
 use std::alloc::Global;
@@ -37,11 +37,11 @@ fn no_uids(alloc: Global, places: u32) -> Result<Vec<Cell<u32>>, OutOfMemory>
 
 /// The number of a name. Other names may have it too.
 #[tactic(auto, unfolding(crate::specs::Kept::number_of))]
-fn number_of(name: Name) -> u16
+fn number_of(name: Name) -> TargetNumber
     ensures number { result ≡ number_of name }
     ensures within { result < NUMBERS }
 {
-    ((u64::from(name.job) * 4096 + u64::from(name.k)) % u64::from(NUMBERS)) as u16
+    ((u64::from(name.job) * 4096 + u64::from(name.k)) % u64::from(NUMBERS)) as TargetNumber
 }
 
 impl Places {
@@ -165,7 +165,7 @@ impl Places {
     }
 
     /// The number of the context that a cell has a descriptor of, if it has one.
-    fn target_of(cell: &Cell<Lent<'_>>) -> Option<u16>
+    fn target_of(cell: &Cell<Lent<'_>>) -> Option<TargetNumber>
         ensures target { result ≡ target_of (cell_of cell.now) }
         ensures within { IfSome result (λ number. number < NUMBERS) }
     {

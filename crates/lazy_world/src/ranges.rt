@@ -219,7 +219,7 @@ impl PlacedWorld {
             + length spec.now) }
     {
         let mut page_runs = ArrayVec::new();
-        let mut p = 0u16;
+        let mut p: PageNumber = 0;
         'pages: while p < MOST_PAGES {
             let (page_run, end) = self.run_from_page(transfer, spec, from, to, p);
             if let Some(page_run) = page_run {

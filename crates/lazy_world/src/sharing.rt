@@ -9,7 +9,7 @@ use crate::counts::Counts;
 use crate::ranges::mode_edge;
 use crate::transfer::Transfer;
 use crate::world::PlacedWorld;
-use lwc_base::{Cell, Key, MOST_PAGES, NOBODY, Name, SLOTS, Spec};
+use lwc_base::{Cell, Key, MOST_PAGES, NOBODY, Name, PageNumber, SLOTS, Spec};
 use pool_base::Steps;
 use res_spec::mode_of;
 use std::sync::ledger::Ledger;
@@ -38,7 +38,7 @@ impl PlacedWorld {
         ensures none { result ≡ false → (p : ℕ) → p < MOST_PAGES
             → moves spec.now (Page p) (rows self.now.places i) ≡ false }
     {
-        let mut p = 0u16;
+        let mut p: PageNumber = 0;
         'pages: while p < MOST_PAGES {
             let (found, edge) = self.found_page(i, p);
             if found.moves(mode_of(spec, Key::Page(p))) {

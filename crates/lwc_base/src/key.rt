@@ -1,7 +1,8 @@
-/// The number of a page of a context, below `MOST_PAGES`; or a number of pages.
+/// The number of a page of a context, below `MOST_PAGES`; or a number of pages, or the end of a range of them,
+/// at most `MOST_PAGES`.
 pub type PageNumber = u16;
 
-/// The number of a slot of a context, below `SLOTS`; or a number of slots.
+/// The number of a slot of a context, below `SLOTS`; or a number of slots, at most `SLOTS`.
 pub type SlotNumber = u8;
 
 /// The kinds of keys: pages, slots, and the credential.

@@ -166,7 +166,7 @@ impl RangeMap {
     {
         let segments = self.segments.as_slice();
         let mut count = 0u32;
-        let mut p = 0u16;
+        let mut p: PageNumber = 0;
         'runs: while p < MOST_PAGES {
             if runs::state_after(segments, changes, p).is_some() {
                 count += 1;
@@ -206,7 +206,7 @@ fn segments_after(segments: &[Segment], changes: &[Change]) -> ArrayVec<Segment,
         → spec.state_at result.items p ≡ spec.state_after changes.now segments.now p }
 {
     let mut after = ArrayVec::new();
-    let mut p = 0u16;
+    let mut p: PageNumber = 0;
     'runs: while p < MOST_PAGES {
         let end = runs::run_end(segments, changes, p);
         if let Some(state) = runs::state_after(segments, changes, p) {

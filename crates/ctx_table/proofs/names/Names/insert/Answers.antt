@@ -19,12 +19,6 @@ returns-clause-within c =
     let room : first_free c.args.self.now.places < length c.args.self.now.places = rw (← c.self.view_is) (free_within _ _ c.self.invariant.indexed (rw (← c.self.view_is) at c.requires.room)) in
     omega (arith, c.free_place-place.ensures, room)
 
-pub overflow_cast-place : goal.overflow_cast-place
-overflow_cast-place c =
-    let room : first_free c.args.self.now.places < length c.args.self.now.places = rw (← c.self.view_is) (free_within _ _ c.self.invariant.indexed (rw (← c.self.view_is) at c.requires.room)) in
-    let inside = slot_inside _ c.self.inside.index _ c.self.view_is _ c.free_place-place.ensures room in
-    omega (arith, inside, c.self.invariant.indexed.few)
-
 pub overflow_add-self : goal.overflow_add-self
 overflow_add-self c =
     let room : first_free c.args.self.now.places < length c.args.self.now.places = rw (← c.self.view_is) (free_within _ _ c.self.invariant.indexed (rw (← c.self.view_is) at c.requires.room)) in
