@@ -1,6 +1,6 @@
 mod Lists
-mod QueueSteps
 pub mod Recorded
+mod Pieces
 mod Sent
 mod Serving
 mod Shown

@@ -35,7 +35,7 @@ set_same (x ∷ xs) zero y there = let same : x ≡ y = cc in ap (λ z. z ∷ xs
 set_same (x ∷ xs) (suc i) y there = ap (λ l. x ∷ l) (set_same xs i y there)
 
 -- one more on each side
-push_map : {A B : Type 0} (f : A → B) (xs : List A) (x : A) → map f (xs ++ x ∷ []) ≡ map f xs ++ f x ∷ []
+pub push_map : {A B : Type 0} (f : A → B) (xs : List A) (x : A) → map f (xs ++ x ∷ []) ≡ map f xs ++ f x ∷ []
 push_map f [] x = refl
 push_map f (y ∷ xs) x = ap (λ l. f y ∷ l) (push_map f xs x)
 

@@ -1,33 +1,22 @@
 -- Lists of workers, before they serve and after.
-use Rattle.std.proofs.Common.{◌≡◌, ◌<◌, ◌++◌, ℕ, Some, List, All, length, get_or, map, sym, ap, subst, ◌∙◌, arith}
-use Rattle.std.specs.Prelude.{slice_get}
-use Rattle.atomic_table.specs.Seated.{TableId}
+use Rattle.std.proofs.Common.{◌≡◌, ◌<◌, ◌++◌, ℕ, List, All, length, get_or, sym, ap, subst, ◌∙◌, arith}
 use Rattle.kernel_core.specs.Start.{Inputs}
-use Rattle.lwc_stream.proofs.Lists.{at_place}
 use Rattle.lwc_stream.specs.Crews.{HasServed, HaveServed, IsFresh}
 use Rattle.lwc_stream.specs.Queues.{End}
 use Rattle.process_core.proofs.Offers.{same_map}
 use Rattle.process_core.specs.Running.{Carried}
-use Rattle.snapshot_host.specs.declared.finishing.Finished.{Finished}
 use Rattle.thread_carrier.proofs.Logs.{each_grown}
 use Rattle.thread_carrier.specs.Growth.{visited}
 use Rattle.thread_carrier.specs.declared.visit.Visit.{Visit}
 use Rattle.turnstile.specs.Passes.{Lock}
 
-module _ {V : Type 0} (pass : V → Carried) (puts : V → End Finished) (log : V → List Visit) (process : Lock Inputs) where
-  -- a worker that may serve at a place
-  pub record MayServe (queues : List TableId) (i : ℕ) (x : V) : Type 0 where
-    pub fresh : IsFresh process (pass x) (puts x)
-    pub queue : slice_get queues i ≡ Some (puts x).queue
-
-  pub may_serve : (queues : List TableId) (xs ys : List V) → xs ≡ ys → All (λ w. IsFresh process (pass w) (puts w)) ys → map (λ w. (puts w).queue) ys ≡ queues →
-      (i : ℕ) (x : V) → i < length xs → x ≡ get_or xs i x → MayServe queues i x
-  may_serve queues xs ys same fresh maps i x inside is =
+module _ {V : Type 0} (pass : V → Carried) (puts : V → End) (log : V → List Visit) (process : Lock Inputs) where
+  -- each worker of a list may serve
+  pub may_serve : (xs ys : List V) → xs ≡ ys → All (λ w. IsFresh process (pass w) (puts w)) ys → (i : ℕ) (x : V) → i < length xs → x ≡ get_or xs i x → IsFresh process (pass x) (puts x)
+  may_serve xs ys same fresh i x inside is =
       let within : i < length ys = omega (arith, ap length same) in
-      let there : x ≡ get_or ys i x = is ∙ ap (λ l. get_or l i x) same in record {
-        fresh = subst (λ z. IsFresh process (pass z) (puts z)) (sym there) (fresh i x within);
-        queue = at_place (λ w. (puts w).queue) ys queues i x maps within ∙ ap (λ z. Some (puts z).queue) (sym there);
-      }
+      let there : x ≡ get_or ys i x = is ∙ ap (λ l. get_or l i x) same in
+      subst (λ z. IsFresh process (pass z) (puts z)) (sym there) (fresh i x within)
 
   -- a worker that has served, with the pass and the queue that it had
   pub record Serves (x y : V) : Type 0 where

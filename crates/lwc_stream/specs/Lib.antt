@@ -1,4 +1,3 @@
-pub use Rattle.atomic_table.specs.Seated
 pub use Rattle.kernel_core.specs.Histories
 pub use Rattle.kernel_core.specs.Machine
 pub use Rattle.kernel_core.specs.Start

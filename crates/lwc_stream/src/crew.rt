@@ -1,6 +1,5 @@
 //! The workers in threads of their own, and the caller beside them.
 ghost use Rattle.std.specs.Prelude.{◌≡◌, ◌++◌, List, All, length, map, Some, slice_get};
-ghost use Rattle.atomic_table.specs.Seated.{TableId};
 ghost use Rattle.lwc_io.specs.Outside.{SinkView};
 ghost use Rattle.lwc_stream.specs.Crews.{HasServed, HaveServed, IsFresh};
 ghost use Rattle.lwc_stream.specs.Streams.{HasShown};
@@ -8,12 +7,10 @@ ghost use Rattle.thread_carrier.specs.Growth.{visited};
 
 use crate::desk::Desk;
 use crate::news::News;
-use crate::queue::ReplyQueue;
 use crate::worker::{Worker, serve};
+use lwc_base::MOST_THREADS;
 use lwc_io::Sink;
 use process_core::Process;
-use snapshot_host::Finished;
-use std::alloc::Global;
 use std::snapshot::Snapshot;
 use std::sync::Wait;
 use std::thread;
@@ -24,36 +21,29 @@ use world_face::World;
 /// Carries all threads to their ends, each in a thread of the host's own where one can be made. It may wait.
 fn serve_all<R: Threads + Wait + Sync, W: World, G: Gate>(
     rt: &R,
-    alloc: Global,
     process: &Process<W>,
-    queues: &[ReplyQueue],
     news: &News,
     gate: &G,
     mut workers: Vec<Worker<W, G::Log>>,
 ) -> Vec<Worker<W, G::Log>>
     requires leave { G.leave gate.now }
     requires fresh { All (λ w. IsFresh process.now w.pass w.puts) workers.items }
-    requires queues { map (λ w. w.puts.queue) workers.items ≡ queues.now }
     ensures { HaveServed (λ w. w.pass) (λ w. w.puts) (λ w. G.visits w.log)
         process.now workers.items result.items }
 {
     thread::for_each_mut(
         rt,
         workers.as_mut_slice(),
-        news.threads(),
-        &|i: usize, worker: &mut Worker<W, G::Log>|
-            requires { G.leave gate.now × IsFresh process.now worker.now.pass worker.now.puts
-                × (slice_get queues.now i ≡ Some worker.now.puts.queue) }
+        MOST_THREADS as usize,
+        &|_i: usize, worker: &mut Worker<W, G::Log>|
+            requires { G.leave gate.now × IsFresh process.now worker.now.pass worker.now.puts }
             ensures { HasServed process.entry.now worker.exit.now.pass worker.exit.now.puts
                 × (worker.exit.now.pass.held.number ≡ worker.entry.now.pass.held.number)
                 × (worker.exit.now.puts.queue ≡ worker.entry.now.puts.queue)
                 × (G.visits worker.exit.now.log ≡ G.visits worker.entry.now.log
                 ++ visited process.entry.now.name worker.exit.now.pass) }
         {
-            let Some(queue) = queues.get(i) else {
-                unreachable!();
-            };
-            serve(rt, alloc, process, queue, news, gate, worker);
+            serve(rt, process, news, gate, worker);
             news.end();
         },
     );
@@ -78,26 +68,21 @@ impl<W: World, G: Gate> Promise<Vec<Worker<W, G::Log>>> for Service<W, G> {
 trait Beside {
     type Output;
 
-    ghost can_go: { Self → List TableId → Type 0 };
-
     ghost gives: { Self → Self.Output → Type 0 };
 
-    fn go<R: Wait>(self, rt: &R, queues: &[ReplyQueue], news: &News, workers: usize) -> Self::Output
-        requires { can_go self queues.now }
+    fn go<R: Wait>(self, rt: &R, news: &News, workers: usize) -> Self::Output
         ensures { gives self result };
 }
 
 /// The desk, and the sink that it shows replies to.
 #[derive(Drop)]
-struct Counter<'a, O> {
+struct Counter<'a, 'h, O> {
     out: &'a mut O,
-    desk: Desk,
+    desk: Desk<'h>,
 }
 
-impl<'a, O: Sink> Beside for Counter<'a, O> {
-    type Output = (&'a mut O, Desk);
-
-    ghost can_go = { λ c queues. map (λ e. e.queue) c.desk.takes.items ≡ queues };
+impl<'a, 'h, O: Sink> Beside for Counter<'a, 'h, O> {
+    type Output = (&'a mut O, Desk<'h>);
 
     ghost gives = { λ c r. (r.0.ghost_name ≡ c.out.ghost_name)
         × (map (λ e. e.queue) r.1.takes.items ≡ map (λ e. e.queue) c.desk.takes.items)
@@ -108,22 +93,16 @@ impl<'a, O: Sink> Beside for Counter<'a, O> {
         HasShown (map (λ e. e.values) r.1.takes.items)
         r.1.waiting r.1.writer before (O.seen r.0.now)) };
 
-    fn go<R: Wait>(
-        self,
-        rt: &R,
-        queues: &[ReplyQueue],
-        news: &News,
-        workers: usize,
-    ) -> (&'a mut O, Desk) {
+    fn go<R: Wait>(self, rt: &R, news: &News, workers: usize) -> (&'a mut O, Desk<'h>) {
         let Counter { out, desk } = self;
         let mut desk = desk;
-        desk.follow(rt, queues, news, workers, out);
+        desk.follow(rt, news, workers, out);
         (out, desk)
     }
 }
 
 /// Starts the workers in threads of a scope, and goes on beside them. Where they cannot be started, the caller
-/// does their work first, and gives up the reserve, which has memory for the replies that they finish.
+/// does their work first.
 fn go_in<
     's,
     E,
@@ -135,19 +114,14 @@ fn go_in<
 >(
     scope: &Scope<'s, E>,
     rt: &'s R,
-    alloc: Global,
     process: &'s Process<W>,
-    queues: &'s [ReplyQueue],
     news: &'s News,
     gate: &'s G,
     caller: S,
     workers: Vec<Worker<W, G::Log>>,
-    reserve: Vec<Finished>,
 ) -> (Vec<Worker<W, G::Log>>, A)
     requires leave { G.leave gate.now }
     requires fresh { All (λ w. IsFresh process.now w.pass w.puts) workers.items }
-    requires queues { map (λ w. w.puts.queue) workers.items ≡ queues.now }
-    requires can { S.can_go caller queues.now }
     ensures served { HaveServed (λ w. w.pass) (λ w. w.puts) (λ w. G.visits w.log)
         process.now workers.items result.0.items }
     ensures gives { S.gives caller result.1 }
@@ -161,23 +135,19 @@ fn go_in<
         promise,
         move || -> Vec<Worker<W, G::Log>>
             requires { G.leave gate.now
-                × All (λ w. IsFresh process.now w.pass w.puts) workers.items
-                × (map (λ w. w.puts.queue) workers.items ≡ queues.now) }
+                × All (λ w. IsFresh process.now w.pass w.puts) workers.items }
             ensures { HaveServed (λ w. w.pass) (λ w. w.puts) (λ w. G.visits w.log)
                 process.entry.now workers.items result.items }
-        { serve_all(rt, alloc, process, queues, news, gate, workers) },
+        { serve_all(rt, process, news, gate, workers) },
     );
     match started {
         Ok(handle) => {
-            let given = caller.go(rt, queues, news, count);
+            let given = caller.go(rt, news, count);
             (handle.join(rt), given)
         }
         Err(refused) => {
-            // Nobody writes a reply meanwhile, so no memory comes back; threads would take what is given up here.
-            news.go_alone();
-            drop(reserve);
             let workers = (refused.value)();
-            let given = caller.go(rt, queues, news, count);
+            let given = caller.go(rt, news, count);
             (workers, given)
         }
     }
@@ -186,18 +156,13 @@ fn go_in<
 /// Carries all threads to their ends beside the caller.
 fn go_beside<R: Threads + Wait + Sync, W: World, G: Gate, S: Beside<Output = A> + Drop, A>(
     rt: &R,
-    alloc: Global,
     process: &Process<W>,
-    queues: &[ReplyQueue],
     gate: &G,
     caller: S,
     workers: Vec<Worker<W, G::Log>>,
-    reserve: Vec<Finished>,
 ) -> (Vec<Worker<W, G::Log>>, A)
     requires leave { G.leave gate.now }
     requires fresh { All (λ w. IsFresh process.now w.pass w.puts) workers.items }
-    requires queues { map (λ w. w.puts.queue) workers.items ≡ queues.now }
-    requires can { S.can_go caller queues.now }
     ensures served { HaveServed (λ w. w.pass) (λ w. w.puts) (λ w. G.visits w.log)
         process.now workers.items result.0.items }
     ensures gives { S.gives caller result.1 }
@@ -209,17 +174,11 @@ fn go_beside<R: Threads + Wait + Sync, W: World, G: Gate, S: Beside<Output = A> 
         rt,
         move |scope| -> (Vec<Worker<W, G::Log>>, A)
             requires { G.leave gate.now
-                × All (λ w. IsFresh process.now w.pass w.puts) workers.items
-                × (map (λ w. w.puts.queue) workers.items ≡ queues.now)
-                × S.can_go caller queues.now }
+                × All (λ w. IsFresh process.now w.pass w.puts) workers.items }
             ensures { HaveServed (λ w. w.pass) (λ w. w.puts) (λ w. G.visits w.log)
                 process.entry.now workers.items result.0.items
                 × S.gives caller result.1 }
-        {
-            go_in(
-                scope, rt, alloc, process, queues, news, gate, caller, workers, reserve,
-            )
-        },
+        { go_in(scope, rt, process, news, gate, caller, workers) },
     )
 }
 
@@ -229,35 +188,28 @@ fn take_back<T>(x: &mut T)
 {}
 
 /// Carries all threads to their ends, and shows replies to the sink meanwhile. It may wait.
-pub(crate) fn serve_beside<R: Threads + Wait + Sync, W: World, G: Gate, O: Sink>(
+pub(crate) fn serve_beside<'h, R: Threads + Wait + Sync, W: World, G: Gate, O: Sink>(
     rt: &R,
-    alloc: Global,
     process: &Process<W>,
-    queues: &[ReplyQueue],
     gate: &G,
     out: &mut O,
-    desk: Desk,
+    desk: Desk<'h>,
     workers: Vec<Worker<W, G::Log>>,
-    reserve: Vec<Finished>,
-) -> (Vec<Worker<W, G::Log>>, Desk)
+) -> (Vec<Worker<W, G::Log>>, Desk<'h>)
     requires leave { G.leave gate.now }
     requires fresh { All (λ w. IsFresh process.now w.pass w.puts) workers.items }
-    requires queues { map (λ w. w.puts.queue) workers.items ≡ queues.now }
-    requires takes { map (λ e. e.queue) desk.takes.items ≡ queues.now }
     ensures served { HaveServed (λ w. w.pass) (λ w. w.puts) (λ w. G.visits w.log)
         process.now workers.items result.0.items }
-    ensures queues { map (λ e. e.queue) result.1.takes.items ≡ queues.now }
-    ensures places { length result.1.waiting.places ≡ length desk.waiting.places }
+    ensures queues { map (λ e. e.queue) result.1.takes.items ≡ map (λ e. e.queue) desk.entry.takes.items }
+    ensures places { length result.1.waiting.places ≡ length desk.entry.waiting.places }
     ensures shown { (before : SinkView) →
-        HasShown (map (λ e. e.values) desk.takes.items)
-        desk.waiting desk.writer before (O.seen out.old) →
+        HasShown (map (λ e. e.values) desk.entry.takes.items)
+        desk.entry.waiting desk.entry.writer before (O.seen out.old) →
         HasShown (map (λ e. e.values) result.1.takes.items)
         result.1.waiting result.1.writer before (O.seen out.new) }
 {
     let caller = Counter { out, desk };
-    let (workers, (out, desk)) = go_beside(
-        rt, alloc, process, queues, gate, caller, workers, reserve,
-    );
+    let (workers, (out, desk)) = go_beside(rt, process, gate, caller, workers);
     take_back(out);
     (workers, desk)
 }

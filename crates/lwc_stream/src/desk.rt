@@ -6,8 +6,6 @@ ghost use Rattle.snapshot_host.specs.declared.finishing.Finished.{Finished};
 
 use crate::ends::{Puts, Takes};
 use crate::news::News;
-use crate::packed::PackedReply;
-use crate::queue::ReplyQueue;
 use crate::waiting::Waiting;
 use crate::writer::LineWriter;
 use lwc_io::Sink;
@@ -15,24 +13,22 @@ use std::sync::Wait;
 
 /// The ends of queues from which replies are taken, those that wait, and what writes their lines.
 #[derive(Drop)]
-pub(crate) struct Desk {
-    pub(crate) takes: Vec<Takes<PackedReply>>,
-    pub(crate) waiting: Waiting,
+pub(crate) struct Desk<'h> {
+    pub(crate) takes: Vec<Takes>,
+    pub(crate) waiting: Waiting<'h>,
     pub(crate) writer: LineWriter,
 }
 
-impl Desk {
+impl Desk<'_> {
     /// Takes and shows replies until all workers have ended and none was found after that. It may wait.
     pub(crate) fn follow<R: Wait, O: Sink>(
         &mut self,
         rt: &R,
-        queues: &[ReplyQueue],
         news: &News,
         workers: usize,
         out: &mut O,
     )
-        requires queues { map (λ e. e.queue) self.old.takes.items ≡ queues.now }
-        ensures queues { map (λ e. e.queue) self.new.takes.items ≡ queues.now }
+        ensures queues { map (λ e. e.queue) self.new.takes.items ≡ map (λ e. e.queue) self.old.takes.items }
         ensures shown { (before : SinkView) →
             HasShown (map (λ e. e.values) self.old.takes.items)
             self.old.waiting self.old.writer before (O.seen out.old) →
@@ -43,8 +39,8 @@ impl Desk {
         'rounds: for _ in rt.forever() {
             let heard = news.calls();
             let over = news.have_ended(workers);
-            let found = self.take_round(queues);
-            show_ready(rt, queues, &mut self.waiting, &mut self.writer, out);
+            let found = self.take_round(rt);
+            show_ready(&mut self.waiting, &mut self.writer, out);
             if over && !found {
                 return;
             }
@@ -56,9 +52,8 @@ impl Desk {
     }
 
     /// Takes a reply from each queue in which one is found, and says whether one was. It waits for nobody.
-    fn take_round(&mut self, queues: &[ReplyQueue]) -> bool
-        requires queues { map (λ e. e.queue) self.old.takes.items ≡ queues.now }
-        ensures queues { map (λ e. e.queue) self.new.takes.items ≡ queues.now }
+    fn take_round<R: Wait>(&mut self, rt: &R) -> bool
+        ensures queues { map (λ e. e.queue) self.new.takes.items ≡ map (λ e. e.queue) self.old.takes.items }
         ensures shown { (failed : Bool) (before now : SinkView) →
             HasShown (map (λ e. e.values) self.old.takes.items) self.old.waiting failed before now →
             HasShown (map (λ e. e.values) self.new.takes.items) self.new.waiting failed before now }
@@ -67,10 +62,7 @@ impl Desk {
     {
         let mut found = false;
         'takes: for i in 0..self.takes.len() {
-            let Some(queue) = queues.get(i) else {
-                unreachable!();
-            };
-            if take_one(queue, &mut self.takes[i], &mut self.waiting) {
+            if take_one(rt, &mut self.takes[i], &mut self.waiting) {
                 found = true;
             }
         }
@@ -79,8 +71,7 @@ impl Desk {
 }
 
 /// Takes a reply that is found in a queue, lets it wait, and says whether one was found. It waits for nobody.
-fn take_one(queue: &ReplyQueue, takes: &mut Takes<PackedReply>, waiting: &mut Waiting) -> bool
-    requires queue { takes.old.queue ≡ queue.now }
+fn take_one<R: Wait>(rt: &R, takes: &mut Takes, waiting: &mut Waiting<'_>) -> bool
     ensures queue { takes.new.queue ≡ takes.old.queue }
     ensures shown { (place : ℕ) (lists : List (List Finished)) →
         slice_get lists place ≡ Some takes.old.values → (failed : Bool) (before now : SinkView) →
@@ -88,21 +79,15 @@ fn take_one(queue: &ReplyQueue, takes: &mut Takes<PackedReply>, waiting: &mut Wa
         HasShown (slice_set lists place takes.new.values) waiting.new failed before now }
     ensures places { length waiting.new.places ≡ length waiting.old.places }
 {
-    let Some(reply) = queue.take(takes) else {
+    let Some(reply) = takes.take() else {
         return false;
     };
-    waiting.put(reply);
+    waiting.put(rt, &reply);
     true
 }
 
-/// Shows the replies that come next and are there, and gives the queues back what is theirs. It takes no memory.
-pub(crate) fn show_ready<R: Wait, O: Sink>(
-    rt: &R,
-    queues: &[ReplyQueue],
-    waiting: &mut Waiting,
-    writer: &mut LineWriter,
-    out: &mut O,
-)
+/// Shows the replies that come next and are there. It takes no memory.
+pub(crate) fn show_ready<O: Sink>(waiting: &mut Waiting<'_>, writer: &mut LineWriter, out: &mut O)
     ensures next { at waiting.new.places waiting.new.next ≡ None }
     ensures shown { (taken : List (List Finished)) (before : SinkView) →
         HasShown taken waiting.old writer.old before (O.seen out.old) →
@@ -111,36 +96,25 @@ pub(crate) fn show_ready<R: Wait, O: Sink>(
 {
     'ready: while let Some(reply) = waiting.next() {
         writer.write(out, &reply.unpack());
-        give_back(rt, queues, reply);
-    }
-}
-
-/// Gives the memory of a reply that was written back to its queue, if that is among these.
-fn give_back<R: Wait>(rt: &R, queues: &[ReplyQueue], written: PackedReply) {
-    if let Some(queue) = queues.get(written.queue()) {
-        queue.keep(rt, written);
     }
 }
 
 /// Takes all replies that are left in a queue into which no more are put. Then all that were put are taken.
 pub(crate) fn take_rest<R: Wait>(
     rt: &R,
-    queue: &ReplyQueue,
-    puts: Puts<PackedReply>,
-    takes: Takes<PackedReply>,
-    waiting: &mut Waiting,
+    mut puts: Puts,
+    mut takes: Takes,
+    waiting: &mut Waiting<'_>,
 )
-    requires puts { puts.queue ≡ queue.now }
-    requires takes { takes.queue ≡ queue.now }
+    requires queue { puts.queue ≡ takes.queue }
     ensures shown { (done rest : List (List Finished)) (failed : Bool) (before now : SinkView) →
         HasShown (done ++ takes.values ∷ rest) waiting.old failed before now →
         HasShown (done ++ puts.values ∷ rest) waiting.new failed before now }
     ensures places { length waiting.new.places ≡ length waiting.old.places }
 {
-    let mut ends = queue.join(puts, takes);
     'rest: for _ in rt.forever() {
-        match queue.take_rest(rt, &mut ends) {
-            Some(reply) => waiting.put(reply),
+        match takes.take_rest(&mut puts) {
+            Some(reply) => waiting.put(rt, &reply),
             None => return,
         }
     }

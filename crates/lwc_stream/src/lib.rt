@@ -10,8 +10,6 @@ mod desk;
 mod ends;
 pub mod laws;
 mod news;
-mod packed;
-mod queue;
 mod streaming;
 mod waiting;
 mod worker;

@@ -1,8 +1,5 @@
 //! How workers tell the caller that there is something to take.
 
-ghost use Rattle.std.specs.Prelude.{◌<◌};
-
-use lwc_base::MOST_THREADS;
 use std::hint::spin_loop;
 use std::sync::Wait;
 use std::sync::atomic::{AtomicBool, AtomicU64, Ordering};
@@ -10,14 +7,12 @@ use std::sync::atomic::{AtomicBool, AtomicU64, Ordering};
 /// How often the caller looks for news before it sleeps. `docs/DECISIONS.md` has what other numbers cost.
 const LOOKS: u32 = 1000;
 
-/// How often the caller was called, how many workers have ended, whether the caller sleeps, and whether it is itself at
-/// the workers' work. No clause reads them.
+/// How often the caller was called, how many workers have ended, and whether the caller sleeps. No clause reads them.
 #[derive(Drop)]
 pub(crate) struct News {
     calls: AtomicU64,
     ended: AtomicU64,
     asleep: AtomicBool,
-    alone: AtomicBool,
 }
 
 impl News {
@@ -27,7 +22,6 @@ impl News {
             calls: AtomicU64::new(0),
             ended: AtomicU64::new(0),
             asleep: AtomicBool::new(false),
-            alone: AtomicBool::new(false),
         }
     }
 
@@ -43,22 +37,6 @@ impl News {
     pub(crate) fn end(&self) {
         self.ended.fetch_add(1, Ordering::SeqCst);
         self.call();
-    }
-
-    /// Notes that the caller does the workers' work itself.
-    pub(crate) fn go_alone(&self) {
-        self.alone.store(true, Ordering::SeqCst);
-    }
-
-    /// The most threads that may be started for workers: none but the caller's own where it is alone.
-    pub(crate) fn threads(&self) -> usize
-        ensures { 0 < result }
-    {
-        if self.alone.load(Ordering::SeqCst) {
-            1
-        } else {
-            MOST_THREADS as usize
-        }
     }
 
     /// The low 32 bits of the number of calls so far.

@@ -1,5 +1,5 @@
 //! A stream as a whole.
-ghost use Rattle.std.specs.Prelude.{◌≡◌, ◌<◌, ◌≤◌, ◌+◌, ◌++◌, [], true, All, Bool, IfOk, List, OnErr};
+ghost use Rattle.std.specs.Prelude.{◌≡◌, ◌<◌, ◌≤◌, ◌+◌, ◌++◌, ◌^◌, [], true, All, Bool, IfOk, List, OnErr};
 ghost use Rattle.std.specs.Prelude.{length, map, vec_capacity};
 ghost use Rattle.kernel_core.specs.Machine.{has_ended};
 ghost use Rattle.lwc_io.specs.Outside.{SinkView};
@@ -11,10 +11,8 @@ ghost use Rattle.thread_carrier.specs.Growth.{grown};
 
 use crate::crew::serve_beside;
 use crate::desk::{Desk, show_ready, take_rest};
-use crate::ends::{Puts, Takes};
-use crate::packed::PackedReply;
-use crate::queue::ReplyQueue;
-use crate::waiting::Waiting;
+use crate::ends::{Puts, Takes, open_queue};
+use crate::waiting::{Waiting, heap_for};
 use crate::worker::Worker;
 use crate::writer::LineWriter;
 use lwc_base::OutOfMemory;
@@ -33,15 +31,15 @@ pub struct Streamed<W: World> {
     pub passes: ProcessPasses<W>,
 }
 
-/// Runs all threads of a process of which no step was kept to their ends, and writes the lines of the replies
-/// to its requests in order, each as soon as it and all earlier ones are there. After a write that failed it
-/// writes no more, and goes on to the end. It hands all passes back, and may wait.
+/// Runs all threads of a serve of this number of requests, of which no step was kept, to their ends, and writes the
+/// lines of the replies in the order of the requests, each as soon as it and all earlier ones are there. After a write
+/// that failed it writes no more, and goes on to the end. It hands all passes back, and may wait.
 ///
 /// Each thread is carried by a worker of its own where one can be started, and comes to the gate before each
 /// turn, and tells it of each request that it finished: the log at the place of its pass grows by these visits.
 /// Further logs stay as they are. A line may be written while workers go on: no clause says so, tests show it.
-/// A reply takes memory when it is finished. A worker that gets none uses what its queue has aside for one reply, and
-/// waits while that is in use.
+/// All memory is taken before the first turn, but for what starting threads takes: nothing that runs later is given an
+/// allocator. No clause says so; `scripts/check-alloc-faults` shows that no worker waits for memory.
 ///
 /// # Errors
 ///
@@ -58,6 +56,7 @@ pub fn stream_all<R: Threads + Wait + Sync, W: World, G: Gate, O: Sink>(
     out: &mut O,
 ) -> Result<Streamed<W>, OutOfMemory>
     requires leave { G.leave gate.now }
+    requires count { requests ≡ length process.now.name.requests }
     requires all { AreAllOf process.now passes.items }
     requires fresh { All (λ p. p.held.seen ≡ []) passes.items }
     requires logs { length passes.items ≤ length logs.old.items }
@@ -74,29 +73,18 @@ pub fn stream_all<R: Threads + Wait + Sync, W: World, G: Gate, O: Sink>(
     ensures unvisited { OnErr result (logs.new ≡ logs.old) }
 {
     let taken = Vec::with_capacity(alloc, passes.len())?;
-    let waiting = Waiting::open(alloc, requests as usize)?;
+    let heap = heap_for(alloc, requests as usize)?;
+    let waiting = Waiting::open(alloc, &heap, requests as usize)?;
     let writer = LineWriter::open(alloc)?;
-    let room = (requests as usize).max(1);
-    let (queues, puts, takes) = open_queues(alloc, passes.len(), room)?;
-    let reserve = Vec::with_capacity(alloc, room)?;
+    let (puts, takes) = open_queues(alloc, passes.len(), requests as usize)?;
     let workers = hire(alloc, passes, puts, logs)?;
     let desk = Desk {
         takes,
         waiting,
         writer,
     };
-    let (workers, desk) = serve_beside(
-        rt,
-        alloc,
-        process,
-        queues.as_slice(),
-        gate,
-        out,
-        desk,
-        workers,
-        reserve,
-    );
-    Ok(finish(rt, queues, workers, desk, taken, logs, out))
+    let (workers, desk) = serve_beside(rt, process, gate, out, desk, workers);
+    Ok(finish(rt, workers, desk, taken, logs, out))
 }
 
 /// Queues, each with room for this many replies, and their ends. The only error is out of memory.
@@ -104,31 +92,21 @@ fn open_queues(
     alloc: Global,
     count: usize,
     room: usize,
-) -> Result<
-    (
-        Vec<ReplyQueue>,
-        Vec<Puts<PackedReply>>,
-        Vec<Takes<PackedReply>>,
-    ),
-    OutOfMemory,
->
-    requires room { 0 < room }
-    ensures count { IfOk result (λ q. length q.1.items ≡ count) }
-    ensures puts { IfOk result (λ q. map (λ e. e.queue) q.1.items ≡ q.0.items) }
-    ensures takes { IfOk result (λ q. map (λ e. e.queue) q.2.items ≡ q.0.items) }
-    ensures unput { IfOk result (λ q. All (λ e. e.values ≡ []) q.1.items) }
-    ensures untaken { IfOk result (λ q. All (λ e. e.values ≡ []) q.2.items) }
+) -> Result<(Vec<Puts>, Vec<Takes>), OutOfMemory>
+    requires room { room < 2 ^ 32 }
+    ensures count { IfOk result (λ q. length q.0.items ≡ count) }
+    ensures queues { IfOk result (λ q. map (λ e. e.queue) q.0.items ≡ map (λ e. e.queue) q.1.items) }
+    ensures unput { IfOk result (λ q. All (λ e. e.values ≡ []) q.0.items) }
+    ensures untaken { IfOk result (λ q. All (λ e. e.values ≡ []) q.1.items) }
 {
-    let mut queues = Vec::new(alloc);
     let mut puts = Vec::new(alloc);
     let mut takes = Vec::new(alloc);
-    'queues: for number in 0..count {
-        let (queue, putting, taking) = ReplyQueue::open(alloc, room, number)?;
-        queues.push(queue)?;
+    'queues: for _ in 0..count {
+        let (putting, taking) = open_queue(alloc, room)?;
         puts.push(putting)?;
         takes.push(taking)?;
     }
-    Ok((queues, puts, takes))
+    Ok((puts, takes))
 }
 
 /// Workers with these passes, these ends of queues, and the logs that come first. The only error is out of memory;
@@ -136,7 +114,7 @@ fn open_queues(
 fn hire<W: World, L: Drop>(
     alloc: Global,
     mut passes: ProcessPasses<W>,
-    mut ends: Vec<Puts<PackedReply>>,
+    mut ends: Vec<Puts>,
     logs: &mut Vec<L>,
 ) -> Result<Vec<Worker<W, L>>, OutOfMemory>
     requires ends { length ends.items ≡ length passes.items }
@@ -161,24 +139,22 @@ fn hire<W: World, L: Drop>(
 /// Takes and shows what is left when all workers have ended.
 fn finish<R: Wait, W: World, L: Drop, O: Sink>(
     rt: &R,
-    queues: Vec<ReplyQueue>,
     workers: Vec<Worker<W, L>>,
-    desk: Desk,
+    desk: Desk<'_>,
     taken: ProcessPasses<W>,
     logs: &mut Vec<L>,
     out: &mut O,
 ) -> Streamed<W>
-    requires queues { map (λ w. w.puts.queue) workers.items ≡ queues.items }
-    requires takes { map (λ e. e.queue) desk.takes.items ≡ queues.items }
+    requires queues { map (λ w. w.puts.queue) workers.items ≡ map (λ e. e.queue) desk.takes.items }
     requires empty { taken.items ≡ [] }
     requires room { length workers.items ≤ vec_capacity taken }
     requires places { length logs.old.items + length workers.items ≤ vec_capacity logs.old }
     ensures passes { result.passes.items ≡ map (λ w. w.pass) workers.items }
     ensures logs { logs.new.items ≡ map (λ w. w.log) workers.items ++ logs.old.items }
     ensures written { (before : SinkView) →
-        HasShown (map (λ e. e.values) desk.takes.items) desk.waiting desk.writer before (O.seen out.old) →
+        HasShown (map (λ e. e.values) desk.entry.takes.items) desk.entry.waiting desk.entry.writer before (O.seen out.old) →
         (shown : List Finished)
-        × AreShown (map (λ w. w.puts.values) workers.items) (length desk.waiting.places) shown
+        × AreShown (map (λ w. w.puts.values) workers.items) (length desk.entry.waiting.places) shown
         × IsWritten result.failed before (O.seen out.new) (lines_of shown) }
 {
     let Desk {
@@ -188,8 +164,8 @@ fn finish<R: Wait, W: World, L: Drop, O: Sink>(
     } = desk;
     let mut waiting = waiting;
     let mut writer = writer;
-    let passes = take_left(rt, queues, workers, takes, &mut waiting, taken, logs);
-    show_ready(rt, &[], &mut waiting, &mut writer, out);
+    let passes = take_left(rt, workers, takes, &mut waiting, taken, logs);
+    show_ready(&mut waiting, &mut writer, out);
     let failed = writer.has_failed();
     Streamed { failed, passes }
 }
@@ -198,15 +174,13 @@ fn finish<R: Wait, W: World, L: Drop, O: Sink>(
 /// before the others again.
 fn take_left<R: Wait, W: World, L: Drop>(
     rt: &R,
-    mut queues: Vec<ReplyQueue>,
     mut workers: Vec<Worker<W, L>>,
-    mut ends: Vec<Takes<PackedReply>>,
-    waiting: &mut Waiting,
+    mut ends: Vec<Takes>,
+    waiting: &mut Waiting<'_>,
     mut taken: ProcessPasses<W>,
     logs: &mut Vec<L>,
 ) -> ProcessPasses<W>
-    requires queues { map (λ w. w.puts.queue) workers.items ≡ queues.items }
-    requires takes { map (λ e. e.queue) ends.items ≡ queues.items }
+    requires queues { map (λ w. w.puts.queue) workers.items ≡ map (λ e. e.queue) ends.items }
     requires empty { taken.items ≡ [] }
     requires room { length workers.items ≤ vec_capacity taken }
     requires places { length logs.old.items + length workers.items ≤ vec_capacity logs.old }
@@ -220,9 +194,8 @@ fn take_left<R: Wait, W: World, L: Drop>(
     let others = logs.len();
     'workers: while !workers.is_empty() {
         let Worker { pass, puts, log } = workers.remove(0);
-        let queue = queues.remove(0);
         let takes = ends.remove(0);
-        take_rest(rt, &queue, puts, takes, waiting);
+        take_rest(rt, puts, takes, waiting);
         taken.push_reserved(pass);
         logs.push_reserved(log);
     }

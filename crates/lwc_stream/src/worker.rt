@@ -8,10 +8,7 @@ ghost use Rattle.thread_carrier.specs.Visits.{told};
 
 use crate::ends::Puts;
 use crate::news::News;
-use crate::packed::PackedReply;
-use crate::queue::ReplyQueue;
 use process_core::{Process, ProcessPass};
-use std::alloc::Global;
 use std::sync::Wait;
 use thread_carrier::Gate;
 use world_face::World;
@@ -20,7 +17,7 @@ use world_face::World;
 #[derive(Drop)]
 pub(crate) struct Worker<W: World, L> {
     pub(crate) pass: ProcessPass<W>,
-    pub(crate) puts: Puts<PackedReply>,
+    pub(crate) puts: Puts,
     pub(crate) log: L,
 }
 
@@ -28,19 +25,16 @@ pub(crate) struct Worker<W: World, L> {
 /// into the queue and the caller is called, and then the worker tells the gate of it. It may wait.
 pub(crate) fn serve<R: Wait, W: World, G: Gate>(
     rt: &R,
-    alloc: Global,
     process: &Process<W>,
-    queue: &ReplyQueue,
     news: &News,
     gate: &G,
     worker: &mut Worker<W, G::Log>,
 )
     requires leave { G.leave gate.now }
     requires fresh { IsFresh process.now worker.old.pass worker.old.puts }
-    requires queue { worker.old.puts.queue ≡ queue.now }
     ensures served { HasServed process.now worker.new.pass worker.new.puts }
     ensures number { worker.new.pass.held.number ≡ worker.old.pass.held.number }
-    ensures queue { worker.new.puts.queue ≡ queue.now }
+    ensures queue { worker.new.puts.queue ≡ worker.old.puts.queue }
     ensures visits { G.visits worker.new.log
         ≡ G.visits worker.old.log ++ visited process.now.name worker.new.pass }
 {
@@ -51,8 +45,6 @@ pub(crate) fn serve<R: Wait, W: World, G: Gate>(
         process.make_turn(rt, &mut worker.pass, None);
         hand_on(
             rt,
-            alloc,
-            queue,
             news,
             gate,
             &worker.pass,
@@ -66,23 +58,19 @@ pub(crate) fn serve<R: Wait, W: World, G: Gate>(
 /// Puts the reply that the last turn finished into the queue, if it did, and then tells the gate of it.
 fn hand_on<R: Wait, W: World, G: Gate>(
     rt: &R,
-    alloc: Global,
-    queue: &ReplyQueue,
     news: &News,
     gate: &G,
     pass: &ProcessPass<W>,
-    puts: &mut Puts<PackedReply>,
+    puts: &mut Puts,
     log: &mut G::Log,
 )
     requires leave { G.leave gate.now }
-    requires queue { puts.old.queue ≡ queue.now }
-    ensures puts { puts.new ≡ end_of queue.now (puts.old.values ++ replies_of pass.now.last.finished) }
+    ensures puts { puts.new ≡ end_of puts.old.queue (puts.old.values ++ replies_of pass.now.last.finished) }
     ensures visits { G.visits log.new
         ≡ G.visits log.old ++ told pass.now.held.number pass.now.last.finished }
 {
     if let Some(finished) = &pass.last().finished {
-        let reply = queue.pack(rt, alloc, finished);
-        queue.put(rt, puts, reply);
+        puts.put(rt, finished);
         news.call();
         gate.finished(rt, log, pass, pass.thread(), finished.request);
     }

@@ -36,24 +36,26 @@ impl<'a> Sink for CountingSink<'a> {
     }
 }
 
-/// A gate that holds the first turn of thread 1, and who tells of request 0, until a sink has taken a line.
+/// A gate that holds the first turn of each thread but one, and who tells of request 0, until a sink has taken a line.
 #[derive(Drop)]
 pub struct LineGate {
+    pub free: u32,
     pub lines: AtomicU64,
     pub ran_out: AtomicBool,
 }
 
 impl LineGate {
-    /// A gate of a sink that has taken no line.
-    pub fn new() -> LineGate {
+    /// A gate of a sink that has taken no line, and that does not hold the first turn of this thread.
+    pub(crate) fn new(free: u32) -> LineGate {
         LineGate {
+            free,
             lines: AtomicU64::new(0),
             ran_out: AtomicBool::new(false),
         }
     }
 
     /// Whether a thread that was held looked until its looks ran out.
-    pub fn has_run_out(&self) -> bool {
+    pub(crate) fn has_run_out(&self) -> bool {
         self.ran_out.load(Ordering::SeqCst)
     }
 
@@ -76,7 +78,7 @@ impl Gate for LineGate {
 
     ghost visits = { λ log. log.visits };
 
-    /// Holds the first turn of thread 1.
+    /// Holds the first turn of each thread but one.
     fn before<R: Wait, W: World>(
         &self,
         _rt: &R,
@@ -86,7 +88,7 @@ impl Gate for LineGate {
         turn: u64,
     ) {
         log.note_turn(thread, turn);
-        if thread == 1 && turn == 0 {
+        if thread != self.free && turn == 0 {
             self.hold();
         }
     }
@@ -118,7 +120,7 @@ pub struct HoldingGate {
 
 impl HoldingGate {
     /// A gate to which nobody has come.
-    pub fn new(held: u32, awaited: u32) -> HoldingGate {
+    pub(crate) fn new(held: u32, awaited: u32) -> HoldingGate {
         HoldingGate {
             held,
             awaited,
@@ -128,7 +130,7 @@ impl HoldingGate {
     }
 
     /// Whether the thread that is held looked until its looks ran out.
-    pub fn has_run_out(&self) -> bool {
+    pub(crate) fn has_run_out(&self) -> bool {
         self.ran_out.load(Ordering::SeqCst)
     }
 }

@@ -45,7 +45,7 @@ fn stream<R: Threads + Wait + Sync, G: Gate<Log = VisitLog>, O: Sink>(
 ) -> Result<bool, Fail>
     requires leave { G.leave gate.now }
     requires few { length bytes.now ≤ 8 }
-    requires workers { (1 ≤ workers) × (workers ≤ 2) }
+    requires workers { (1 ≤ workers) × (workers ≤ 4) }
 {
     let image = assemble(alloc, COUNTER_HANDLER.as_bytes())?;
     let mut requests = Vec::new(alloc);
@@ -89,16 +89,19 @@ fn replies_are_written_in_the_order_of_their_requests(rt: HostRuntime) -> Result
 
 #[test]
 fn a_line_is_written_while_workers_are_held(rt: HostRuntime) -> Result<(), Fail> {
-    // One worker alone is held by the gate that it tells of request 0: nobody else calls the writer then.
-    for workers in [1, 2] {
-        let gate = LineGate::new();
+    // All workers are held, the free one by the gate that it tells of request 0: nobody else calls the writer then.
+    for (workers, free) in [(1, 0), (2, 0), (2, 1), (4, 0), (4, 1), (4, 2), (4, 3)] {
+        let gate = LineGate::new(free);
         let mut out = CountingSink {
             sink: sink(rt.alloc(), 100, &[])?,
             lines: &gate.lines,
         };
         let failed = stream(&rt, rt.alloc(), &[0, 0], workers, &gate, &mut out)?;
         assert!(rt; !failed);
-        assert!(rt; !gate.has_run_out(), "{workers} workers");
+        assert!(rt;
+            !gate.has_run_out(),
+            "thread {free} of {workers} is not held"
+        );
         let lines = b"reply 0 done 0 01\nreply 1 done 0 01\n";
         assert_eq!(rt; out.sink.bytes(), lines.as_slice());
     }

@@ -1,6 +1,6 @@
 use denote.Param.Send.{sendable}
 use Rattle.std.proofs.Crossing.{crosses}
-use Rattle.lwc_stream.proofs.Sent.{news_sync, queue_sync, worker_send}
+use Rattle.lwc_stream.proofs.Sent.{news_sync, worker_send}
 use Rattle.process_core.proofs.Sends.{process_sync}
 use Rattle.std.proofs.Common.{subst}
 use Rattle.lwc_stream.specs.Crews.{HaveServed}
@@ -12,7 +12,7 @@ spawn_with-started-requires-send-F g c κs within =
     let l = c.type_bounds.send-G-Log in
     let r = c.type_bounds.sync-R in
     let q = c.type_bounds.sync-G in
-    search (sendable, crosses, worker_send, process_sync, queue_sync, news_sync) depth 80 fits 20000
+    search (sendable, crosses, worker_send, process_sync, news_sync) depth 80 fits 20000
 
 pub spawn_with-started-requires-send-T : goal.spawn_with-started-requires-send-T
 spawn_with-started-requires-send-T g c κs within =
@@ -30,4 +30,4 @@ returns-in-Ok-clause-served g c =
 
 pub returns-in-Err-clause-served : goal.returns-in-Err-clause-served
 returns-in-Err-clause-served g c =
-    subst (λ f. HaveServed (λ w. w.pass) (λ w. w.puts) (λ w. g.G.Gate.visits w.log) f.2.now f.6.items c.spawn_with-workers.result.items) c.in-Err.ensures.err c.spawn_with-workers.ensures
+    subst (λ f. HaveServed (λ w. w.pass) (λ w. w.puts) (λ w. g.G.Gate.visits w.log) f.1.now f.4.items c.spawn_with-workers.result.items) c.in-Err.ensures.err c.spawn_with-workers.ensures

@@ -4,7 +4,7 @@ use Rattle.std.proofs.Common.{◌∙◌, sym, ap, subst, arith}
 use Rattle.lwc_stream.proofs.Serving.{have_served, may_serve}
 use Rattle.lwc_stream.specs.Crews.{HasServed, HaveServed}
 use Rattle.process_core.proofs.Carrying.{written_back}
-use Rattle.lwc_stream.proofs.Sent.{news_sync, queue_sync, worker_send}
+use Rattle.lwc_stream.proofs.Sent.{news_sync, worker_send}
 use Rattle.process_core.proofs.Sends.{process_sync}
 use Rattle.thread_carrier.proofs.Logs.{moved}
 use Rattle.lwc_stream.proofs.crew.serve_all.Goals as goal
@@ -19,17 +19,17 @@ for_each_mut-requires-sync-F g c κs within =
     let s = c.type_bounds.send-W in
     let r = c.type_bounds.sync-R in
     let q = c.type_bounds.sync-G in
-    search (sendable, crosses, process_sync, queue_sync, news_sync) depth 80 fits 20000
+    search (sendable, crosses, process_sync, news_sync) depth 80 fits 20000
 
 pub for_each_mut-requires-clause-accepts : goal.for_each_mut-requires-clause-accepts
 for_each_mut-requires-clause-accepts g c κs within =
     λ i p inside is.
-    let may = may_serve (λ w. w.pass) (λ w. w.puts) (λ w. g.G.Gate.visits w.log) c.args.process.now c.args.queues.now _ c.args.workers.items c.as_mut_slice.ensures.value c.requires.fresh c.requires.queues i p.now inside is in
+    let fresh = may_serve (λ w. w.pass) (λ w. w.puts) (λ w. g.G.Gate.visits w.log) c.args.process.now _ c.args.workers.items c.as_mut_slice.ensures.value c.requires.fresh i p.now inside is in
     let s = c.type_bounds.send-W in
     let l = c.type_bounds.send-G-Log in
     let r = c.type_bounds.sync-R in
     let q = c.type_bounds.sync-G in
-    ((c.requires.leave, may.fresh, may.queue), search (sendable, crosses) depth 80 fits 20000)
+    ((c.requires.leave, fresh), search (sendable, crosses) depth 80 fits 20000)
 
 pub returns : goal.returns
 returns g c =

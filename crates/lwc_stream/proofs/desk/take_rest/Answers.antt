@@ -1,20 +1,20 @@
 use Rattle.std.proofs.Common.{◌∙◌, ◌++◌, ◌∷◌, [], Some, length, sym, ap, subst}
 use Rattle.lwc_stream.proofs.Lists.{set_count}
 use Rattle.lwc_stream.proofs.Shown.{behind_one, takes_one}
-use Rattle.lwc_stream.specs.Queues.{Joined}
+use Rattle.lwc_stream.specs.Queues.{End}
 use Rattle.lwc_stream.specs.Streams.{HasShown}
-use Rattle.snapshot_host.specs.declared.finishing.Finished.{Finished}
 use Rattle.lwc_stream.proofs.desk.take_rest.Goals as goal
 
 pub rest-preserved : goal.rest-preserved
 rest-preserved g c =
     let grown = c.in-Some-take_rest.ensures.some in
-    let taken = c.rest.ends.taken in
+    let same = c.take_rest.ensures.puts in
+    let taken = c.rest.takes.values in
     let x = c.in-Some-take_rest.reply in record {
-      ours = ap (λ (e : Joined Finished). e.queue) grown;
-      put = ap (λ (e : Joined Finished). e.put) grown ∙ c.rest.invariant.put;
+      queue = ap (λ (e : End). e.queue) same ∙ (c.rest.invariant.queue ∙ sym (ap (λ (e : End). e.queue) grown));
+      put = ap (λ (e : End). e.values) same ∙ c.rest.invariant.put;
       shown = λ done rest failed before now h.
-          subst (λ vs. HasShown (done ++ vs ∷ rest) c.put.new.self failed before now) (sym (ap (λ (e : Joined Finished). e.taken) grown))
+          subst (λ vs. HasShown (done ++ vs ∷ rest) c.put.new.self failed before now) (sym (ap (λ (e : End). e.values) grown))
           (takes_one (length done) (done ++ taken ∷ rest) (done ++ (taken ++ x ∷ []) ∷ rest) c.rest.waiting c.put.new.self x (behind_one done rest taken x) c.put.ensures.places c.put.ensures.next failed before now
           (c.rest.invariant.shown done rest failed before now h));
       places = ap length c.put.ensures.places ∙ (set_count c.rest.waiting.places x.request (Some x) ∙ c.rest.invariant.places);

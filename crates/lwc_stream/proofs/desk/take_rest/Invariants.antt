@@ -6,9 +6,9 @@ use Rattle.lwc_stream.proofs.desk.take_rest.Given as goal
 
 abbrev pub invariant-rest : goal.invariant-rest
 invariant-rest g l = record {
-  ours : l.ends.queue ≡ l.queue;
-  put : l.ends.put ≡ l.fn.puts.values;
+  queue : l.puts.queue ≡ l.takes.queue;
+  put : l.puts.values ≡ l.fn.puts.values;
   shown : (done rest : List (List Finished)) (failed : Bool) (before now : SinkView) →
-      HasShown (done ++ l.fn.takes.values ∷ rest) l.fn.waiting failed before now → HasShown (done ++ l.ends.taken ∷ rest) l.waiting failed before now;
+      HasShown (done ++ l.fn.takes.values ∷ rest) l.fn.waiting failed before now → HasShown (done ++ l.takes.values ∷ rest) l.waiting failed before now;
   places : length l.waiting.places ≡ length l.fn.waiting.places;
 }

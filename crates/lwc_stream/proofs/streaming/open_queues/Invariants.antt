@@ -3,9 +3,8 @@ use Rattle.lwc_stream.proofs.streaming.open_queues.Given as goal
 
 abbrev pub invariant-queues : goal.invariant-queues
 invariant-queues l = record {
-  count : length l.puts.items ≡ l.number;
-  puts : map (λ e. e.queue) l.puts.items ≡ l.queues.items;
-  takes : map (λ e. e.queue) l.takes.items ≡ l.queues.items;
+  count : length l.puts.items ≡ l.counter;
+  queues : map (λ e. e.queue) l.puts.items ≡ map (λ e. e.queue) l.takes.items;
   unput : All (λ e. e.values ≡ []) l.puts.items;
   untaken : All (λ e. e.values ≡ []) l.takes.items;
 }

@@ -11,7 +11,6 @@ use Rattle.lwc_stream.specs.Replies.{AreShown, finished_by}
 use Rattle.lwc_stream.specs.Streams.{HasShown, Held}
 use Rattle.process_core.proofs.Carrying.{all_made, still_all}
 use Rattle.process_core.specs.Running.{AreAllOf, Carried, IsPassOf}
-use Rattle.snapshot_host.specs.declared.finishing.Finished.{Finished}
 use Rattle.thread_carrier.proofs.Logs.{put_back}
 use Rattle.thread_carrier.specs.Growth.{grown}
 use Rattle.lwc_stream.proofs.streaming.stream_all.Goals as goal
@@ -26,19 +25,15 @@ serve_beside-workers-requires-clause-fresh g c κs within =
     λ k d inside. record {
       ours = all_made (IsPassOf process) (λ w. w.pass) workers ours k d inside;
       unseen = all_made (λ (p : Carried). p.held.seen ≡ []) (λ w. w.pass) workers unseen k d inside;
-      empty = all_made (λ (e : End Finished). e.values ≡ []) (λ w. w.puts) workers (subst (All (λ (e : End Finished). e.values ≡ [])) (sym c.in_ok-workers.ensures.ends) c.in_ok-queues.ensures.unput) k d inside;
+      empty = all_made (λ (e : End). e.values ≡ []) (λ w. w.puts) workers (subst (All (λ (e : End). e.values ≡ [])) (sym c.in_ok-workers.ensures.ends) c.in_ok-puts.ensures.unput) k d inside;
     }
-
-pub serve_beside-workers-requires-clause-queues : goal.serve_beside-workers-requires-clause-queues
-serve_beside-workers-requires-clause-queues g c κs within =
-    let queue = λ (e : End Finished). e.queue in
-    sym (map-map queue (λ w. w.puts) c.in_ok-workers.workers.items) ∙ (ap (map queue) c.in_ok-workers.ensures.ends ∙ (c.in_ok-queues.ensures.puts ∙ sym c.as_slice.ensures.value))
 
 pub finish-requires-clause-queues : goal.finish-requires-clause-queues
 finish-requires-clause-queues g c κs within =
-    let queue = λ (e : End Finished). e.queue in
+    let queue = λ (e : End). e.queue in
     c.serve_beside-workers.ensures.served.queues
-    ∙ (sym (map-map queue (λ w. w.puts) c.in_ok-workers.workers.items) ∙ (ap (map queue) c.in_ok-workers.ensures.ends ∙ c.in_ok-queues.ensures.puts))
+    ∙ (sym (map-map queue (λ w. w.puts) c.in_ok-workers.workers.items)
+    ∙ (ap (map queue) c.in_ok-workers.ensures.ends ∙ (c.in_ok-puts.ensures.queues ∙ sym c.serve_beside-workers.ensures.queues)))
 
 pub finish-requires-clause-room : goal.finish-requires-clause-room
 finish-requires-clause-room g c κs within =
@@ -99,9 +94,9 @@ returns-clause-written g c =
     let name = c.args.process.now.name in
     let seen = g.O.Sink.seen in
     let after = c.serve_beside-workers.result.0.items in
-    let ends = c.in_ok-queues.takes.items in
+    let ends = c.in_ok-puts.takes.items in
     let begun : HasShown (map (λ e. e.values) ends) c.in_ok-waiting.waiting c.in_ok-writer.writer (seen c.args.out.now) (seen c.args.out.now) =
-    opens (λ e. e.values) ends c.args.requests c.in_ok-waiting.waiting c.in_ok-writer.writer (seen c.args.out.now) c.in_ok-queues.ensures.untaken c.in_ok-waiting.ensures c.in_ok-writer.ensures in
+    opens (λ e. e.values) ends c.args.requests c.in_ok-waiting.waiting c.in_ok-writer.writer (seen c.args.out.now) c.in_ok-puts.ensures.untaken c.in_ok-waiting.ensures c.in_ok-writer.ensures in
     let written = c.finish.ensures.written (seen c.args.out.now) (c.serve_beside-workers.ensures.shown (seen c.args.out.now) begun) in
     let lists : map (λ w. w.puts.values) after ≡ map (finished_by name) c.finish.result.passes.items =
     map_all (λ w. w.puts.values) (λ w. finished_by name w.pass) after (λ k d inside. (c.serve_beside-workers.ensures.served.served k d inside).put)

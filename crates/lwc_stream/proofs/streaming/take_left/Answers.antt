@@ -7,28 +7,37 @@ use Rattle.process_core.proofs.Handing.{first_of}
 use Rattle.thread_carrier.proofs.Logs.{turned_back}
 use Rattle.lwc_stream.proofs.streaming.take_left.Goals as goal
 
+pub take_rest-requires : goal.take_rest-requires
+take_rest-requires g c =
+    let inv = c.workers.invariant in
+    let ws = c.workers.workers.items in
+    let es = c.workers.ends.items in
+    let w = c.remove-pass.result in
+    let e = c.remove-takes.result in
+    let ws' = c.remove-pass.new.self.items in
+    let es' = c.remove-takes.new.self.items in
+    let some : 0 < length ws = grind (arith, nat_tests) in
+    let some_e : 0 < length es = omega (arith, some, ap length inv.queues, length-map ws (λ x. x.puts.queue), length-map es (λ x. x.queue)) in
+    let first_w : ws ≡ w ∷ ws' = first_of ws w ws' some c.remove-pass.ensures.value c.remove-pass.ensures.by_index.2 in
+    let first_e : es ≡ e ∷ es' = first_of es e es' some_e c.remove-takes.ensures.value c.remove-takes.ensures.by_index.2 in
+    record { queue = (heads (λ x. x.puts.queue) ws ws' w (map (λ x. x.queue) es) (map (λ x. x.queue) es') e.queue inv.queues first_w (ap (map (λ x. x.queue)) first_e)).first }
+
 pub workers-preserved : goal.workers-preserved
 workers-preserved g c =
     let inv = c.workers.invariant in
     let ws = c.workers.workers.items in
-    let qs = c.workers.queues.items in
     let es = c.workers.ends.items in
     let w = c.remove-pass.result in
-    let q = c.remove-queue.result in
     let e = c.remove-takes.result in
     let ws' = c.remove-pass.new.self.items in
-    let qs' = c.remove-queue.new.self.items in
     let es' = c.remove-takes.new.self.items in
     let some : 0 < length ws = grind (arith, nat_tests) in
-    let some_q : 0 < length qs = omega (arith, some, ap length inv.queues, length-map ws (λ x. x.puts.queue)) in
-    let some_e : 0 < length es = omega (arith, some_q, ap length inv.takes, length-map es (λ x. x.queue)) in
+    let some_e : 0 < length es = omega (arith, some, ap length inv.queues, length-map ws (λ x. x.puts.queue), length-map es (λ x. x.queue)) in
     let first_w : ws ≡ w ∷ ws' = first_of ws w ws' some c.remove-pass.ensures.value c.remove-pass.ensures.by_index.2 in
-    let first_q : qs ≡ q ∷ qs' = first_of qs q qs' some_q c.remove-queue.ensures.value c.remove-queue.ensures.by_index.2 in
     let first_e : es ≡ e ∷ es' = first_of es e es' some_e c.remove-takes.ensures.value c.remove-takes.ensures.by_index.2 in
     let new = c.take_rest.new.waiting in
     record {
-      queues = (heads (λ x. x.puts.queue) ws ws' w qs qs' q inv.queues first_w first_q).others;
-      takes = (heads (λ x. x.queue) es es' e qs qs' q inv.takes first_e first_q).others;
+      queues = (heads (λ x. x.puts.queue) ws ws' w (map (λ x. x.queue) es) (map (λ x. x.queue) es') e.queue inv.queues first_w (ap (map (λ x. x.queue)) first_e)).others;
       passes = ap (λ l. l ++ map (λ x. x.pass) ws') c.push_reserved.ensures.items
           ∙ (append_assoc c.workers.taken.items (w.pass ∷ []) (map (λ x. x.pass) ws')
           ∙ (ap (λ l. c.workers.taken.items ++ map (λ x. x.pass) l) (sym first_w) ∙ inv.passes));
@@ -52,7 +61,7 @@ returns-clause-shown g c =
     let ws = c.workers.workers.items in
     let es = c.workers.ends.items in
     let none : length ws ≡ 0 = grind (arith, nat_tests) in
-    let none_e : length es ≡ 0 = omega (arith, none, ap length inv.queues, ap length inv.takes, length-map ws (λ x. x.puts.queue), length-map es (λ x. x.queue)) in
+    let none_e : length es ≡ 0 = omega (arith, none, ap length inv.queues, length-map ws (λ x. x.puts.queue), length-map es (λ x. x.queue)) in
     λ failed before now h.
     subst (λ l. HasShown l c.workers.waiting failed before now)
     (ap (λ l. inv.done ++ map (λ x. x.values) l) (none_left es none_e) ∙ (sym (ap (λ l. inv.done ++ map (λ x. x.puts.values) l) (none_left ws none)) ∙ inv.all))

@@ -7,8 +7,7 @@ use Rattle.lwc_stream.proofs.streaming.take_left.Given as goal
 -- all that the first workers put in was taken
 abbrev pub invariant-workers : goal.invariant-workers
 invariant-workers g l = record {
-  queues : map (λ w. w.puts.queue) l.workers.items ≡ l.queues.items;
-  takes : map (λ e. e.queue) l.ends.items ≡ l.queues.items;
+  queues : map (λ w. w.puts.queue) l.workers.items ≡ map (λ e. e.queue) l.ends.items;
   passes : l.taken.items ++ map (λ w. w.pass) l.workers.items ≡ map (λ w. w.pass) l.fn.workers.items;
   room : length l.taken.items + length l.workers.items ≤ vec_capacity l.taken;
   logs : l.logs.items ++ map (λ w. w.log) l.workers.items ≡ l.fn.logs.items ++ map (λ w. w.log) l.fn.workers.items;

@@ -15,7 +15,7 @@ turns-init g c =
     let p = c.args.worker.now.pass in record {
       ours = c.requires.fresh.ours;
       number = refl;
-      queue = c.requires.queue;
+      queue = refl;
       put = c.requires.fresh.empty ∙ sym (none_yet _ _ _ c.requires.fresh.unseen);
       counted = sym (ap (steps_by p.held.number) c.requires.fresh.unseen);
       few = omega arith;
@@ -38,8 +38,8 @@ turns-preserved g c =
     record {
       ours = c.make_turn.ensures.ours;
       number = same ∙ c.turns.invariant.number;
-      queue = ap (λ (e : End Finished). e.queue) c.hand_on.ensures.puts;
-      put = ap (λ (e : End Finished). e.values) c.hand_on.ensures.puts
+      queue = ap (λ (e : End). e.queue) c.hand_on.ensures.puts ∙ c.turns.invariant.queue;
+      put = ap (λ (e : End). e.values) c.hand_on.ensures.puts
           ∙ (ap (λ (l : List Finished). l ++ replies_of q.last.finished) c.turns.invariant.put
           ∙ sym (one_turn_more name p q same on c.make_turn.ensures.turn));
       counted = omega (arith, more, c.turns.invariant.counted);

@@ -11,7 +11,7 @@ abbrev pub invariant-turns : goal.invariant-turns
 invariant-turns g l = record {
   ours : IsPassOf l.process l.worker.pass;
   number : l.worker.pass.held.number ≡ l.initial.worker.pass.held.number;
-  queue : l.worker.puts.queue ≡ l.queue;
+  queue : l.worker.puts.queue ≡ l.initial.worker.puts.queue;
   put : l.worker.puts.values ≡ finished_by l.process.name l.worker.pass;
   counted : l.turns ≡ steps_by l.worker.pass.held.number l.worker.pass.held.seen;
   few : l.turns ≤ length l.worker.pass.held.seen;

@@ -5,7 +5,7 @@ use Rattle.lwc_stream.specs.Streams.{HasShown}
 use Rattle.lwc_stream.proofs.desk.Desk.take_round.Goals as goal
 
 pub takes-preserved : goal.takes-preserved
-takes-preserved c =
+takes-preserved g c =
     let inv = c.takes.invariant in
     let es = c.takes.self.takes.items in
     let i = c.takes.i in

@@ -4,8 +4,8 @@ use Rattle.lwc_stream.specs.Streams.{HasShown}
 use Rattle.lwc_stream.proofs.desk.Desk.take_round.Given as goal
 
 abbrev pub invariant-takes : goal.invariant-takes
-invariant-takes l = record {
-  queues : map (λ e. e.queue) l.self.takes.items ≡ l.queues;
+invariant-takes g l = record {
+  queues : map (λ e. e.queue) l.self.takes.items ≡ map (λ e. e.queue) l.initial.self.takes.items;
   shown : (failed : Bool) (before now : SinkView) →
       HasShown (map (λ e. e.values) l.initial.self.takes.items) l.initial.self.waiting failed before now →
       HasShown (map (λ e. e.values) l.self.takes.items) l.self.waiting failed before now;

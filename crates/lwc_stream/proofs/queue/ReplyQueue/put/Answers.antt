@@ -1,5 +1,0 @@
-use Rattle.lwc_stream.proofs.QueueSteps.{puts}
-use Rattle.lwc_stream.proofs.queue.ReplyQueue.put.Goals as goal
-
-pub try_push_as-requires-clause-rule : goal.try_push_as-requires-clause-rule
-try_push_as-requires-clause-rule g c = puts _ _ _ _ c.loop.invariant.0.1
