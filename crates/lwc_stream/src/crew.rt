@@ -1,5 +1,5 @@
 //! The workers in threads of their own, and the caller beside them.
-ghost use Rattle.std.specs.Prelude.{◌≡◌, ◌++◌, List, All, length, map, Some, slice_get};
+ghost use Rattle.std.specs.Prelude.{◌≡◌, ◌++◌, List, All, length, map};
 ghost use Rattle.lwc_io.specs.Outside.{SinkView};
 ghost use Rattle.lwc_stream.specs.Crews.{HasServed, HaveServed, IsFresh};
 ghost use Rattle.lwc_stream.specs.Streams.{HasShown};

@@ -38,8 +38,8 @@ pub struct Streamed<W: World> {
 /// Each thread is carried by a worker of its own where one can be started, and comes to the gate before each
 /// turn, and tells it of each request that it finished: the log at the place of its pass grows by these visits.
 /// Further logs stay as they are. A line may be written while workers go on: no clause says so, tests show it.
-/// All memory is taken before the first turn, but for what starting threads takes: nothing that runs later is given an
-/// allocator. No clause says so; `scripts/check-alloc-faults` shows that no worker waits for memory.
+/// All memory is taken before the first turn, but for what starting threads takes: what runs later has no allocator but a
+/// heap of that memory. No clause says so; `scripts/check-alloc-faults` shows that no worker waits for memory.
 ///
 /// # Errors
 ///

@@ -1,6 +1,6 @@
 use Rattle.std.proofs.Common.{◌∙◌, ◌++◌, ◌∷◌, [], length, sym, ap, arith, append_assoc}
-use Rattle.lwc_stream.proofs.Pieces.{last, part, same_ring}
-use Rattle.lwc_stream.specs.Queues.{Arrived, arrived, reply_with}
+use Rattle.lwc_stream.proofs.Pieces.{begun-more, last, part, same_ring, whole-more}
+use Rattle.lwc_stream.specs.Queues.{Arrived}
 use Rattle.rtrb.specs.Ring.{known_items, received}
 use Rattle.lwc_stream.proofs.ends.Takes.take_rest.Goals as goal
 
@@ -16,13 +16,9 @@ returns-in-Some-clause-some c =
     let is = c.in-Some.ensures.joined in
     let old = c.pieces.self-inside.pieces in
     let new = c.pop_known-piece.new.self in
-    let p = c.pop_known-piece.result in
-    let begun = (arrived (received old)).begun in
-    let grown = last (received old) (received new) p c.pop_known-piece.ensures.received.0 is.0 in
-    let reply = is.2 ∙ ap (λ b. reply_with b p) inv.begun in
+    let got = c.pop_known-piece.ensures.received.0 in
     let queue = same_ring old.end new.end c.pop_known-piece.ensures.ring.0 ∙ inv.ring in
-    let values = ap (λ (a : Arrived). a.whole) grown
-    ∙ (ap (λ l. l ++ reply_with begun p ∷ []) inv.whole ∙ ap (λ x. c.args.self.now.values ++ x ∷ []) (sym reply)) in
+    let values = whole-more (received old) (received new) c.pop_known-piece.result c.pieces.self-inside.begun.items got inv.begun c.args.self.now.values c.in-Some.reply is.0 inv.whole is.2 in
     λ i. record { queue = queue i; values = values i }
 
 pub pieces-preserved : goal.pieces-preserved
@@ -33,11 +29,10 @@ pieces-preserved c =
     let new = c.pop_known-piece.new.self in
     let p = c.pop_known-piece.result in
     let got = c.pop_known-piece.ensures.received in
-    let grown = part (received old) (received new) p got.0 is.0 in
     record {
       ring = same_ring old.end new.end c.pop_known-piece.ensures.ring.0 ∙ inv.ring;
-      whole = ap (λ (a : Arrived). a.whole) grown ∙ inv.whole;
-      begun = is.1 ∙ (ap (λ l. l ++ p.bytes.items) inv.begun ∙ sym (ap (λ (a : Arrived). a.begun) grown));
+      whole = ap (λ (a : Arrived). a.whole) (part (received old) (received new) p got.0 is.0) ∙ inv.whole;
+      begun = begun-more (received old) (received new) p c.pieces.self-inside.begun.items got.0 inv.begun _ is.0 is.1;
       room = c.in_default.ensures.room;
       puts = inv.puts;
       put = inv.put;
