@@ -3,7 +3,7 @@ use Rattle.std.proofs.Common.{◌≡◌, ◌≢◌, ℕ, zero, suc, ◌+◌, ◌
 use Rattle.std.proofs.Math.Nat.{mul-le-mul_left, pow-suc}
 use Rattle.std.proofs.lemmas.Nat.{div_below}
 use Rattle.std.proofs.lemmas.Bool.{cases_eq, cases_lt, eq-eqb, ne_eqb, cond-true, cond-false}
-use Rattle.page_tree.specs.Costs.{copy_steps, entries_in, entry_steps, most_nodes, share_steps}
+use Rattle.page_tree.specs.Costs.{copy_steps, entries_in, entry_steps, most_nodes, share_steps, way_steps}
 
 pub pow-pos : (k : ℕ) → 0 < 32 ^ k
 pow-pos zero = omega arith
@@ -17,11 +17,26 @@ pow-step (suc k) some =
     let step = pow-suc 32 k in
     omega (arith, step, power)
 
+-- a page of a node is in one of its entries
+pub page-place : (level p w : ℕ) → 0 < level → w ≡ 32 ^ (level - 1) → p < 32 ^ level → p / w < 32
+page-place level p w some w_is page =
+    let step = pow-step level some in
+    let pos = pow-pos (level - 1) in
+    div_below p w 32 (omega (arith, pos, w_is)) (omega (arith, step, w_is, page))
+
 pub entries_in-root : (level : ℕ) → level ≡ 3 → entries_in level ≡ 16
 entries_in-root level is = cond-true (eqb level 3) 16 32 (eq-eqb level 3 is)
 
 pub entries_in-other : (level : ℕ) → level ≢ 3 → entries_in level ≡ 32
 entries_in-other level off = cond-false (eqb level 3) 16 32 (ne_eqb level 3 off)
+
+pub most-step : (level : ℕ) → 0 < level → most_nodes level ≡ 1 + entries_in level * most_nodes (level - 1)
+most-step zero some = absurd (omega (arith, some))
+most-step (suc k) some = let less : k ≡ suc k - 1 = omega arith in ap (λ l. 1 + entries_in (suc k) * most_nodes l) less
+
+pub way-step : (level : ℕ) → 0 < level → way_steps level ≡ copy_steps level + way_steps (level - 1)
+way-step zero some = absurd (omega (arith, some))
+way-step (suc k) some = let less : k ≡ suc k - 1 = omega arith in ap (λ l. copy_steps (suc k) + way_steps l) less
 
 -- one more of so many entries takes its steps
 pub more-steps : (i k m s0 s s' : ℕ) → s ≤ s0 + min i k * m → s' ≤ s + m → (k ≤ i → s' ≡ s) → s' ≤ s0 + min (i + 1) k * m

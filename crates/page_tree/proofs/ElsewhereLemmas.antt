@@ -44,6 +44,20 @@ module _ (nodes : List Node) (frames : List Frame) (sound : IsSound nodes frames
       (omega (arith, next, at.0), sound.held node.0 i m high e))
       (zero_or_more link)
 
+  -- where an entry leads to a node that is held once, another one that leads to it is the same one
+  one-link : (level c i c' i' m n : ℕ) → 1 < level → IsHeld nodes level c → IsHeld nodes level c' → c ≡ n + 1 → link_of nodes c i ≡ m + 1 → count_of nodes m ≡ 1 → link_of nodes c' i' ≡ link_of nodes c i → (c' ≡ c) × (i' ≡ i)
+  one-link level c i c' i' m n up held held' is child once same =
+      ⊎_elim
+      (λ none. absurd (let z = ap (λ e. link_of nodes e i') none ∙ link_of-none nodes i' in omega (arith, z, same, child)))
+      (λ node.
+      let leads : entry_of nodes n i ≡ m + 1 = sym (link_of-node nodes n i) ∙ ap (λ x. link_of nodes x i) (sym is) ∙ child in
+      let leads' : entry_of nodes node.0 i' ≡ m + 1 = sym (link_of-node nodes node.0 i') ∙ ap (λ x. link_of nodes x i') (sym node.1) ∙ same ∙ child in
+      let l = held n is in
+      let l' = held' node.0 node.1 in
+      let place = one-place 3 nodes frames sound m n i node.0 i' once (omega (arith, l.0, up)) (omega (arith, l'.0, up)) leads leads' in
+      (omega (arith, node.1, place.0, is), place.1))
+      (zero_or_more c')
+
   -- where a way is its own to the leaf, another way to the same place of that leaf is the same way
   one-way : (level c q c' q' leaf j : ℕ) → 0 < level → level ≤ 3 → q < 32 ^ level → q' < 32 ^ level → IsHeld nodes level c → IsHeld nodes level c' → short_below nodes level c q ≡ 0 → IsMet nodes level 1 c q (leaf + 1) j → IsMet nodes level 1 c' q' (leaf + 1) j → (c' ≡ c) × (q' ≡ q)
   one-way zero c q c' q' leaf j some most q_in q_in' held held' own met met' = absurd met
@@ -60,8 +74,6 @@ module _ (nodes : List Node) (frames : List Frame) (sound : IsSound nodes frames
       (λ here. absurd (omega (arith, here.0)))
       (λ lower'.
       let pos = pow-pos (suc k) in
-      let step = pow-step (suc (suc k)) (omega arith) in
-      let power : 32 ^ (suc (suc k) - 1) ≡ 32 ^ suc k = ap (λ l. 32 ^ l) (let less : suc (suc k) - 1 ≡ suc k = omega arith in less) in
       let less : suc (suc k) - 1 ≡ suc k = omega arith in
       ⊎_elim
       (λ alone.
@@ -72,18 +84,8 @@ module _ (nodes : List Node) (frames : List Frame) (sound : IsSound nodes frames
       (mod_below q (32 ^ suc k) pos) (mod_below q' (32 ^ suc k) pos) child child' below_own lower.1 lower'.1 in
       ⊎_elim
       (λ child_own.
-      let m = child_own.1.0 in
-      let n = alone.1.0 in
-      let leads : entry_of nodes n (q / 32 ^ suc k) ≡ m + 1 = sym (link_of-node nodes n (q / 32 ^ suc k)) ∙ ap (λ x. link_of nodes x (q / 32 ^ suc k)) (sym alone.1.1.0) ∙ child_own.1.1.0 in
-      ⊎_elim
-      (λ none. absurd (let z = ap (λ e. link_of nodes e (q' / 32 ^ suc k)) none ∙ link_of-none nodes (q' / 32 ^ suc k) in omega (arith, z, rest.0, child_own.1.1.0)))
-      (λ node.
-      let leads' : entry_of nodes node.0 (q' / 32 ^ suc k) ≡ m + 1 = sym (link_of-node nodes node.0 (q' / 32 ^ suc k)) ∙ ap (λ x. link_of nodes x (q' / 32 ^ suc k)) (sym node.1) ∙ rest.0 ∙ child_own.1.1.0 in
-      let l = held n alone.1.1.0 in
-      let l' = held' node.0 node.1 in
-      let place = one-place 3 nodes frames sound m n (q / 32 ^ suc k) node.0 (q' / 32 ^ suc k) child_own.1.1.1 (omega (arith, l.0)) (omega (arith, l'.0)) leads leads' in
-      (omega (arith, node.1, place.0, alone.1.1.0), same-parts (32 ^ suc k) q' q place.1 rest.1))
-      (zero_or_more c'))
+      let same = one-link (suc (suc k)) c (q / 32 ^ suc k) c' (q' / 32 ^ suc k) child_own.1.0 alone.1.0 (omega arith) held held' alone.1.1.0 child_own.1.1.0 child_own.1.1.1 rest.0 in
+      (same.0, same-parts (32 ^ suc k) q' q same.1 rest.1))
       (λ short. absurd (let all = short-whole (suc k) nodes (link_of nodes c (q / 32 ^ suc k)) (q % 32 ^ suc k) (omega arith) short in omega (arith, all, below_own)))
       (link_short-cases nodes (link_of nodes c (q / 32 ^ suc k))))
       (λ short. absurd (let all = short-whole (suc (suc k)) nodes c q (omega arith) short in omega (arith, all, own)))

@@ -7,7 +7,7 @@ use Rattle.page_tree.specs.Sound.{IsSoundTo, is_root, leading_to}
 use Rattle.page_tree.specs.Changes.{IsBelow}
 use Rattle.page_tree.specs.Steps.{IsOwned, IsLoose, IsOther, Moves}
 use Rattle.page_tree.proofs.LinkLemmas.{is_root-no, is_root-there, zero_or_more, link_of-node, link_of-none, entry-moved, below-none, below-entry, below-kind}
-use Rattle.page_tree.proofs.EnterLemmas.{count-entered, level-entered, off-entered, there-entered}
+use Rattle.page_tree.proofs.EnterLemmas.{count-entered, here-entered, level-entered, off-entered, there-entered}
 use Rattle.page_tree.proofs.MoveLemmas.{IsSound-low, IsSound-raise, Moves-with, Moves-raise, Moves-trans, other-same, other-map}
 
 -- what is below a link one level lower is not an owned node
@@ -118,23 +118,31 @@ module _ (level : ℕ) (a b d e : List Node) (fa fb fd fe : List Frame) (n i v :
   pub IsSound-put : IsSoundTo level e fe
   IsSound-put = IsSound-raise level (level - 1) level a e fa fe (is_root (n + 1)) (is_root (n + 1)) sound sound_e Moves-put (λ x. refl) stays-put
 
+  pub here-put : entry_of e n i ≡ v
+  here-put = ap (λ es. get_or es i 0) entries-put ∙ ap (λ ns. entry_of ns n i) nodes_d ∙ here-entered (level - 1) level b fb sound_b n i v own-held place
+
+  in-b : (k : ℕ) → entry_of b n k ≡ entry_of a n k
+  in-b k = ap (λ es. get_or es k 0) (entries-below level (level - 1) a b fa fb (λ x. 0) (is_root v) n (omega (arith, up)) own ab)
+
+  in-d : (k : ℕ) → k ≢ i → entry_of d n k ≡ entry_of a n k
+  in-d k off = ap (λ ns. entry_of ns n k) nodes_d ∙ there-entered (level - 1) level b fb sound_b n i v own-held place k off ∙ in-b k
+
+  pub others-put : (k : ℕ) → k ≢ i → entry_of e n k ≡ entry_of a n k
+  others-put k off = ap (λ es. get_or es k 0) entries-put ∙ in-d k off
+
   -- what any other entry stands for
   pub there-put : (k q : ℕ) → k ≢ i → entry_below e (level - 1) (entry_of e n k) q ≡ entry_below a (level - 1) (entry_of a n k) q
   there-put k q off =
       let s = entry_of a n k in
-      let same_b = entries-below level (level - 1) a b fa fb (λ x. 0) (is_root v) n (omega (arith, up)) own ab in
-      let in_b : entry_of b n k ≡ s = ap (λ es. get_or es k 0) same_b in
-      let in_d : entry_of d n k ≡ s = ap (λ ns. entry_of ns n k) nodes_d ∙ there-entered (level - 1) level b fb sound_b n i v own-held place k off ∙ in_b in
-      let in_e : entry_of e n k ≡ s = ap (λ es. get_or es k 0) entries-put ∙ in_d in
       let high_b : 1 < level_of b n = omega (arith, up, own-held.level_is) in
       let first : entry_below b (level - 1) s q ≡ entry_below a (level - 1) s q =
       entry-moved a b (level - 1) s q (λ m w. (ab.same n m (omega (arith, own.once, own.free)) (subst (λ l. IsBelow a l (n + 1) m) (sym own.level_is) (below-entry a level n k m (omega (arith, up)) w))).entries) in
       let second : entry_below d (level - 1) s q ≡ entry_below b (level - 1) s q =
       entry-moved b d (level - 1) s q (λ m w. ap (λ y. y.entries) (ap (λ ns. node_at ns m) nodes_d ∙ off-entered (level - 1) level b fb sound_b n i v own-held place m
-      (below-apart (level - 1) level b fb n s m sound_b own-held up (λ y is. let l = sound_b.below n k y high_b (in_b ∙ is) in (omega (arith, l, own-held.level_is), sound_b.held n k y high_b (in_b ∙ is))) w))) in
+      (below-apart (level - 1) level b fb n s m sound_b own-held up (λ y is. let l = sound_b.below n k y high_b (in-b k ∙ is) in (omega (arith, l, own-held.level_is), sound_b.held n k y high_b (in-b k ∙ is))) w))) in
       let third : entry_below e (level - 1) s q ≡ entry_below d (level - 1) s q =
-      entry-moved d e (level - 1) s q (λ m w. (de.same n m (omega (arith, w_none, own_d.once, own_d.free)) (subst (λ l. IsBelow d l (n + 1) m) (sym own_d.level_is) (below-entry d level n k m (omega (arith, up)) (subst (λ x. IsBelow d (level - 1) x m) (sym in_d) w)))).entries) in
-      ap (λ x. entry_below e (level - 1) x q) in_e ∙ third ∙ second ∙ first
+      entry-moved d e (level - 1) s q (λ m w. (de.same n m (omega (arith, w_none, own_d.once, own_d.free)) (subst (λ l. IsBelow d l (n + 1) m) (sym own_d.level_is) (below-entry d level n k m (omega (arith, up)) (subst (λ x. IsBelow d (level - 1) x m) (sym (in-d k off)) w)))).entries) in
+      ap (λ x. entry_below e (level - 1) x q) (others-put k off) ∙ third ∙ second ∙ first
 
 -- a cell stands for itself
 pub entry-cell : (nodes : List Node) (k link q : ℕ) → k ≡ 0 → entry_below nodes k link q ≡ link

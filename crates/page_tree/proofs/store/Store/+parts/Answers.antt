@@ -6,12 +6,12 @@ use Rattle.page_tree.specs.Steps.{IsOwned, KeepsLone, Moves, none_shared}
 use Rattle.page_tree.proofs.EnterLemmas.{count-entered, there-entered}
 use Rattle.page_tree.proofs.UsesLemmas.{inside-count}
 use Rattle.page_tree.proofs.MoveLemmas.{Moves-refl, Moves-trans}
-use Rattle.page_tree.proofs.NodeLemmas.{own-loose, IsSound-put, Moves-put, peers-put, there-put, entry-cell}
+use Rattle.page_tree.proofs.NodeLemmas.{own-loose, IsSound-put, Moves-put, here-put, others-put, peers-put, there-put, entry-cell}
 use Rattle.page_tree.specs.Costs.{entries_in, most_nodes}
 use Rattle.page_tree.proofs.LoneLemmas.{lone-given, lone-same, lone-trans}
 use Rattle.page_tree.proofs.LoneNodes.{lone-put, rest-put}
 use Rattle.page_tree.proofs.RangeShort.{range-none}
-use Rattle.page_tree.proofs.CostLemmas.{more-steps, unused}
+use Rattle.page_tree.proofs.CostLemmas.{more-steps, most-step, unused}
 use Rattle.page_tree.proofs.store.Store.+parts.Goals.{empty-then-entry-ne0, empty-else-entry-ne0}
 use Rattle.page_tree.proofs.store.Store.+parts.Goals as goal
 
@@ -83,6 +83,20 @@ put-returns-else-level-eq-LEAF_LEVEL-clause-sound g t c =
     IsSound-put c.args.level _ _ _ _ _ _ _ _ c.args.node.n c.args.i c.args.link up c.requires.place c.requires.sound c.requires.own (λ m is. (c.requires.held up m is).0)
     c.hold_link.ensures.sound c.hold_link.ensures.moves (rw swap.was at swap.moves) swap.nodes swap.own swap.sound (rw swap.was at swap.loose) c.release.ensures.sound (rw swap.was at c.release.ensures.moves)
 
+pub put-returns-else-level-eq-LEAF_LEVEL-clause-here : goal.put-returns-else-level-eq-LEAF_LEVEL-clause-here
+put-returns-else-level-eq-LEAF_LEVEL-clause-here g t c =
+    let up : 1 < c.args.level = omega (arith, c.requires.low, c.if-level-eq-LEAF_LEVEL.false) in
+    let swap = c.swap-old.ensures in
+    here-put c.args.level _ _ _ _ _ _ _ _ c.args.node.n c.args.i c.args.link up c.requires.place c.requires.sound c.requires.own (λ m is. (c.requires.held up m is).0)
+    c.hold_link.ensures.sound c.hold_link.ensures.moves (rw swap.was at swap.moves) swap.nodes swap.own swap.sound (rw swap.was at swap.loose) c.release.ensures.sound (rw swap.was at c.release.ensures.moves)
+
+pub put-returns-else-level-eq-LEAF_LEVEL-clause-others : goal.put-returns-else-level-eq-LEAF_LEVEL-clause-others
+put-returns-else-level-eq-LEAF_LEVEL-clause-others g t c =
+    let up : 1 < c.args.level = omega (arith, c.requires.low, c.if-level-eq-LEAF_LEVEL.false) in
+    let swap = c.swap-old.ensures in
+    others-put c.args.level _ _ _ _ _ _ _ _ c.args.node.n c.args.i c.args.link up c.requires.place c.requires.sound c.requires.own (λ m is. (c.requires.held up m is).0)
+    c.hold_link.ensures.sound c.hold_link.ensures.moves (rw swap.was at swap.moves) swap.nodes swap.own swap.sound (rw swap.was at swap.loose) c.release.ensures.sound (rw swap.was at c.release.ensures.moves)
+
 pub put-returns-else-level-eq-LEAF_LEVEL-clause-peers : goal.put-returns-else-level-eq-LEAF_LEVEL-clause-peers
 put-returns-else-level-eq-LEAF_LEVEL-clause-peers g t c =
     let up : 1 < c.args.level = omega (arith, c.requires.low, c.if-level-eq-LEAF_LEVEL.false) in
@@ -96,6 +110,9 @@ put-returns-else-level-eq-LEAF_LEVEL-clause-there g t c =
     let swap = c.swap-old.ensures in
     there-put c.args.level _ _ _ _ _ _ _ _ c.args.node.n c.args.i c.args.link up c.requires.place c.requires.sound c.requires.own (λ m is. (c.requires.held up m is).0)
     c.hold_link.ensures.sound c.hold_link.ensures.moves (rw swap.was at swap.moves) swap.nodes swap.own swap.sound (rw swap.was at swap.loose) c.release.ensures.sound (rw swap.was at c.release.ensures.moves)
+
+pub put-returns-else-level-eq-LEAF_LEVEL-clause-free : goal.put-returns-else-level-eq-LEAF_LEVEL-clause-free
+put-returns-else-level-eq-LEAF_LEVEL-clause-free g t c = omega (arith, c.hold_link.ensures.free, c.swap-old.ensures.free, c.release.ensures.free)
 
 pub put-returns-then-level-eq-LEAF_LEVEL-clause-there : goal.put-returns-then-level-eq-LEAF_LEVEL-clause-there
 put-returns-then-level-eq-LEAF_LEVEL-clause-there g t c = λ k q off.
@@ -145,3 +162,6 @@ release-returns-then-link-ne0-clause-lone g t c =
 
 pub release-returns-else-link-ne0-clause-lone : goal.release-returns-else-link-ne0-clause-lone
 release-returns-else-link-ne0-clause-lone g t c = lone-same _ _ _ _ (λ x. refl)
+
+pub release-returns-then-link-ne0-clause-cost : goal.release-returns-then-link-ne0-clause-cost
+release-returns-then-link-ne0-clause-cost g t c = let step = most-step c.args.level c.requires.low in omega (arith, step, c.empty.ensures.cost, c.give_up.ensures.one_step)

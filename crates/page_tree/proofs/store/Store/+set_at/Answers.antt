@@ -1,5 +1,5 @@
 use Rattle.std.proofs.Common.{rules, ℕ, ◌≡◌, ◌≢◌, ◌+◌, ◌-◌, ◌/◌, ◌%◌, ◌^◌, ◌<◌, ◌≤◌, ⊎_elim, eqb, ap, sym, subst, ◌∙◌, arith}
-use Rattle.std.proofs.lemmas.Nat.{div_below, mod_below}
+use Rattle.std.proofs.lemmas.Nat.{mod_below}
 use Rattle.frame_pool.specs.Frame.{frame_count}
 use Rattle.node_pool.specs.Nodes.{entry_of, free_of}
 use Rattle.page_tree.specs.Pages.{entry_below, entry_for}
@@ -10,8 +10,8 @@ use Rattle.page_tree.proofs.LinkLemmas.{link_short-cases, link_short-once, link_
 use Rattle.page_tree.proofs.EnterLemmas.{here-entered, there-entered}
 use Rattle.page_tree.proofs.MoveLemmas.{Moves-raise, Moves-trans}
 use Rattle.page_tree.proofs.NodeLemmas.{loose-own}
-use Rattle.page_tree.proofs.UsesLemmas.{free_of-enter}
-use Rattle.page_tree.proofs.CostLemmas.{pow-pos, pow-step}
+use Rattle.page_tree.proofs.UsesLemmas.{free_of-enter, inside-count}
+use Rattle.page_tree.proofs.CostLemmas.{page-place, pow-pos, way-step}
 use Rattle.page_tree.proofs.ChildLemmas.{entry-leaf, entry-step, entry-swapped, set-page, set-pages, apart-within, short-own, short-whole, short-leaf, short-swapped, left-short, all-short, child-changed, ChildChanged}
 use Rattle.page_tree.proofs.store.Store.+set_at.Given.{Over}
 use Rattle.page_tree.proofs.store.Store.+set_at.Goals as goal
@@ -35,7 +35,7 @@ set_at-child-requires g t c =
     let r = c.args.p % c.width-width.result in
     let short = left-short c.args.level c.args.self.now.nodes c.own-node.new.self.nodes c.swap-child.new.self.nodes c.args.link c.own-node.result.n c.args.p c.swap-child.result some c.own-node.ensures.same
     (λ own. sym (c.own-node.ensures.entries (c.args.p / 32 ^ (c.args.level - 1))) ∙ ap (entry_of c.own-node.new.self.nodes c.own-node.result.n) (sym at) ∙ sym one.was)
-    (rw one.was (short-swapped c.args.level c.own-node.new.self.nodes c.swap-child.new.self.nodes _ c.own-node.result.n (c.args.p / c.width-width.result) up (omega (arith, at, div_below c.args.p (32 ^ (c.args.level - 1)) 32 (pow-pos (c.args.level - 1)) (let step = pow-step c.args.level some in omega (arith, step, c.requires.page)))) c.own-node.ensures.sound c.own-node.ensures.own one.nodes))
+    (rw one.was (short-swapped c.args.level c.own-node.new.self.nodes c.swap-child.new.self.nodes _ c.own-node.result.n (c.args.p / c.width-width.result) up (page-place c.args.level c.args.p c.width-width.result some w c.requires.page) c.own-node.ensures.sound c.own-node.ensures.own one.nodes))
     c.own-node.ensures.free one.free c.requires.free in
     λ κs le. (
       omega (arith, c.decreases, up),
@@ -66,6 +66,21 @@ set_at-child-requires g t c =
       ),
     )
 
+pub nonzero_div-p-else-level-eq-LEAF_LEVEL : goal.nonzero_div-p-else-level-eq-LEAF_LEVEL
+nonzero_div-p-else-level-eq-LEAF_LEVEL g t c = let pos = pow-pos (c.args.level - 1) in omega (arith, pos, c.width-width.ensures)
+
+pub overflow_add-child : goal.overflow_add-child
+overflow_add-child g t c =
+    let rec = c.set_at-child.ensures in
+    let inside = inside-count c.set_at-child.new.self.nodes c.set_at-child.result.n (omega (arith, rec.own.once)) in
+    omega (arith, inside, rec.sound.few)
+
+pub swap-requires-clause-place : goal.swap-requires-clause-place
+swap-requires-clause-place g t c = page-place c.args.level c.args.p c.width-width.result (omega (arith, c.requires.low)) c.width-width.ensures c.requires.page
+
+pub swap-requires-clause-loose : goal.swap-requires-clause-loose
+swap-requires-clause-loose g t c = loose-own _ _ _ c.set_at-child.ensures.own
+
 -- after the last swap: where the page is below its entry, and what the change of the child made of the node
 module _ (g : Over) (t : ℕ) (c : goal.After-swap g t) where
   up : 1 < c.args.level
@@ -81,7 +96,7 @@ module _ (g : Over) (t : ℕ) (c : goal.After-swap g t) where
   within = ap (λ x. c.args.p % x) c.width-width.ensures
 
   place : c.args.p / c.width-width.result < 32
-  place = omega (arith, at, div_below c.args.p (32 ^ (c.args.level - 1)) 32 (pow-pos (c.args.level - 1)) (let step = pow-step c.args.level some in omega (arith, step, c.requires.page)))
+  place = page-place c.args.level c.args.p c.width-width.result some c.width-width.ensures c.requires.page
 
   changed : ChildChanged c.args.level c.own-node.new.self.nodes c.swap-child.new.self.nodes c.set_at-child.new.self.nodes c.swap.new.self.nodes c.own-node.new.self.frames c.swap.new.self.frames c.own-node.result.n (c.args.p / c.width-width.result) (c.set_at-child.result.n + 1)
   changed =
@@ -230,3 +245,8 @@ returns-else-level-eq-LEAF_LEVEL-clause-grows g t c = λ same f.
     let first = ap (λ fs. frame_count fs f) one.frames in
     let last = ap (λ fs. frame_count fs f) c.swap.ensures.frames in
     omega (arith, grown, below, first, last)
+
+pub returns-else-level-eq-LEAF_LEVEL-clause-cost : goal.returns-else-level-eq-LEAF_LEVEL-clause-cost
+returns-else-level-eq-LEAF_LEVEL-clause-cost g t c =
+    let step = way-step c.args.level (some g t c) in
+    omega (arith, step, c.own-node.ensures.cost, c.set_at-child.ensures.cost)
