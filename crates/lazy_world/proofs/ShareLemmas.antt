@@ -31,6 +31,10 @@ use Rattle.lazy_world.proofs.FollowLemmas.{change-agree}
 use Rattle.lwc_base.proofs.Facts.{changes, orders}
 use Rattle.lwc_base.proofs.Orders.{same_name}
 
+-- a test has one answer
+pub not_both : (b : Bool) → b ≡ true → b ≡ false → ⊥
+not_both b on off = let clash = sym on ∙ off in cc
+
 set_twice : {X : Type 0} (b : Bool) (x y : X) (o : Option X) → cond b (Some y) (cond b (Some x) o) ≡ cond b (Some y) o
 set_twice true x y o = refl
 set_twice false x y o = refl

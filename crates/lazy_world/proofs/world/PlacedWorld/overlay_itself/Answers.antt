@@ -13,7 +13,7 @@ use Rattle.lazy_world.proofs.ItselfLemmas.{itself-few, itself-is}
 use Rattle.lazy_world.proofs.MovedLemmas.{live-past}
 use Rattle.lazy_world.proofs.OverlayLemmas.{overlaid-is}
 use Rattle.lazy_world.proofs.CloneLemmas.{none-moves}
-use Rattle.lazy_world.proofs.ShareLemmas.{added-context, added-empty, moved-has, none-moved}
+use Rattle.lazy_world.proofs.ShareLemmas.{added-context, added-empty, moved-has, none-moved, not_both}
 use Rattle.lwc_base.proofs.Facts.{changes, stays_fresh}
 use Rattle.lazy_world.proofs.world.PlacedWorld.overlay_itself.Goals as goal
 
@@ -102,7 +102,7 @@ returns-then-needs_group-clause-store g c =
     let both = takes-both c.args.self.now c.add_group-g.new.self c.fill_group.new.self c.follow.new.self (pieces w c.args.c c.args.spec.now) _ _ first (second ∙ first) c.add_group-g.ensures.store c.fill_group.ensures.store c.follow.ensures.store in
     record {
       all = record { frames = both.frames; pool = both.pool; nodes = omega (arith, both.nodes) };
-      alone = λ none. absurd (let clash = sym none ∙ sym c.needs_group.ensures.value ∙ c.if-needs_group.true in cc);
+      alone = λ none. absurd (not_both _ (sym c.needs_group.ensures.value ∙ c.if-needs_group.true) none);
     }
 
 pub returns-then-needs_group-clause-steps : goal.returns-then-needs_group-clause-steps
@@ -112,7 +112,7 @@ returns-then-needs_group-clause-steps g c =
     let second = filled-pieces (seen c.add_group-g.new.self) c.args.c c.args.spec.now c.add_group-g.result _ (seen c.fill_group.new.self) c.fill_group.ensures.world in
     record {
       all = omega (arith, c.fill_group.ensures.steps, c.follow.ensures.steps, first, second);
-      alone = λ none. absurd (let clash = sym none ∙ sym c.needs_group.ensures.value ∙ c.if-needs_group.true in cc);
+      alone = λ none. absurd (not_both _ (sym c.needs_group.ensures.value ∙ c.if-needs_group.true) none);
     }
 
 pub returns-else-needs_group-clause-store : goal.returns-else-needs_group-clause-store

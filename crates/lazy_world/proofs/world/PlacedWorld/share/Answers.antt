@@ -5,7 +5,7 @@ use Rattle.lwc_base.specs.Ranges.{ranges_of}
 use Rattle.lazy_world.specs.States.{world_of}
 use Rattle.lazy_world.specs.Worlds.{parts, seen}
 use Rattle.lazy_world.proofs.MovedLemmas.{live-past, moved-few}
-use Rattle.lazy_world.proofs.ShareLemmas.{added-context, added-empty, followed-is, moved-has}
+use Rattle.lazy_world.proofs.ShareLemmas.{added-context, added-empty, followed-is, moved-has, not_both}
 use Rattle.lwc_base.proofs.Facts.{changes, stays_fresh}
 use Rattle.lazy_world.specs.Costs.{pieces}
 use Rattle.lazy_world.proofs.CostLemmas.{added-pieces, filled-pieces, takes-both}
@@ -62,10 +62,10 @@ returns-else-needs_group-clause-world g c =
     sym ((changes.shared (seen w) c.args.c c.args.job c.args.spec.now).none (sym c.needs_group.ensures.value ∙ c.if-needs_group.false))
 
 pub returns-then-needs_group-clause-none : goal.returns-then-needs_group-clause-none
-returns-then-needs_group-clause-none g c none = absurd (let both = sym none ∙ sym c.needs_group.ensures.value ∙ c.if-needs_group.true in cc)
+returns-then-needs_group-clause-none g c none = absurd (not_both _ (sym c.needs_group.ensures.value ∙ c.if-needs_group.true) none)
 
 pub returns-then-needs_group-clause-none_steps : goal.returns-then-needs_group-clause-none_steps
-returns-then-needs_group-clause-none_steps g c none = absurd (let both = sym none ∙ sym c.needs_group.ensures.value ∙ c.if-needs_group.true in cc)
+returns-then-needs_group-clause-none_steps g c none = absurd (not_both _ (sym c.needs_group.ensures.value ∙ c.if-needs_group.true) none)
 
 pub returns-then-needs_group-clause-store : goal.returns-then-needs_group-clause-store
 returns-then-needs_group-clause-store g c =
