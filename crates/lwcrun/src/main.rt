@@ -1,6 +1,9 @@
 //! `lwcrun`: runs a guest image under a schedule, and prints what it did.
 #![tactic(auto)]
 
+ghost use Rattle.std.specs.Prelude.{◌≡◌, ◌≢◌, [], IfErr, IfOk, IsOkAnd, Ok};
+ghost use Rattle.std.specs.IoError.{error_kind};
+
 use crate::progress::{ClearingSink, Progress};
 use lwc_base::MOST_THREADS;
 use lwc_io::{RealFiles, RealSink, Sink};
@@ -13,8 +16,6 @@ use std::rt::Env;
 use thread_carrier::VisitLog;
 
 mod progress;
-#[cfg(test)]
-mod tests;
 
 /// The words of the line, the program's name first.
 fn words<R: Env + AllocGlobal>(rt: &R) -> io::Result<Vec<String>> {
@@ -22,7 +23,11 @@ fn words<R: Env + AllocGlobal>(rt: &R) -> io::Result<Vec<String>> {
 }
 
 /// The words that were read, or none if they are not UTF-8: a line of no words is not accepted.
-fn words_or_none(alloc: Global, words: io::Result<Vec<String>>) -> io::Result<Vec<String>> {
+fn words_or_none(alloc: Global, words: io::Result<Vec<String>>) -> io::Result<Vec<String>>
+    ensures read { IfOk words (λ read. result ≡ Ok read) }
+    ensures other { IfErr words (λ error. error_kind error ≢ ErrorKind.OutOfMemory
+        → IsOkAnd result (λ none. none.items ≡ [])) }
+{
     match words {
         Err(error) if error.kind() != ErrorKind::OutOfMemory => Ok(Vec::new(alloc)),
         words => words,

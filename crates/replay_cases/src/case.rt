@@ -1,17 +1,36 @@
 use std::alloc::Global;
-use std::io;
+use std::{io, iter};
 
-/// A guest that is replayed: what it shows, the words after the program's name, the schedule, the file of
-/// requests, the vault's file, the script, and the source.
+/// How the outside of a call behaves: which fetch fails, how many bytes a write takes at most, and which write
+/// fails, each counted from 0 on.
+#[derive(Clone, Copy)]
+pub struct Outside {
+    pub fetch: u64,
+    pub most: usize,
+    pub write: u64,
+}
+
+/// An outside in which nothing fails.
+pub const SURE: Outside = Outside {
+    fetch: u64::MAX,
+    most: 1 << 20,
+    write: u64::MAX,
+};
+
+/// Lines that are called over the same files: what they show, the words after the program's name of each, the
+/// schedule, the file of requests, the vault's file, the script, the source of the guest, the guest itself where it
+/// is not made from the source, and how the outside behaves.
 #[derive(Drop)]
 pub struct Case {
     pub title: String,
-    pub line: String,
+    pub lines: Vec<String>,
     pub schedule: String,
     pub requests: String,
     pub vault: Vec<u8>,
     pub script: String,
     pub source: String,
+    pub guest: Option<Vec<u8>>,
+    pub outside: Outside,
 }
 
 impl Case {
@@ -19,37 +38,31 @@ impl Case {
     fn new(alloc: Global, title: &str) -> io::Result<Case> {
         Ok(Case {
             title: String::from_str(alloc, title)?,
-            line: String::new(alloc),
+            lines: Vec::new(alloc),
             schedule: String::new(alloc),
             requests: String::new(alloc),
             vault: Vec::new(alloc),
             script: String::new(alloc),
             source: String::new(alloc),
+            guest: None,
+            outside: SURE,
         })
     }
 
-    /// Takes one more line: the words, the schedule, the requests, the vault, the script, or else a line of the
-    /// source.
+    /// Takes one more line of the input: what its first word names, or else a line of the source.
     fn take(&mut self, alloc: Global, line: &str) -> io::Result<()> {
-        if let Some(words) = line.strip_prefix("line ") {
-            self.line.push_str(words)?;
-        } else if let Some(digits) = line.strip_prefix("schedule ") {
-            self.schedule.push_str(digits)?;
-        } else if let Some(requests) = line.strip_prefix("requests ") {
-            for request in requests.split(' ') {
-                self.requests.push_str(request)?;
-                self.requests.push_str("\n")?;
-            }
-        } else if let Some(parts) = line.strip_prefix("vault ") {
-            self.vault = vault_bytes(alloc, parts)?;
-        } else if let Some(commands) = line.strip_prefix("script ") {
-            for command in commands.split(", ") {
-                self.script.push_str(command)?;
-                self.script.push_str("\n")?;
-            }
-        } else {
-            self.source.push_str(line)?;
-            self.source.push_str("\n")?;
+        let (word, rest) = line.split_once(' ').unwrap_or((line, ""));
+        match word {
+            "line" => self.lines.push(String::from_str(alloc, rest)?)?,
+            "schedule" => self.schedule.push_str(rest)?,
+            "requests" => append_lines(&mut self.requests, rest.split(' '))?,
+            "vault" => self.vault = vault_bytes(alloc, rest)?,
+            "script" => append_lines(&mut self.script, rest.split(", "))?,
+            "guest" => self.guest = Some(hex::decode(alloc, rest).unwrap_or(Vec::new(alloc))),
+            "fetch" => self.outside.fetch = number_in(rest),
+            "most" => self.outside.most = number_in(rest) as usize,
+            "write" => self.outside.write = number_in(rest),
+            _ => append_lines(&mut self.source, iter::once(line))?,
         }
         Ok(())
     }
@@ -64,6 +77,20 @@ pub fn take_line(alloc: Global, cases: &mut Vec<Case>, line: &str) -> io::Result
         case.take(alloc, line)?;
     }
     Ok(())
+}
+
+/// Appends lines.
+fn append_lines<'a>(text: &mut String, lines: impl Iterator<Item = &'a str>) -> io::Result<()> {
+    for line in lines {
+        text.push_str(line)?;
+        text.push_str("\n")?;
+    }
+    Ok(())
+}
+
+/// The number that these digits spell, or the greatest one.
+fn number_in(digits: &str) -> u64 {
+    digits.parse().unwrap_or(u64::MAX)
 }
 
 /// The bytes of a vault's file: its entry, and then each page, a number and a colon and the page's first bytes.

@@ -1,89 +1,81 @@
-//! Replays guests, each over the world that shares pages and over a world by whole copies, and prints the
-//! reports.
+//! Calls the program on stored lines, and prints what it writes. A replay is also made over a world by whole copies,
+//! and by the public call `replay` alone; of a run or a serve the printed steps are replayed.
 //!
-//! The input is a list of cases. Each begins with a line `# ` and what it shows; then come the lines `line`
-//! with the words after the program's name, `schedule` with the schedule, in a serve `requests` with its
-//! requests, parted by blanks, beside a vault `vault` with its entry and its pages, for a debugger `script` with its
-//! commands, parted by commas, and the source of the guest.
+//! The input is a list of cases. Each begins with a line `# ` and what it shows. Then come lines of which the first
+//! word says what they have: `line` the words after the program's name, once or more; `schedule` the schedule;
+//! `requests` the requests of a serve, parted by blanks; `vault` a vault's entry and its pages; `script` the commands
+//! of a script, parted by commas; `guest` the guest's bytes in place of a source; `fetch` and `write` the number of
+//! the one that fails; `most` how many bytes a write takes at most. Every other line is one of the guest's source.
 #![tactic(auto)]
 
+mod calls;
 mod case;
 mod over_copies;
 
-use crate::case::{Case, take_line};
+use crate::calls::{Left, call, files_of, guest_of, status_in_memory, text_by_replay};
+use crate::case::{Case, SURE, take_line};
 use crate::over_copies::text_over_copies;
-use lwc_base::MOST_THREADS;
-use lwc_io::{MemoryFiles, MemorySink, NamedFile};
-use lwcrun_core::lwcrun;
+use lwcrun_core::ExitStatus;
 use std::alloc::{AllocError, Global};
 use std::io;
 use std::sync::Wait;
 use std::thread::Threads;
-use thread_carrier::{OpenGate, VisitLog};
 
 /// The longest line that is printed whole.
-const WHOLE_LINE: usize = 400;
+const WHOLE_LINE: usize = 240;
 
 /// How many bytes of a longer one are printed, before its length.
 const LINE_START: usize = 60;
 
-/// The words of a line, the program's name first.
-pub(crate) fn line_of(alloc: Global, words: &str) -> Result<Vec<String>, AllocError> {
-    let mut line = Vec::new(alloc);
-    line.push(String::from_str(alloc, "lwcrun")?)?;
-    for word in words.split(' ') {
-        line.push(String::from_str(alloc, word)?)?;
-    }
-    Ok(line)
-}
-
-/// What the program writes for the words of a line over these files: its output, or else its message.
-fn written<R: AllocGlobal + Threads + Wait + Sync>(
-    rt: &R,
-    words: &str,
-    named: Vec<NamedFile>,
-) -> Result<Vec<u8>, AllocError> {
-    let alloc = rt.alloc();
-    let line = line_of(alloc, words)?;
-    let mut files = MemoryFiles::new(alloc, named, Vec::new(alloc))?;
-    let mut out = MemorySink::new(alloc, 1 << 20, Vec::new(alloc));
-    let mut err = MemorySink::new(alloc, 1 << 20, Vec::new(alloc));
-    let mut logs = VisitLog::for_threads(alloc, MOST_THREADS as usize)?;
-    lwcrun(
-        rt,
-        alloc,
-        line.as_slice(),
-        &mut files,
-        &mut out,
-        &mut err,
-        &OpenGate,
-        &mut logs,
-    );
-    if err.bytes().is_empty() {
-        Vec::from_slice(alloc, out.bytes())
-    } else {
-        Vec::from_slice(alloc, err.bytes())
+/// The line of the replay of what a run or a serve of these words has printed.
+fn replay_of(alloc: Global, words: &str) -> Result<Option<String>, AllocError> {
+    match words.split_once(" guest") {
+        Some(("run" | "serve", rest)) => {
+            let mut line = String::from_str(alloc, "replay guest schedule")?;
+            line.push_str(rest)?;
+            Ok(Some(line))
+        }
+        _ => Ok(None),
     }
 }
 
-/// The report of a case, and whether it is the same over whole copies.
-fn report_of<R: AllocGlobal + Threads + Wait + Sync>(
+/// A text in two parts, of which the second is its last word with the blank before it.
+fn parted(text: &[u8]) -> (&[u8], &[u8]) {
+    let at = text.iter().rposition(|byte| *byte == b' ').unwrap_or(0);
+    text.split_at_checked(at).unwrap_or((text, &[]))
+}
+
+/// How what was written differs from what another way gives, a line for each.
+fn differences<R: AllocGlobal + Threads + Wait + Sync>(
     rt: &R,
     case: &Case,
-) -> Result<(Vec<u8>, bool), AllocError> {
+    guest: &[u8],
+    words: &str,
+    left: &Left,
+) -> Result<Vec<&'static str>, AllocError> {
     let alloc = rt.alloc();
-    let source = NamedFile::new(alloc, "source", case.source.as_bytes())?;
-    let guest = written(rt, "asm source", vec![in alloc; source]?)?;
-    let image = NamedFile::new(alloc, "guest", &guest)?;
-    let schedule = NamedFile::new(alloc, "schedule", case.schedule.as_bytes())?;
-    let requests = NamedFile::new(alloc, "requests", case.requests.as_bytes())?;
-    let vault = NamedFile::new(alloc, "vault", &case.vault)?;
-    let script = NamedFile::new(alloc, "script", case.script.as_bytes())?;
-    let files = vec![in alloc; image, schedule, requests, vault, script]?;
-    let text = written(rt, case.line.as_str(), files)?;
-    let other = text_over_copies(alloc, &guest, case)?;
-    let same = text.as_slice() == other.as_slice();
-    Ok((text, same))
+    let mut found = Vec::new(alloc);
+    let schedule = case.schedule.as_bytes();
+    if status_in_memory(rt, words, files_of(alloc, case, guest, schedule)?)? != ExitStatus::Ok {
+        found.push("in memory it ends otherwise")?;
+    }
+    if let Some(text) = text_over_copies(alloc, guest, case, words)? {
+        if text.as_slice() != left.out.bytes() {
+            found.push("over whole copies it differs")?;
+        }
+    }
+    if let Some(text) = text_by_replay(alloc, words, files_of(alloc, case, guest, schedule)?)? {
+        if text.bytes() != left.out.bytes() {
+            found.push("by replay alone it differs")?;
+        }
+    }
+    if let Some(line) = replay_of(alloc, words)? {
+        let files = files_of(alloc, case, guest, parted(left.out.bytes()).1)?;
+        if call(rt, line.as_str(), files, SURE)?.out.bytes() != left.out.bytes() {
+            found.push("its replay differs")?;
+        }
+    }
+    Ok(found)
 }
 
 /// A line as it is printed: the beginning of a long one, and its length.
@@ -94,6 +86,49 @@ fn shown(alloc: Global, line: &str) -> Result<String, AllocError> {
     }
 }
 
+/// Appends the lines of bytes as they are printed: those of a text, or else one of their hexadecimal digits.
+fn append_shown(alloc: Global, lines: &mut Vec<String>, bytes: &[u8]) -> Result<(), AllocError> {
+    let text = if bytes.contains(&0) {
+        hex::encode(alloc, bytes)?
+    } else {
+        String::from_utf8_lossy(alloc, bytes)?
+    };
+    for line in text.lines() {
+        lines.push(shown(alloc, line)?)?;
+    }
+    Ok(())
+}
+
+/// Calls the program on one line of a case. The answer is the lines that are printed of it. The steps that threads
+/// make by themselves are not among them.
+fn answer<R: AllocGlobal + Threads + Wait + Sync>(
+    rt: &R,
+    case: &Case,
+    guest: &[u8],
+    words: &str,
+) -> Result<Vec<String>, AllocError> {
+    let alloc = rt.alloc();
+    let files = files_of(alloc, case, guest, case.schedule.as_bytes())?;
+    let left = call(rt, words, files, case.outside)?;
+    let mut lines = Vec::new(alloc);
+    let out = left.out.bytes();
+    let is_replayed = replay_of(alloc, words)?.is_some();
+    append_shown(
+        alloc,
+        &mut lines,
+        if is_replayed { parted(out).0 } else { out },
+    )?;
+    append_shown(alloc, &mut lines, left.err.bytes())?;
+    if left.status == ExitStatus::Ok {
+        for difference in differences(rt, case, guest, words, &left)? {
+            lines.push(String::from_str(alloc, difference)?)?;
+        }
+    } else {
+        lines.push(format!(in alloc; "status {}", left.status.number())?)?;
+    }
+    Ok(lines)
+}
+
 fn main(rt: HostRuntime) -> io::Result<()> {
     let mut cases = Vec::new(rt.alloc());
     for line in rt.lines(rt.alloc()) {
@@ -101,13 +136,14 @@ fn main(rt: HostRuntime) -> io::Result<()> {
     }
     for case in &cases {
         println!(rt; "# {}", case.title)?;
-        let (text, same) = report_of(&rt, case)?;
-        let text = String::from_utf8_lossy(rt.alloc(), &text)?;
-        for line in text.lines() {
-            println!(rt; "{}", shown(rt.alloc(), line)?)?;
-        }
-        if !same {
-            println!(rt; "over whole copies it differs")?;
+        let guest = guest_of(&rt, case)?;
+        for words in &case.lines {
+            if case.lines.len() > 1 {
+                println!(rt; "> {words}")?;
+            }
+            for line in answer(&rt, case, &guest, words)? {
+                println!(rt; "{line}")?;
+            }
         }
     }
     Ok(())

@@ -3,8 +3,8 @@ ghost use Rattle.kernel_core.specs.Kernel.{MayHave};
 ghost use Rattle.kernel_core.specs.Settings.{IsSettings};
 ghost use Rattle.lwcrun_core.specs.Lines.{AreRunSettings};
 
+use crate::calls::line_of;
 use crate::case::Case;
-use crate::line_of;
 use guest_image::{Image, read_image};
 use kernel_core::{Kernel, OpenFault, Settings};
 use lwc_base::{OutOfMemory, Requests};
@@ -16,14 +16,19 @@ use lwcrun_core::{Line, read_line};
 use std::alloc::{AllocError, Global};
 use whole_world::WholeWorld;
 
-/// The report of a case over a world by whole copies, or no byte if it asks for no replay, or its files are
+/// What a line of a case writes over a world by whole copies, or nothing if it asks for no replay, or its files are
 /// refused.
-pub fn text_over_copies(alloc: Global, guest: &[u8], case: &Case) -> Result<Vec<u8>, AllocError> {
+pub fn text_over_copies(
+    alloc: Global,
+    guest: &[u8],
+    case: &Case,
+    words: &str,
+) -> Result<Option<Vec<u8>>, AllocError> {
     let Ok(image) = read_image(alloc, guest) else {
-        return Ok(Vec::new(alloc));
+        return Ok(None);
     };
     let schedule = case.schedule.as_bytes();
-    match read_line(alloc, line_of(alloc, case.line.as_str())?.as_slice()) {
+    let text = match read_line(alloc, line_of(alloc, words)?.as_slice()) {
         Ok(
             Line::Replay {
                 requests: None,
@@ -32,7 +37,7 @@ pub fn text_over_copies(alloc: Global, guest: &[u8], case: &Case) -> Result<Vec<
             },
         ) => {
             let requests = Requests::of(Vec::new(alloc));
-            Ok(steps_over_copies(alloc, &image, requests, &settings, schedule)?)
+            steps_over_copies(alloc, &image, requests, &settings, schedule)?
         }
         Ok(
             Line::Replay {
@@ -42,22 +47,23 @@ pub fn text_over_copies(alloc: Global, guest: &[u8], case: &Case) -> Result<Vec<
             },
         ) => {
             let Ok(requests) = read_requests(alloc, case.requests.as_bytes()) else {
-                return Ok(Vec::new(alloc));
+                return Ok(None);
             };
-            Ok(steps_over_copies(alloc, &image, requests, &settings, schedule)?)
+            steps_over_copies(alloc, &image, requests, &settings, schedule)?
         }
         Ok(Line::Monitor { settings, .. }) => {
-            Ok(monitored_over_copies(alloc, &image, &settings, schedule)?)
+            monitored_over_copies(alloc, &image, &settings, schedule)?
         }
         Ok(Line::Vault { settings, .. }) => {
-            Ok(vaulted_over_copies(alloc, &image, &case.vault, &settings, schedule)?)
+            vaulted_over_copies(alloc, &image, &case.vault, &settings, schedule)?
         }
         Ok(Line::Debug { settings, .. }) => {
             let script = case.script.as_bytes();
-            Ok(debugged_over_copies(alloc, &image, script, &settings, schedule)?)
+            debugged_over_copies(alloc, &image, script, &settings, schedule)?
         }
-        _ => Ok(Vec::new(alloc)),
-    }
+        _ => return Ok(None),
+    };
+    Ok(Some(text))
 }
 
 /// The report of the schedule's steps over a world by whole copies. Digits that name no thread are left out.

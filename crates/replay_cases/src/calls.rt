@@ -1,0 +1,141 @@
+//! The program's call over files in memory, and its public parts.
+
+use crate::case::{Case, Outside, SURE};
+use lwc_base::MOST_THREADS;
+use lwc_io::{MemoryFiles, MemorySink, NamedFile, SureFiles};
+use lwcrun_core::{ExitStatus, Line, lwcrun, lwcrun_in_memory, read_line, replay};
+use std::alloc::{AllocError, Global};
+use std::sync::Wait;
+use std::thread::Threads;
+use thread_carrier::{OpenGate, VisitLog};
+
+/// What a call has left: its status, what it wrote, and its message.
+#[derive(Drop)]
+pub struct Left {
+    pub status: ExitStatus,
+    pub out: MemorySink,
+    pub err: MemorySink,
+}
+
+/// Calls the program on the words of a line over these files.
+pub fn call<R: AllocGlobal + Threads + Wait + Sync>(
+    rt: &R,
+    words: &str,
+    named: Vec<NamedFile>,
+    outside: Outside,
+) -> Result<Left, AllocError> {
+    let alloc = rt.alloc();
+    let line = line_of(alloc, words)?;
+    let mut files = MemoryFiles::new(alloc, named, vec![in alloc; outside.fetch]?)?;
+    let mut out = MemorySink::new(alloc, outside.most, vec![in alloc; outside.write]?);
+    let mut err = MemorySink::new(alloc, 1 << 20, Vec::new(alloc));
+    let mut logs = VisitLog::for_threads(alloc, MOST_THREADS as usize)?;
+    let status = lwcrun(
+        rt,
+        alloc,
+        line.as_slice(),
+        &mut files,
+        &mut out,
+        &mut err,
+        &OpenGate,
+        &mut logs,
+    );
+    Ok(Left { status, out, err })
+}
+
+/// How the program ends on the words of a line over files that never fail.
+pub fn status_in_memory<R: AllocGlobal + Threads + Wait + Sync>(
+    rt: &R,
+    words: &str,
+    named: Vec<NamedFile>,
+) -> Result<ExitStatus, AllocError> {
+    let alloc = rt.alloc();
+    let line = line_of(alloc, words)?;
+    let mut files = SureFiles::new(named);
+    let mut err = MemorySink::new(alloc, 1 << 20, Vec::new(alloc));
+    let mut logs = VisitLog::for_threads(alloc, MOST_THREADS as usize)?;
+    Ok(lwcrun_in_memory(
+        rt,
+        alloc,
+        line.as_slice(),
+        &mut files,
+        &mut err,
+        &OpenGate,
+        &mut logs,
+    ))
+}
+
+/// What a replay writes in a function that has no handle of the runtime, so that no thread starts and nobody waits,
+/// or nothing if the line is not one of a replay.
+pub fn text_by_replay(
+    alloc: Global,
+    words: &str,
+    named: Vec<NamedFile>,
+) -> Result<Option<MemorySink>, AllocError> {
+    let mut files = MemoryFiles::new(alloc, named, Vec::new(alloc))?;
+    let mut out = MemorySink::new(alloc, 1 << 20, Vec::new(alloc));
+    match read_line(alloc, line_of(alloc, words)?.as_slice()) {
+        Ok(
+            Line::Replay {
+                image,
+                schedule,
+                requests,
+                settings,
+            },
+        ) => {
+            let requests = requests.as_ref().map(|name| name.as_str());
+            replay(
+                alloc, &mut files, &mut out, &image, &schedule, requests, &settings,
+            );
+            Ok(Some(out))
+        }
+        _ => Ok(None),
+    }
+}
+
+/// The words of a line, the program's name first. Two blanks make an empty word.
+pub fn line_of(alloc: Global, words: &str) -> Result<Vec<String>, AllocError> {
+    let mut line = Vec::new(alloc);
+    line.push(String::from_str(alloc, "lwcrun")?)?;
+    for word in words.split(' ') {
+        line.push(String::from_str(alloc, word)?)?;
+    }
+    Ok(line)
+}
+
+/// The guest of a case: its bytes as they are given, or what the program writes for its source.
+pub fn guest_of<R: AllocGlobal + Threads + Wait + Sync>(
+    rt: &R,
+    case: &Case,
+) -> Result<Vec<u8>, AllocError> {
+    let alloc = rt.alloc();
+    match &case.guest {
+        Some(guest) => Vec::from_slice(alloc, guest),
+        None => {
+            let source = NamedFile::new(alloc, "source", case.source.as_bytes())?;
+            let left = call(rt, "asm source", vec![in alloc; source]?, SURE)?;
+            Vec::from_slice(alloc, left.out.bytes())
+        }
+    }
+}
+
+/// The files of a case, with this guest and this schedule.
+pub fn files_of(
+    alloc: Global,
+    case: &Case,
+    guest: &[u8],
+    schedule: &[u8],
+) -> Result<Vec<NamedFile>, AllocError> {
+    let mut files = Vec::new(alloc);
+    for (name, bytes) in [
+        ("guest", guest),
+        ("schedule", schedule),
+        ("source", case.source.as_bytes()),
+        ("requests", case.requests.as_bytes()),
+        ("vault", case.vault.as_slice()),
+        ("script", case.script.as_bytes()),
+    ] {
+        files.push(NamedFile::new(alloc, name, bytes)?)?;
+    }
+    Ok(files)
+}
