@@ -16,6 +16,3 @@ pub use cells::PageCells;
 pub use page_runs::{Origin, PageRun};
 pub use rows::Rows;
 pub use writes::NoFrame;
-
-#[cfg(test)]
-mod tests;

@@ -156,32 +156,3 @@ impl Pool {
         self.counts.used()
     }
 }
-
-#[cfg(test)]
-mod tests {
-    use super::*;
-    use std::test::Fail;
-
-    #[test]
-    fn two_frames_are_taken_and_one_comes_back_zeroed(rt: HostRuntime) -> Result<(), Fail> {
-        let mut pool = Pool::open(rt.alloc(), 2)?;
-        let first = pool.take(Tag { job: 1, k: 0 }).ok_or("none is held")?;
-        let second = pool.take(Tag { job: 1, k: 1 }).ok_or("one is held")?;
-        assert_eq!(rt; pool.take(Tag { job: 1, k: 2 }), None);
-        pool.bytes_mut(first)[4095] = 7;
-        assert!(rt; first != second);
-        pool.copy_to(first, second);
-        assert_eq!(rt; pool.bytes(second)[4095], 7);
-        assert_eq!(rt; pool.stamp(second), Tag { job: 1, k: 1 });
-        pool.hold(first);
-        assert_eq!(rt; (pool.count(first), pool.used()), (2, 2));
-        assert_eq!(rt; pool.count(second), 1);
-        pool.drop_hold(second);
-        assert_eq!(rt; pool.used(), 1);
-        let third = pool.take(Tag { job: 1, k: 3 }).ok_or("one is held")?;
-        assert_eq!(rt; third, second);
-        assert_eq!(rt; pool.bytes(third)[4095], 0);
-        assert_eq!(rt; pool.len(), 2);
-        Ok(())
-    }
-}

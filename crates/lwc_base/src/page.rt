@@ -86,20 +86,3 @@ pub enum PageValue {
     Zero,
     Data(Tag, PageBytes),
 }
-
-#[cfg(test)]
-mod tests {
-    use super::*;
-    use std::test::Fail;
-
-    #[test]
-    fn a_byte_is_put_into_a_copy(rt: HostRuntime) -> Result<(), Fail> {
-        let zeros = PageBytes::zero(rt.alloc())?;
-        let mut page = PageBytes::copy_of(rt.alloc(), &zeros)?;
-        page.put(4095, 7);
-        assert_eq!(rt; zeros.as_slice()[4095], 0);
-        assert_eq!(rt; page.as_slice()[4094], 0);
-        assert_eq!(rt; page.as_slice()[4095], 7);
-        Ok(())
-    }
-}

@@ -58,19 +58,3 @@ impl<T> Sequence<T> {
         &self.items[i]
     }
 }
-
-#[cfg(test)]
-mod tests {
-    use super::*;
-    use std::test::Fail;
-
-    #[test]
-    fn a_vec_goes_in_and_comes_out(rt: HostRuntime) -> Result<(), Fail> {
-        let sequence = Sequence::of(vec![in rt.alloc(); 5u8, 6, 7]?);
-        assert_eq!(rt; sequence.len(), 3);
-        assert!(rt; !sequence.is_empty());
-        assert_eq!(rt; sequence.as_slice(), [5, 6, 7].as_slice());
-        assert_eq!(rt; sequence.into_vec().as_slice(), [5, 6, 7].as_slice());
-        Ok(())
-    }
-}

@@ -55,33 +55,3 @@ impl Spec {
         self.items.as_slice()
     }
 }
-
-#[cfg(test)]
-mod tests {
-    use super::*;
-    use crate::item::Mode;
-    use crate::key::Kind;
-    use std::test::Fail;
-
-    #[test]
-    fn items_are_kept_in_order(rt: HostRuntime) -> Result<(), Fail> {
-        let pages = Item {
-            kind: Kind::Page,
-            mode: Mode::Share,
-            from: 1,
-            to: 1024,
-        };
-        let cred = Item {
-            kind: Kind::Cred,
-            mode: Mode::Unmap,
-            from: 0,
-            to: 1,
-        };
-        let mut spec = Spec::empty();
-        assert_eq!(rt; spec.items().len(), 0);
-        spec.push(pages);
-        spec.push(cred);
-        assert_eq!(rt; spec.items(), [pages, cred].as_slice());
-        Ok(())
-    }
-}

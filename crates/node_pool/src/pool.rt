@@ -140,39 +140,3 @@ impl NodePool {
         self.counts.count(node.n)
     }
 }
-
-#[cfg(test)]
-mod tests {
-    use super::*;
-    use std::marker::Brand;
-    use std::process::Abort;
-    use std::sync::ledger::Blank;
-    use std::test::Fail;
-
-    fn try_two_nodes<L: Ledger>(rt: &impl Abort, alloc: Global, blank: Blank) -> Result<(), Fail>
-        requires name { blank.name ≡ L.name }
-        requires parts { blank.parts ≡ L.parts }
-        requires some { 0 < blank.parts }
-    {
-        let mut steps = Steps::<L>::new(blank);
-        let mut pool = NodePool::open(alloc, 2)?;
-        let first = pool.take(1, &mut steps).ok_or("none is held")?;
-        let second = pool.take(2, &mut steps).ok_or("one is held")?;
-        assert_eq!(rt; pool.take(1, &mut steps), None);
-        pool.set_entry(first, 31, 9);
-        assert_eq!(rt; (pool.entry(first, 31), pool.entry(second, 31)), (9, 0));
-        assert_eq!(rt; (pool.level(first), pool.level(second)), (1, 2));
-        pool.hold(second, &mut steps);
-        assert_eq!(rt; pool.count(second), 2);
-        pool.drop_hold(first, &mut steps);
-        let third = pool.take(2, &mut steps).ok_or("one is held")?;
-        assert_eq!(rt; third, first);
-        assert_eq!(rt; pool.entry(third, 31), 0);
-        Ok(())
-    }
-
-    #[test]
-    fn two_nodes_are_taken_and_one_comes_back_empty(rt: HostRuntime) -> Result<(), Fail> {
-        try_two_nodes::<Brand>(&rt, rt.alloc(), Blank::new(1))
-    }
-}

@@ -262,6 +262,3 @@ impl PageTree {
         }
     }
 }
-
-#[cfg(test)]
-mod tests;

@@ -141,35 +141,3 @@ pub fn put_next<T: Copy + Drop>(items: &mut Vec<T>, place: usize, item: T)
         items.push_reserved(item);
     }
 }
-
-#[cfg(test)]
-mod tests {
-    use super::*;
-    use std::test::Fail;
-
-    #[test]
-    fn two_places_are_taken_held_and_given_back(rt: HostRuntime) -> Result<(), Fail> {
-        let mut counts = Counts::open(rt.alloc(), 2)?;
-        let first = counts.take().ok_or("none is held")?;
-        let second = counts.take().ok_or("one is held")?;
-        assert_eq!(rt; counts.take(), None);
-        assert_eq!(rt; (counts.len(), counts.used()), (2, 2));
-        assert_eq!(rt; counts.count(first), 1);
-        counts.hold(first);
-        assert_eq!(rt; counts.count(first), 2);
-        counts.drop_hold(second);
-        assert_eq!(rt; counts.used(), 1);
-        assert_eq!(rt; counts.take(), Some(second));
-        Ok(())
-    }
-
-    #[test]
-    fn an_element_is_put_over_another_and_after_it(rt: HostRuntime) -> Result<(), Fail> {
-        let mut items = Vec::with_capacity(rt.alloc(), 2)?;
-        put_next(&mut items, 0, 7u8);
-        put_next(&mut items, 0, 8u8);
-        put_next(&mut items, 1, 9u8);
-        assert_eq!(rt; items.as_slice(), [8, 9].as_slice());
-        Ok(())
-    }
-}

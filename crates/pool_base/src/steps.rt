@@ -38,29 +38,3 @@ impl<L: Ledger> Steps<L> {
         self.book.add(&mut self.share, 1);
     }
 }
-
-#[cfg(test)]
-mod tests {
-    use super::*;
-    use std::marker::Brand;
-    use std::test::Fail;
-
-    fn two_steps<L: Ledger>(blank: Blank) -> u64
-        requires name { blank.name ≡ L.name }
-        requires parts { blank.parts ≡ L.parts }
-        requires some { 0 < blank.parts }
-        ensures { result ≡ 2 }
-    {
-        let mut steps = Steps::<L>::new(blank);
-        steps.tick();
-        steps.tick();
-        2
-    }
-
-    #[test]
-    fn steps_take_no_bytes(rt: HostRuntime) -> Result<(), Fail> {
-        assert_eq!(rt; std::mem::size_of::<Steps<Brand>>(), 0);
-        assert_eq!(rt; two_steps::<Brand>(Blank::new(1)), 2);
-        Ok(())
-    }
-}

@@ -1,4 +1,5 @@
-//! Tests of the tables below a world: capabilities, items, ranges, what is reached, names and slots.
+//! Tests of the tables below a world, and of what they stand on: capabilities, items, ranges, what is reached,
+//! names and slots; plain values and channels, counts and pools, trees of pages, and the pages of places.
 #![tactic(auto)]
 
 #[cfg(test)]
@@ -8,8 +9,16 @@ mod items;
 #[cfg(test)]
 mod names;
 #[cfg(test)]
+mod places;
+#[cfg(test)]
+mod pools;
+#[cfg(test)]
 mod ranges;
 #[cfg(test)]
 mod reached;
 #[cfg(test)]
 mod slots;
+#[cfg(test)]
+mod trees;
+#[cfg(test)]
+mod values;

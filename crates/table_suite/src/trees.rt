@@ -1,0 +1,179 @@
+ghost use Rattle.std.specs.Prelude.{◌≡◌, ℕ, ◌+◌, ◌<◌, ◌≤◌, length};
+ghost use Rattle.node_pool.specs.Nodes.{free_of};
+ghost use Rattle.page_tree.specs.Pages.{entry_for};
+ghost use Rattle.page_tree.specs.Short.{link_short};
+ghost use Rattle.page_tree.specs.declared.store.TheConstants.{PAGES};
+ghost use Rattle.page_tree.specs.Sound.{IsSound, IsTree, trees_at};
+
+use lwc_base::Range;
+use node_pool::NodeNo;
+use page_tree::{PAGES, PageCell, PageTree, Store};
+use pool_base::Steps;
+use std::alloc::Global;
+use std::marker::Brand;
+use std::process::Abort;
+use std::sync::ledger::{Blank, Ledger};
+use std::test::Fail;
+
+/// How far the present pages of a test are from one another: there are some below each entry of the root.
+const APART: usize = 97;
+
+/// How many pages of a test are present.
+const PRESENT: usize = PAGES / APART + 1;
+
+/// Pages that are far apart are present, as zeros.
+fn cell_at_page(p: u16) -> PageCell
+    ensures { (f : ℕ) → entry_for result ≡ f + 2 → ⊥ }
+{
+    if p as usize % APART == 0 {
+        PageCell::Zero
+    } else {
+        PageCell::Absent
+    }
+}
+
+/// Makes the present pages of a test those of a tree.
+fn fill<L: Ledger>(tree: &mut PageTree, store: &mut Store, steps: &mut Steps<L>)
+    requires sound { IsSound store.old.nodes store.old.frames }
+    requires tree { IsTree store.old.nodes tree.old }
+    requires room { 507 ≤ free_of store.old.nodes }
+    ensures sound { IsSound store.new.nodes store.new.frames }
+    ensures tree { IsTree store.new.nodes tree.new }
+    ensures alone { link_short store.new.nodes tree.new ≡ 0 }
+    ensures room { free_of store.old.nodes ≤ free_of store.new.nodes + 507 }
+    ensures size { length store.new.nodes ≡ length store.old.nodes }
+{
+    'pages: for k in 0..PRESENT {
+        let p = (k * APART) as u16;
+        let cell = cell_at_page(p);
+        tree.set(store, p, cell, steps);
+    }
+}
+
+/// Stops unless the tree has the cells of the model within the range, or outside it, and nothing else.
+fn compare(rt: &impl Abort, tree: &PageTree, store: &Store, range: Range, inside: bool)
+    requires sound { IsSound store.now.nodes store.now.frames }
+    requires tree { IsTree store.now.nodes tree.now }
+{
+    for p in 0..PAGES as u16 {
+        let is_inside = range.from <= p && p < range.to;
+        let expected = if is_inside == inside {
+            cell_at_page(p)
+        } else {
+            PageCell::Absent
+        };
+        assert!(rt; tree.get(store, p) == expected);
+    }
+}
+
+/// How many nodes are free.
+fn free_nodes(store: &Store) -> u32
+    requires { length store.now.nodes ≡ 2048 }
+    ensures { result ≤ 2048 }
+{
+    let mut free = 0;
+    for n in 0..2048u32 {
+        if store.nodes.count(NodeNo { n }) == 0 {
+            free += 1;
+        }
+    }
+    free
+}
+
+/// All pages.
+const WHOLE: Range = Range {
+    from: 0,
+    to: PAGES as u16,
+};
+
+/// Shares a range of a tree with an empty one, and takes the range from a copy of the tree.
+fn try_range<L: Ledger>(
+    rt: &impl Abort,
+    tree: &PageTree,
+    store: &mut Store,
+    range: Range,
+    steps: &mut Steps<L>,
+)
+    requires sound { IsSound store.old.nodes store.old.frames }
+    requires tree { IsTree store.old.nodes tree.now }
+    requires few { (n : ℕ) → tree.now ≡ n + 1 → trees_at store.old.nodes n < 1000 }
+    requires room { 15 ≤ free_of store.old.nodes }
+    requires order { range.from ≤ range.to }
+    requires inside { range.to ≤ PAGES }
+    ensures sound { IsSound store.new.nodes store.new.frames }
+    ensures trees { (n : ℕ) → trees_at store.new.nodes n ≡ trees_at store.old.nodes n }
+    ensures room { free_of store.old.nodes ≤ free_of store.new.nodes + 15 }
+{
+    let mut copy = PageTree::empty();
+    copy.share_range(tree, store, range, steps);
+    compare(rt, &copy, store, range, true);
+    copy.share_range(tree, store, WHOLE, steps);
+    copy.clear_range(store, range, steps);
+    compare(rt, &copy, store, range, false);
+    copy.clear_range(store, WHOLE, steps);
+    compare(rt, &copy, store, WHOLE, false);
+}
+
+/// Shares all pages of a tree, and then changes one of them.
+fn try_whole<L: Ledger>(rt: &impl Abort, alloc: Global, blank: Blank) -> Result<(), Fail>
+    requires name { blank.name ≡ L.name }
+    requires parts { blank.parts ≡ L.parts }
+    requires some { 0 < blank.parts }
+{
+    let mut steps = Steps::<L>::new(blank);
+    let mut store = Store::open(alloc, 1, 2048)?;
+    let mut tree = PageTree::empty();
+    fill(&mut tree, &mut store, &mut steps);
+    let before = free_nodes(&store);
+    let mut copy = PageTree::empty();
+    copy.share_range(&tree, &mut store, WHOLE, &mut steps);
+    assert!(rt; before <= free_nodes(&store) + 1);
+    compare(rt, &copy, &store, WHOLE, true);
+    assert_eq!(rt; copy.look(&store, 12513), (PageCell::Zero, false));
+    copy.unshare_path(&mut store, 12513, &mut steps);
+    assert!(rt; copy.is_alone(&store, 12513));
+    copy.set(&mut store, 12513, PageCell::Absent, &mut steps);
+    assert_eq!(rt; copy.get(&store, 12513), PageCell::Absent);
+    compare(rt, &tree, &store, WHOLE, true);
+    Ok(())
+}
+
+/// Shares each of some ranges of a tree, and takes it away from a copy.
+fn try_ranges<L: Ledger>(rt: &impl Abort, alloc: Global, blank: Blank) -> Result<(), Fail>
+    requires name { blank.name ≡ L.name }
+    requires parts { blank.parts ≡ L.parts }
+    requires some { 0 < blank.parts }
+{
+    let mut steps = Steps::<L>::new(blank);
+    let mut store = Store::open(alloc, 1, 2048)?;
+    let mut tree = PageTree::empty();
+    fill(&mut tree, &mut store, &mut steps);
+    let rows = [
+        (0, 16384),
+        (0, 0),
+        (7, 20),
+        (5, 1000),
+        (31, 33),
+        (1000, 1060),
+        (1024, 2048),
+        (1023, 2049),
+        (3072, 3200),
+        (2000, 9003),
+        (16000, 16384),
+    ];
+    'table: for (from, to) in rows {
+        assert!(rt; from <= to && usize::from(to) <= PAGES);
+        try_range(rt, &tree, &mut store, Range { from, to }, &mut steps);
+    }
+    Ok(())
+}
+
+#[test]
+fn a_whole_tree_is_shared_with_few_nodes(rt: HostRuntime) -> Result<(), Fail> {
+    try_whole::<Brand>(&rt, rt.alloc(), Blank::new(1))
+}
+
+#[test]
+fn ranges_match_a_plain_model(rt: HostRuntime) -> Result<(), Fail> {
+    try_ranges::<Brand>(&rt, rt.alloc(), Blank::new(1))
+}

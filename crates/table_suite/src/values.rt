@@ -1,0 +1,79 @@
+use lwc_base::{Channels, FileImage, Item, Kind, Mode, PageBytes, Sequence, Spec, may_open};
+use std::test::Fail;
+
+#[test]
+fn what_is_written_is_read_back_in_order(rt: HostRuntime) -> Result<(), Fail> {
+    let requests = Sequence::of(vec![in rt.alloc(); Sequence::of(vec![in rt.alloc(); 9u8]?)]?);
+    let mut io = Channels::open(rt.alloc(), Sequence::of(Vec::new(rt.alloc())), requests)?;
+    io.append_console([1, 2].as_slice());
+    io.append_console([3].as_slice());
+    io.append_reply(0, [4].as_slice());
+    assert_eq!(rt; io.console(), [1, 2, 3].as_slice());
+    assert_eq!(rt; io.reply(0), [4].as_slice());
+    assert_eq!(rt; io.requests().get(0).as_slice(), [9].as_slice());
+    assert_eq!(rt; io.files().len(), 0);
+    Ok(())
+}
+
+#[test]
+fn uid_0_the_owner_and_all_for_what_is_public(rt: HostRuntime) -> Result<(), Fail> {
+    let table = [
+        (0, 9, false, true),
+        (9, 9, false, true),
+        (7, 9, false, false),
+        (7, 9, true, true),
+    ];
+    for (uid, owner, public, allowed) in table {
+        let bytes = Sequence::of(Vec::new(rt.alloc()));
+        let file = FileImage {
+            owner,
+            public,
+            bytes,
+        };
+        assert_eq!(rt; may_open(uid, &file), allowed);
+    }
+    Ok(())
+}
+
+#[test]
+fn a_byte_is_put_into_a_copy(rt: HostRuntime) -> Result<(), Fail> {
+    let zeros = PageBytes::zero(rt.alloc())?;
+    let mut page = PageBytes::copy_of(rt.alloc(), &zeros)?;
+    page.put(4095, 7);
+    assert_eq!(rt; zeros.as_slice()[4095], 0);
+    assert_eq!(rt; page.as_slice()[4094], 0);
+    assert_eq!(rt; page.as_slice()[4095], 7);
+    Ok(())
+}
+
+#[test]
+fn a_vec_goes_in_and_comes_out(rt: HostRuntime) -> Result<(), Fail> {
+    let sequence = Sequence::of(vec![in rt.alloc(); 5u8, 6, 7]?);
+    assert_eq!(rt; sequence.len(), 3);
+    assert!(rt; !sequence.is_empty());
+    assert_eq!(rt; sequence.as_slice(), [5, 6, 7].as_slice());
+    assert_eq!(rt; sequence.into_vec().as_slice(), [5, 6, 7].as_slice());
+    Ok(())
+}
+
+#[test]
+fn items_are_kept_in_order(rt: HostRuntime) -> Result<(), Fail> {
+    let pages = Item {
+        kind: Kind::Page,
+        mode: Mode::Share,
+        from: 1,
+        to: 1024,
+    };
+    let cred = Item {
+        kind: Kind::Cred,
+        mode: Mode::Unmap,
+        from: 0,
+        to: 1,
+    };
+    let mut spec = Spec::empty();
+    assert_eq!(rt; spec.items().len(), 0);
+    spec.push(pages);
+    spec.push(cred);
+    assert_eq!(rt; spec.items(), [pages, cred].as_slice());
+    Ok(())
+}
