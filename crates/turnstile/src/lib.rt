@@ -23,8 +23,6 @@ mod moves;
 mod passes;
 mod queue;
 mod states;
-#[cfg(test)]
-mod tests;
 mod views;
 mod waiting;
 

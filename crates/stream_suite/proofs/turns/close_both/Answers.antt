@@ -2,7 +2,7 @@ use Rattle.std.proofs.Common.{◌≡◌, ◌<◌, ℕ, zero, suc, [], ◌∷◌,
 use Rattle.std.specs.Prelude.{All, Contains}
 use Rattle.turnstile.specs.Past.{times, Knows}
 use Rattle.turnstile.specs.Passes.{Lock, Held, IsPassOf, AreAllOf}
-use Rattle.turnstile.proofs.tests.close_both.Goals as goal
+use Rattle.stream_suite.proofs.turns.close_both.Goals as goal
 
 -- the second and the first of two passes are all
 both_all : (t : Lock ℕ) (one other : Held ℕ) → t.seats ≡ 2 → IsPassOf t one → IsPassOf t other → one.number ≡ 0 → other.number ≡ 1 → AreAllOf t (other ∷ one ∷ [])

@@ -1,7 +1,7 @@
 use Rattle.std.proofs.Common.{◌≡◌, ◌+◌}
 use Rattle.turnstile.specs.Past.{times}
 use Rattle.turnstile.specs.Passes.{IsPassOf}
-use Rattle.turnstile.proofs.tests.take_turns.Given as goal
+use Rattle.stream_suite.proofs.turns.take_turns.Given as goal
 
 abbrev pub invariant-loop-turn : goal.invariant-loop-turn
 invariant-loop-turn g l = record {

@@ -2,7 +2,7 @@ use Rattle.std.proofs.Common.{◌≡◌, ◌≢◌, ◌<◌, ℕ, [], length, ge
 use Rattle.std.proofs.lemmas.List.{get_or_read}
 use Rattle.turnstile.specs.Passes.{Held}
 use Rattle.turnstile.proofs.Passing.{all_after}
-use Rattle.turnstile.proofs.tests.one_turn_each.Goals as goal
+use Rattle.stream_suite.proofs.turns.one_turn_each.Goals as goal
 
 pub loop-i-preserved : goal.loop-i-preserved
 loop-i-preserved g c =

@@ -1,6 +1,6 @@
 use Rattle.std.proofs.Common.{◌≡◌, ◌<◌, ◌≤◌, ℕ, [], length, get_or}
 use Rattle.turnstile.specs.Passes.{Held, AreAllOf}
-use Rattle.turnstile.proofs.tests.one_turn_each.Given as goal
+use Rattle.stream_suite.proofs.turns.one_turn_each.Given as goal
 
 abbrev pub invariant-loop-i : goal.invariant-loop-i
 invariant-loop-i g l = record {

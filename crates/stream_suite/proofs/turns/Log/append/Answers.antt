@@ -6,7 +6,7 @@ use Rattle.std.proofs.lemmas.List.{get_or_read}
 use Rattle.std.proofs.lemmas.List.Sums.{sum_by-set, get_or-le-sum_by}
 use Rattle.turnstile.specs.Past.{times}
 use Rattle.turnstile.proofs.Pasts.{times-push_same, times-push_other}
-use Rattle.turnstile.proofs.tests.Log.append.Goals as goal
+use Rattle.stream_suite.proofs.turns.Log.append.Goals as goal
 
 -- one less of a number's budget, and one turn more of the number
 spent : (left turns : List ℕ) (n v : ℕ) → n < length left → v ≡ get_or left n 0 → 0 < v → ((m : ℕ) → m < length left → get_or left m 0 + times m turns ≡ 1000)

@@ -3,12 +3,12 @@ ghost use Rattle.std.specs.Prelude.{slice_get, All, Contains, vec_len, vec_capac
 ghost use Rattle.turnstile.specs.Past.{times};
 ghost use Rattle.turnstile.specs.Passes.{Held, IsPassOf, IsNewPass, AreAllOf};
 
-use crate::{Pass, Passes, Turned, Turnstile};
 use std::alloc::{AllocError, Global};
 use std::sync::Wait;
 use std::test::Fail;
 use std::thread;
 use std::thread::Threads;
+use turnstile::{Pass, Passes, Turned, Turnstile};
 
 /// How many turns each pass has.
 const BUDGET: u64 = 1000;
