@@ -1,5 +1,5 @@
-//! Tests of the tables below a world, and of what they stand on: capabilities, items, ranges, what is reached,
-//! names and slots; plain values and channels, counts and pools, trees of pages, and the pages of places.
+//! Tests of the tables below a world, and of what they stand on: capabilities, items, ranges, what is
+//! reached, names and slots; plain values and channels, counts and pools, trees of pages, and places.
 #![tactic(auto)]
 
 #[cfg(test)]

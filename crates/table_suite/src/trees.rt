@@ -1,8 +1,8 @@
 ghost use Rattle.std.specs.Prelude.{◌≡◌, ℕ, ◌+◌, ◌<◌, ◌≤◌, length};
 ghost use Rattle.node_pool.specs.Nodes.{free_of};
+ghost use Rattle.page_tree.specs.declared.store.TheConstants.{PAGES};
 ghost use Rattle.page_tree.specs.Pages.{entry_for};
 ghost use Rattle.page_tree.specs.Short.{link_short};
-ghost use Rattle.page_tree.specs.declared.store.TheConstants.{PAGES};
 ghost use Rattle.page_tree.specs.Sound.{IsSound, IsTree, trees_at};
 
 use lwc_base::Range;
