@@ -5,8 +5,6 @@ mod generating;
 mod handler;
 mod laws;
 mod summing;
-#[cfg(test)]
-mod tests;
 mod totals;
 
 pub use generating::{SETTINGS, generate};

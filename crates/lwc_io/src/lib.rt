@@ -6,8 +6,6 @@ mod memory;
 mod outside;
 mod real;
 mod sure;
-#[cfg(test)]
-mod tests;
 mod writing;
 
 pub use memory::{MemoryFiles, MemorySink, NamedFile};

@@ -1,4 +1,6 @@
-use crate::{
+//! Files to read and sinks to write to: those in memory, those of the system, and those that never fail.
+
+use lwc_io::{
     Failed, Files, MemoryFiles, MemorySink, NamedFile, RealFiles, RealSink, Sink, SureFiles,
     SureSink,
 };
@@ -111,7 +113,7 @@ fn real_sink_writes_to_its_writer(rt: HostRuntime) -> Result<(), Fail> {
 
 #[test]
 fn real_files_read_what_was_written(rt: HostRuntime) -> Result<(), Fail> {
-    let name = format!(in rt.alloc(); "lwc_io-{}", process::id(rt.process()))?;
+    let name = format!(in rt.alloc(); "format_suite-{}", process::id(rt.process()))?;
     let path = env::temp_dir(&rt)?.join(rt.alloc(), name.as_str())?;
     let path = path.as_path().as_str();
     fs::write(&rt, path, b"abcde".as_slice())?;
