@@ -1,8 +1,17 @@
-//! Tests of streams, which lines are written, and when; and of the lock: that each thread has its turns.
+//! Tests of streams, which lines are written, and when; of the lock, that each thread has its turns; of the passes and
+//! the turns of a process; and that threads of a run or a serve go on side by side.
 #![tactic(auto)]
 
 #[cfg(test)]
+mod guests;
+#[cfg(test)]
 mod outside;
+#[cfg(test)]
+mod passes;
+#[cfg(test)]
+mod running;
+#[cfg(test)]
+mod stepping;
 #[cfg(test)]
 mod streams;
 #[cfg(test)]

@@ -1,6 +1,7 @@
 //! Streams of a small server.
 ghost use Rattle.std.specs.Prelude.{◌≤◌, length};
 
+use crate::guests::COUNTER_HANDLER;
 use crate::outside::{CountingSink, HoldingGate, LineGate};
 use guest_asm::assemble;
 use kernel_core::{Job, Kernel, Settings};
@@ -14,25 +15,6 @@ use std::sync::Wait;
 use std::test::Fail;
 use std::thread::Threads;
 use thread_carrier::{Gate, OpenGate, VisitLog};
-
-/// Reads one byte, which has to be 0, raises a counter in its page, and replies with it.
-const COUNTER_HANDLER: &str = ".entry 0
-.page 0 -
-LI r2, 8
-LI r3, 1
-SYS 4
-LDB r5, r4, 8
-JNZ r5, bad
-LDW r6, r4, 0
-ADDI r6, r6, 1
-STW r6, r4, 0
-LI r1, 1
-LI r2, 0
-LI r3, 1
-SYS 5
-HALT
-bad: LDW r6, r4, 1
-";
 
 /// Streams requests of one byte each, and says whether a write failed.
 fn stream<R: Threads + Wait + Sync, G: Gate<Log = VisitLog>, O: Sink>(
