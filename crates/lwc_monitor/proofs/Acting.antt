@@ -21,13 +21,13 @@ use Rattle.lwc_base.specs.Store.{Absent, Done, Full, Piece, ReadOnly, after_stor
 use Rattle.lwc_base.specs.World.{is_live}
 use Rattle.lwc_base.specs.declared.name.Name.{Name}
 use Rattle.lwc_base.specs.declared.page.TheConstants.{PAGE_BYTES}
+use Rattle.lwc_monitor.proofs.Leaving.{free-leaves, leaves-itself, stored-leaves, trapped-leaves}
 use Rattle.lwc_monitor.specs.Calls.{by_monitor, calls_under, is_forbidden, trapped_outcome, trapped_to}
+use Rattle.lwc_monitor.specs.Guards.{AreGuarded, LeavesToMonitors}
+use Rattle.lwc_monitor.specs.Traps.{Traps, forbids_overlay, is_trapped, names_anothers}
 use Rattle.lwc_monitor.specs.declared.numbers.TheConstants.{EXIT, LW_TRAP}
 use Rattle.lwc_syscall.specs.Changes.{IsWell}
 use Rattle.lwc_syscall.specs.Plain.{plain, plain_call}
-use Rattle.trap_calls.proofs.Leaving.{free-leaves, leaves-itself, stored-leaves, trapped-leaves}
-use Rattle.trap_calls.specs.Guards.{AreGuarded, LeavesToMonitors}
-use Rattle.trap_calls.specs.Traps.{Traps, forbids_overlay, is_trapped, names_anothers}
 
 first_part : (p q r a b : Bool) → ((p || q) && a || r && b) ≡ false → p ≡ true → a ≡ false
 first_part true q r true b none is = cc

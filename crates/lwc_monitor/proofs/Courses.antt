@@ -15,8 +15,8 @@ use Rattle.lwc_base.specs.declared.fault.ThreadStatus.TheVariants.{Running}
 use Rattle.lwc_base.specs.declared.regs.Regs.{Regs}
 use Rattle.lwc_monitor.specs.Calls.{calls_under}
 use Rattle.lwc_monitor.specs.Rulings.{ruled}
+use Rattle.lwc_monitor.specs.Traps.{Traps}
 use Rattle.lwc_monitor.specs.declared.ruling.Ruling.{Ruling}
-use Rattle.trap_calls.specs.Traps.{Traps}
 
 -- an advance begins with its registers
 pub advance-again : (text : List Instr) (regs : Regs) (a : Advance) → a ≡ advanced text regs → a ≡ advanced text a.before

@@ -29,12 +29,12 @@ use Rattle.lwc_base.specs.declared.name.Name.{Name}
 use Rattle.lwc_base.specs.declared.refusal.Refusal.TheVariants.{BadFd, NotCovered, WrongKind}
 use Rattle.lwc_base.specs.declared.regs.Regs.{Regs}
 use Rattle.lwc_monitor.specs.Calls.{by_monitor, calls_under, trapped_by, traps_after_call}
+use Rattle.lwc_monitor.specs.Guards.{AreGuarded, HasOwnSlots, LeavesToMonitors}
+use Rattle.lwc_monitor.specs.Traps.{Traps, has_common_slot, is_common, is_monitor, is_trapped, trap_rows}
 use Rattle.lwc_monitor.specs.declared.numbers.TheConstants.{LW_TRAP}
+use Rattle.lwc_monitor.specs.declared.trapping.TrapRefusal.{TrapRefusal}
+use Rattle.lwc_monitor.specs.declared.trapping.TrapRefusal.TheVariants.{NotFresh, Plain, Trapped}
 use Rattle.lwc_overlay.specs.Named.{link}
-use Rattle.trap_calls.specs.Guards.{AreGuarded, HasOwnSlots, LeavesToMonitors}
-use Rattle.trap_calls.specs.Traps.{Traps, has_common_slot, is_common, is_monitor, is_trapped, trap_rows}
-use Rattle.trap_calls.specs.declared.trapping.TrapRefusal.{TrapRefusal}
-use Rattle.trap_calls.specs.declared.trapping.TrapRefusal.TheVariants.{NotFresh, Plain, Trapped}
 
 -- what is true of traps and a world, but for whether the trapped contexts live
 pub record AreSafe (traps : Traps) (w : World) : Type 0 where

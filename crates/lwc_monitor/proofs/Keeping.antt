@@ -28,12 +28,12 @@ use Rattle.lwc_monitor.proofs.Acting.{next-leaves}
 use Rattle.lwc_monitor.proofs.Guarding.{AreSafe, call-safe, kept-trap, kept-untrapped, other-safe}
 use Rattle.lwc_monitor.proofs.Tables.{acts_under}
 use Rattle.lwc_monitor.specs.Calls.{by_monitor, calls_under, trapped_outcome, traps_after_call}
+use Rattle.lwc_monitor.specs.Guards.{AreGuarded, HasOwnSlots, LeavesToMonitors, SameSlots}
 use Rattle.lwc_monitor.specs.Promises.{IsIn, LeavesEachTrapped}
 use Rattle.lwc_monitor.specs.Steps.{Monitored, call_by, call_in, call_next, monitored_step, run_under, traps_after}
+use Rattle.lwc_monitor.specs.Traps.{Traps}
 use Rattle.lwc_monitor.specs.declared.numbers.TheConstants.{EXIT}
 use Rattle.lwc_syscall.specs.Changes.{IsWell}
-use Rattle.trap_calls.specs.Guards.{AreGuarded, HasOwnSlots, LeavesToMonitors, SameSlots}
-use Rattle.trap_calls.specs.Traps.{Traps}
 
 -- what a run under traps keeps
 pub record IsKept (inputs : Inputs) (steps : ℕ) (s : Monitored) : Type 0 where

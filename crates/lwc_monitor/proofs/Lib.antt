@@ -1,10 +1,17 @@
 pub mod Acting
+pub mod CommonSlots
 pub mod Courses
+pub mod Few
 pub mod Guarding
 pub mod Keeping
+pub mod Leaving
+pub mod Names
+pub mod Pairs
 pub mod Plain
 pub mod Promised
+pub mod Refused
 pub mod Replays
 pub mod Rulings
+pub mod Slots
 pub mod Steadying
 pub mod Tables

@@ -29,10 +29,10 @@ use Rattle.lwc_monitor.specs.Calls.{calls_under, trapped_by, traps_after_call}
 use Rattle.lwc_monitor.specs.Promises.{TrapsNone}
 use Rattle.lwc_monitor.specs.Reports.{begun, monitored_text, report_after_under, report_under, traps_text}
 use Rattle.lwc_monitor.specs.Steps.{Monitored, call_by, call_in, call_next, call_of, kept_under, monitored_step, peak_under, run_under, traps_after, unmonitored}
+use Rattle.lwc_monitor.specs.Traps.{Traps, is_trapped, trap_rows}
 use Rattle.lwc_monitor.specs.declared.numbers.TheConstants.{LW_TRAP}
 use Rattle.lwc_text.specs.Lines.{groups_line, tail_lines, trap_line}
 use Rattle.lwc_text.specs.Report.{contexts_text, replies_text, report_after, report_of, threads_text}
-use Rattle.trap_calls.specs.Traps.{Traps, is_trapped, trap_rows}
 
 abbrev nothing : Traps
 nothing = fm.empty

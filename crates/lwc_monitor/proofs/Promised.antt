@@ -11,10 +11,10 @@ use Rattle.lwc_base.specs.World.{World}
 use Rattle.lwc_base.specs.declared.name.Name.{Name}
 use Rattle.lwc_monitor.proofs.Keeping.{IsKept, kept-run, leaves-step}
 use Rattle.lwc_monitor.proofs.Plain.{plain_text}
+use Rattle.lwc_monitor.specs.Guards.{AreGuarded}
 use Rattle.lwc_monitor.specs.Promises.{IsMonitoredRun}
 use Rattle.lwc_monitor.specs.Reports.{begun}
 use Rattle.lwc_monitor.specs.Steps.{run_under}
-use Rattle.trap_calls.specs.Guards.{AreGuarded}
 
 none_guarded : (w : World) → AreGuarded fm.empty w
 none_guarded w = record {

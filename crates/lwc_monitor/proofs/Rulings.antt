@@ -10,7 +10,7 @@ use Rattle.kernel_core.specs.declared.thread.Thread.{Thread}
 use Rattle.lwc_base.specs.World.{World}
 use Rattle.lwc_monitor.specs.Calls.{traps_after_call}
 use Rattle.lwc_monitor.specs.Steps.{call_in}
-use Rattle.trap_calls.specs.Traps.{Traps}
+use Rattle.lwc_monitor.specs.Traps.{Traps}
 
 -- an instruction that is no call is done in the same way under each table
 pub no_call : (first second : Calls) (t : ℕ) (e : Environment) (x : Thread) (i : Instr) (op : Op) → op ≢ Sys → shared_outcome first t e x i op ≡ shared_outcome second t e x i op

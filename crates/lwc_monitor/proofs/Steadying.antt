@@ -42,6 +42,7 @@ use Rattle.lwc_base.specs.declared.fault.ThreadStatus.TheVariants as status
 use Rattle.lwc_base.specs.declared.limits.TheConstants.{MOST_CONTEXTS, MOST_STEPS}
 use Rattle.lwc_base.specs.declared.name.Name.{Name}
 use Rattle.lwc_base.specs.declared.size.WorldSize.{WorldSize}
+use Rattle.lwc_monitor.proofs.Few.{few_traps}
 use Rattle.lwc_monitor.proofs.Guarding.{all-kept, trapped-live}
 use Rattle.lwc_monitor.proofs.Keeping.{IsKept}
 use Rattle.lwc_monitor.proofs.Promised.{kept-after}
@@ -50,10 +51,9 @@ use Rattle.lwc_monitor.specs.Calls.{calls_under, traps_after_call}
 use Rattle.lwc_monitor.specs.Reports.{begun, inputs_of, report_after_under, report_under, traps_text}
 use Rattle.lwc_monitor.specs.Steady.{IsSteady, state_of, stepped_under, turn_under}
 use Rattle.lwc_monitor.specs.Steps.{Monitored, call_by, monitored_step, peak_under, run_under, traps_after}
+use Rattle.lwc_monitor.specs.Traps.{Traps}
 use Rattle.lwc_text.specs.Lines.{groups_line, reply_line, tail_lines}
 use Rattle.lwc_text.specs.Report.{contexts_text, replies_text, threads_text}
-use Rattle.trap_calls.proofs.Few.{few_traps}
-use Rattle.trap_calls.specs.Traps.{Traps}
 
 -- a history with one more step
 abbrev pub longer : History → ℕ → History

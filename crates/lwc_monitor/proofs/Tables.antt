@@ -20,12 +20,12 @@ use Rattle.lwc_base.specs.World.{is_live}
 use Rattle.lwc_base.specs.declared.descriptor.Descriptor.TheVariants.{Ctx}
 use Rattle.lwc_base.specs.declared.name.Name.{Name}
 use Rattle.lwc_monitor.specs.Calls.{by_monitor, calls_under, is_forbidden, refused_by, trapped_outcome, trapped_to, trapping}
+use Rattle.lwc_monitor.specs.Traps.{Traps, forbids_overlay, monitor_of_named, named, names_anothers, shares_slots, trap_rows}
 use Rattle.lwc_monitor.specs.declared.numbers.TheConstants.{EXIT, LW_TRAP, TRAPPED}
+use Rattle.lwc_monitor.specs.declared.trapping.TrapRefusal.{TrapRefusal}
 use Rattle.lwc_overlay.specs.Named.{items_of}
 use Rattle.lwc_switch.specs.Switch.{switched}
 use Rattle.res_spec.specs.declared.items.SpecCall.TheVariants as spec_call
-use Rattle.trap_calls.specs.Traps.{Traps, forbids_overlay, monitor_of_named, named, names_anothers, shares_slots, trap_rows}
-use Rattle.trap_calls.specs.declared.trapping.TrapRefusal.{TrapRefusal}
 
 acts_trapping : (e : Environment) (x : Thread) (first : Option TrapRefusal) → Acts e x (unchanged e (trapping x first))
 acts_trapping e x None = acts_regs e x (with_result x.regs 0 0)

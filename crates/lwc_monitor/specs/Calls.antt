@@ -12,12 +12,12 @@ use Rattle.lwc_base.specs.World.{World, is_live}
 use Rattle.lwc_base.specs.declared.name.Name.{Name}
 use Rattle.lwc_base.specs.declared.refusal.Refusal.TheVariants.{NoSlotThere}
 use Rattle.lwc_base.specs.declared.regs.Regs.{Regs}
+use Rattle.lwc_monitor.specs.Traps.{Traps, forbids_overlay, is_trapped, names_anothers, trap_rows}
 use Rattle.lwc_monitor.specs.declared.numbers.TheConstants.{EXIT, LW_TRAP, NOT_FRESH, TRAPPED}
+use Rattle.lwc_monitor.specs.declared.trapping.TrapRefusal.{TrapRefusal}
+use Rattle.lwc_monitor.specs.declared.trapping.TrapRefusal.TheVariants.{NotFresh, Plain, Trapped}
 use Rattle.lwc_overlay.specs.Named.{link}
 use Rattle.lwc_switch.specs.Switch.{entering, switched}
-use Rattle.trap_calls.specs.Traps.{Traps, forbids_overlay, is_trapped, names_anothers, trap_rows}
-use Rattle.trap_calls.specs.declared.trapping.TrapRefusal.{TrapRefusal}
-use Rattle.trap_calls.specs.declared.trapping.TrapRefusal.TheVariants.{NotFresh, Plain, Trapped}
 
 -- the thread goes on with a value in r0
 abbrev pub with_answer : Thread → ℕ → Thread

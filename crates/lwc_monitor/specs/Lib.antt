@@ -2,8 +2,8 @@ pub use Rattle.kernel_core.specs.Kernel
 pub use Rattle.kernel_core.specs.Runs
 pub use Rattle.kernel_core.specs.Start
 pub use Rattle.lwc_text.specs.Report
-pub use Rattle.trap_calls.specs.Guards
-pub use Rattle.trap_calls.specs.Traps
+pub mod Traps
+pub mod Guards
 pub mod Calls
 pub mod Rulings
 pub mod Steps

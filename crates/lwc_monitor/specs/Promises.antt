@@ -9,11 +9,11 @@ use Rattle.kernel_core.specs.declared.thread.Thread.{Thread}
 use Rattle.lwc_base.specs.World.{is_live}
 use Rattle.lwc_base.specs.declared.name.Name.{Name}
 use Rattle.lwc_monitor.specs.Calls.{calls_under, trapped_outcome}
+use Rattle.lwc_monitor.specs.Guards.{AreGuarded, HasOwnSlots, SameSlots}
 use Rattle.lwc_monitor.specs.Reports.{begun, monitored_text}
 use Rattle.lwc_monitor.specs.Steps.{Monitored, call_of, monitored_step, run_under}
 use Rattle.lwc_monitor.specs.declared.numbers.TheConstants.{EXIT, LW_TRAP}
 use Rattle.lwc_text.specs.Report.{report_after}
-use Rattle.trap_calls.specs.Guards.{AreGuarded, HasOwnSlots, SameSlots}
 
 -- the thread of a number is in a context
 abbrev pub IsIn : Machine → ℕ → Name → Type 0

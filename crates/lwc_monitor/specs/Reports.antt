@@ -7,9 +7,9 @@ use Rattle.kernel_core.specs.Runs.{frames_of}
 use Rattle.kernel_core.specs.Start.{Inputs, start}
 use Rattle.kernel_core.specs.declared.settings.Settings.{Settings}
 use Rattle.lwc_monitor.specs.Steps.{Monitored, kept_under, peak_under, run_under, unmonitored}
+use Rattle.lwc_monitor.specs.Traps.{Traps}
 use Rattle.lwc_text.specs.Lines.{groups_line, tail_lines, trap_line}
 use Rattle.lwc_text.specs.Report.{contexts_text, replies_text, threads_text}
-use Rattle.trap_calls.specs.Traps.{Traps}
 
 -- the lines of the traps, in the order of the trapped contexts
 unfoldable pub traps_text : Traps → List ℕ

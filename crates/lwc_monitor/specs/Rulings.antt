@@ -9,10 +9,10 @@ use Rattle.lwc_base.specs.Slots.{lowest_empty}
 use Rattle.lwc_base.specs.World.{World, is_live}
 use Rattle.lwc_base.specs.declared.name.Name.{Name}
 use Rattle.lwc_monitor.specs.Calls.{reporting, with_answer}
+use Rattle.lwc_monitor.specs.Traps.{Traps, is_trapped}
 use Rattle.lwc_monitor.specs.declared.ruling.Ruling.{Ruling}
 use Rattle.lwc_monitor.specs.declared.ruling.Ruling.TheVariants.{Answer, Monitor, Trap}
 use Rattle.lwc_switch.specs.Switch.{entering, switched}
-use Rattle.trap_calls.specs.Traps.{Traps, is_trapped}
 
 -- the outcome of a call by its ruling
 abbrev pub ruled : Ruling → Calls

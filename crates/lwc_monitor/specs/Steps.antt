@@ -16,7 +16,7 @@ use Rattle.lwc_base.specs.World.{is_live}
 use Rattle.lwc_base.specs.declared.fault.ThreadStatus.{ThreadStatus}
 use Rattle.lwc_base.specs.declared.fault.ThreadStatus.TheVariants as status
 use Rattle.lwc_monitor.specs.Calls.{calls_under, traps_after_call}
-use Rattle.trap_calls.specs.Traps.{Traps}
+use Rattle.lwc_monitor.specs.Traps.{Traps}
 
 -- a machine, and which of its contexts are trapped
 pub record Monitored : Type 0 where

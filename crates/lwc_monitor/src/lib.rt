@@ -1,12 +1,16 @@
 //! Runs in which contexts are trapped: each call of a trapped context goes to the context that trapped it.
 #![tactic(auto)]
 
+mod forbidding;
 pub mod laws;
+mod live;
 pub mod monitored;
 pub mod numbers;
 pub mod replaying;
 mod ruling;
 mod stepping;
+pub mod trapping;
+pub mod traps;
 
 pub use laws::monitored_runs_keep_trapped_contexts;
 pub use monitored::Monitored;

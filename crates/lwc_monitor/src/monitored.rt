@@ -14,6 +14,7 @@ ghost use Rattle.lwc_monitor.specs.Steady.{state_of};
 ghost use Rattle.lwc_text.specs.Report.{threads_text};
 
 use crate::stepping::step_under;
+use crate::traps::Traps;
 use guest_image::Image;
 use guest_isa::Text;
 use kernel_core::{
@@ -25,7 +26,6 @@ use lwc_text::{context_lines, groups_line, tail_lines, thread_lines, trap_line};
 use std::alloc::Global;
 use std::marker::Model;
 use std::snapshot::Snapshot;
-use trap_calls::Traps;
 use world_face::World;
 
 /// Threads that run an image over a world in which contexts may be trapped. It is seen as its history, as a

@@ -11,16 +11,19 @@ ghost use Rattle.lwc_monitor.specs.Calls as calls;
 ghost use Rattle.lwc_monitor.specs.Rulings as spec;
 ghost use Rattle.lwc_monitor.specs.Rulings.{IsRuling};
 ghost use Rattle.lwc_monitor.specs.Steps.{call_in, call_next};
-ghost use Rattle.trap_calls.specs.Traps.{trap_rows};
-ghost use Rattle.trap_calls.specs.Traps as trapped;
+ghost use Rattle.lwc_monitor.specs.Traps.{trap_rows};
+ghost use Rattle.lwc_monitor.specs.Traps as trapped;
 ghost use Rattle.world_face.specs.Calls.{IsLive};
 
+use crate::forbidding::{forbids_overlay, names_anothers};
+use crate::live::is_live;
 use crate::numbers::{EXIT, LW_TRAP, NOT_FRESH, TRAPPED};
+use crate::trapping::{TrapRefusal, trap_target};
+use crate::traps::Traps;
 use guest_isa::{Instr, Op};
 use guest_machine::Next;
 use kernel_core::{LW_OVERLAY, LW_SWITCH, LW_SYSCALL, Thread};
 use lwc_base::{Name, Refusal, SlotNumber};
-use trap_calls::{TrapRefusal, Traps, forbids_overlay, is_live, names_anothers, trap_target};
 use world_face::World;
 
 /// What becomes of a call under traps that is not the kernel's.

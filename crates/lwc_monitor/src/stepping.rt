@@ -17,12 +17,12 @@ ghost use Rattle.lwc_switch.specs.Switch as switching;
 ghost use Rattle.world_face.specs.Calls.{IsLive};
 
 use crate::ruling::{Ruling, rule_on_next};
+use crate::traps::Traps;
 use guest_isa::Text;
 use guest_machine::advance;
 use kernel_core::{Change, Effect, Thread, step_thread};
 use lwc_base::{Channels, Name, OutOfMemory, Regs, SlotNumber, ThreadStatus};
 use lwc_switch::enter;
-use trap_calls::Traps;
 use world_face::World;
 
 /// Makes a step of thread `t` under traps in place. Answers what has changed; `None` if the thread had ended.

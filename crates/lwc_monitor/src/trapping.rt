@@ -1,0 +1,98 @@
+ghost use Rattle.std.specs.Prelude.{◌≡◌, ◌<◌, false, None, Some, IfErr, IfOk};
+ghost use Rattle.lwc_base.specs.Life.{HasItsContexts};
+ghost use Rattle.lwc_base.specs.Refusals.{first_refusal};
+ghost use Rattle.lwc_base.specs.World.{context};
+ghost use Rattle.lwc_base.specs.declared.descriptor.TheConstants.{SLOTS};
+ghost use Rattle.lwc_base.specs.declared.key.Key.TheVariants.{Slot};
+ghost use Rattle.lwc_monitor.specs.Traps as spec;
+ghost use Rattle.lwc_overlay.specs.Named.{link};
+ghost use Rattle.world_face.specs.Calls.{IsLive};
+
+use crate::traps::Traps;
+use access_cap::{Mask, grants_kinds};
+use guest_call::context_for;
+use lwc_base::{Item, Kind, Mode, Name, Refusal, Regs, SLOTS, Spec};
+use world_face::World;
+
+/// The bits of all kinds of keys: a context is trapped through a capability that has every key.
+pub const ALL_KINDS: u64 = 7;
+
+/// Why a context is not trapped.
+#[derive(Clone, Copy, Debug, PartialEq, Eq)]
+pub enum TrapRefusal {
+    /// As other calls are refused.
+    Plain(Refusal),
+    /// The context is trapped.
+    Trapped,
+    /// The context is the caller's, has a slot in common with others, or is a monitor.
+    NotFresh,
+}
+
+/// The context that a call in context `c` traps: the one that the slot in r1 has a descriptor of.
+///
+/// # Errors
+///
+/// `BadFd`, `WrongKind` and `NotCovered`, then `Trapped` and `NotFresh`: the first that holds (`trap_rows`).
+#[tactic(auto, unfolding(crate::specs::Traps::trap_rows, lwc_overlay::specs::Named::link, guest_call::specs::Guest::slot_refusals))]
+pub fn trap_target<W: World>(
+    traps: &Traps,
+    world: &W,
+    c: Name,
+    regs: &Regs,
+) -> Result<Name, TrapRefusal>
+    requires live { IsLive (W.seen world.now) c }
+    requires named { HasItsContexts (W.seen world.now) }
+    ensures refused { IfErr result (λ refusal.
+        first_refusal (spec.trap_rows traps.now (W.seen world.now) c regs.now) ≡ Some refusal) }
+    ensures passed { IfOk result (λ d.
+        first_refusal (spec.trap_rows traps.now (W.seen world.now) c regs.now) ≡ None) }
+    ensures target { IfOk result (λ d. d ≡ (link (W.seen world.now) c regs.now).0) }
+    ensures new { IfOk result (λ d. spec.is_trapped traps.now d ≡ false) }
+{
+    let (target, keys) = match context_for(world, c, regs.r[1]) {
+        Ok(link) => link,
+        Err(refusal) => return Err(TrapRefusal::Plain(refusal)),
+    };
+    let Some(all) = Mask::of(ALL_KINDS) else {
+        unreachable!();
+    };
+    if !grants_kinds(keys, all, world.pages()) {
+        return Err(TrapRefusal::Plain(Refusal::NotCovered));
+    }
+    if traps.monitor_of(target).is_some() {
+        return Err(TrapRefusal::Trapped);
+    }
+    if target == c || has_common_slot(world, target) || traps.has_monitor(target) {
+        return Err(TrapRefusal::NotFresh);
+    }
+    Ok(target)
+}
+
+/// Whether a context has a slot in common with others.
+fn has_common_slot<W: World>(world: &W, d: Name) -> bool
+    requires { IsLive (W.seen world.now) d }
+    ensures { result ≡ spec.has_common_slot (W.seen world.now) d }
+{
+    'slots: for n in 0..SLOTS {
+        if is_common(world, d, n) {
+            return true;
+        }
+    }
+    false
+}
+
+/// Whether a slot of a context is common: then to share it needs no group.
+fn is_common<W: World>(world: &W, d: Name, n: u8) -> bool
+    requires live { IsLive (W.seen world.now) d }
+    requires within { n < SLOTS }
+    ensures { result ≡ spec.is_common ((context (W.seen world.now) d).cell (Slot n)) }
+{
+    let mut spec = Spec::empty();
+    spec.push(Item {
+        kind: Kind::Slot,
+        mode: Mode::Share,
+        from: u32::from(n),
+        to: u32::from(n) + 1,
+    });
+    !world.needs_group(d, &spec)
+}

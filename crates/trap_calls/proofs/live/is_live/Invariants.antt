@@ -1,6 +1,0 @@
-use Rattle.std.proofs.Common.{◌≡◌, false}
-use Rattle.trap_calls.proofs.Names.{is_among_first}
-use Rattle.trap_calls.proofs.live.is_live.Given as goal
-
-abbrev pub invariant-contexts : goal.invariant-contexts
-invariant-contexts g l = is_among_first (g.W.World.seen l.world) l.i l.c ≡ false

@@ -1,8 +1,0 @@
-use Rattle.std.proofs.Common.{◌∙◌}
-use Rattle.trap_calls.proofs.Pairs.{monitor-is}
-use Rattle.trap_calls.proofs.traps.Traps.has_monitor.Goals as goal
-
-pub returns : goal.returns
-returns c =
-    let found = rw c.as_slice.ensures.value at c.is_second.ensures in
-    rw (← c.self.view_is) (found ∙ monitor-is _ c.self.invariant.0 c.args.c)

@@ -1,6 +1,0 @@
-use Rattle.std.proofs.Common.{sym, ◌∙◌}
-use Rattle.trap_calls.proofs.Pairs.{entries-are}
-use Rattle.trap_calls.proofs.traps.Traps.pairs.Goals as goal
-
-pub returns : goal.returns
-returns c = rw (← c.self.view_is) (c.as_slice.ensures.value ∙ sym (entries-are _ c.self.invariant.0))
