@@ -28,7 +28,7 @@ use Rattle.lwc_base.specs.declared.limits.TheConstants.{MOST_PAGES}
 use Rattle.lwc_base.specs.declared.name.Name.{Name}
 use Rattle.lwc_base.specs.declared.page.PageValue.{PageValue}
 use Rattle.lwc_base.specs.declared.page.PageValue.TheVariants.{Zero, Data}
-use Rattle.job_view.proofs.Entries.{each_entry}
+use Rattle.world_views.proofs.Entries.{each_entry}
 use Rattle.lift_law.proofs.Pages.{HasNoMore, any_key-most, count-most, rows-most}
 use Rattle.lift_law.proofs.Tables.{any-entries, any-map, entries-with, flat_map-entries, flat_map-map, keys-with, len-with, get-kept, retain-with, values-with, with_values}
 use Rattle.lift_law.proofs.Wide.{begins-wide, cell-wide, context-wide, empty-wide, is_moved-wide, links-wide, page-wide, page_cell-wide, slot-wide, uid-wide, wide, wide_cell, wide_context, wide_group}

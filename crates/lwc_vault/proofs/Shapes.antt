@@ -27,8 +27,8 @@ use Rattle.lwc_vault.proofs.Staying.{all-outside, no_serve}
 use Rattle.lwc_vault.proofs.Telling.{ActOutside, act-back, act-blank, legal-back, legal-blank, text-blank, text_of}
 use Rattle.lwc_vault.specs.Blanks.{blank_machine}
 use Rattle.lwc_vault.specs.Secrets.{HaveOneShape, StandOutside, TellsNothing, beside}
-use Rattle.vault_view.proofs.Changes.{blanks-alike}
-use Rattle.vault_view.specs.Blank.{blank, blank_context, blank_page, blank_value}
+use Rattle.world_views.proofs.BlankChanges.{blanks-alike}
+use Rattle.world_views.specs.Blank.{blank, blank_context, blank_page, blank_value}
 
 -- what is under a page of a blank vault, by the numbers of its pages
 abbrev by_numbers : ℕ → List ℕ → ℕ → Option PageValue

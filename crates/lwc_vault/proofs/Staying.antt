@@ -37,7 +37,7 @@ use Rattle.lwc_base.proofs.Slots.{put_slot-reads}
 use Rattle.lwc_vault.proofs.Telling.{ActOutside}
 use Rattle.lwc_vault.specs.Blanks.{ActsOutside, IsShutWorld}
 use Rattle.lwc_vault.specs.Secrets.{StandOutside, StandsOutside, beside}
-use Rattle.vault_calls.specs.Outside.{IsShut, LacksKeys}
+use Rattle.world_views.specs.Outside.{IsShut, LacksKeys}
 
 -- a context that is not live has no descriptor
 none_of_dead : (w : World) (e : Name) (n : ℕ) (cap : Cap) → is_live w e ≡ false → slot_at w e n ≡ Ctx vault_name cap → ⊥

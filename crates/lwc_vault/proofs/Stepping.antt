@@ -20,12 +20,12 @@ use Rattle.lwc_base.specs.declared.fault.ThreadStatus.TheVariants as status
 use Rattle.lwc_base.specs.declared.name.Name.{Name}
 use Rattle.lwc_base.specs.declared.page.TheConstants.{PAGE_BYTES}
 use Rattle.lwc_vault.specs.Blanks.{ActsOutside, blank_machine}
-use Rattle.vault_calls.specs.Outside.{CallsAlike, IsOutside}
+use Rattle.world_views.specs.Outside.{CallsAlike, IsOutside}
 use Rattle.kernel_core.specs.Start.{vault_name}
-use Rattle.vault_calls.proofs.Alike.{calls-alike}
-use Rattle.vault_view.proofs.Changes.{asks-alike, blanks-alike, changes-alike}
-use Rattle.vault_view.specs.Blank.{blank, blank_stored}
-use Rattle.vault_view.specs.Facts.{AsksAlike}
+use Rattle.world_views.proofs.BlankAlike.{calls-alike}
+use Rattle.world_views.proofs.BlankChanges.{asks-alike, blanks-alike, changes-alike}
+use Rattle.world_views.specs.Blank.{blank, blank_stored}
+use Rattle.world_views.specs.BlankFacts.{AsksAlike}
 use Rattle.lwc_syscall.specs.Plain.{plain_call}
 
 abbrev pub blank_env : Environment → Environment

@@ -20,12 +20,12 @@ use Rattle.lwc_base.specs.declared.name.Name.{Name}
 use Rattle.lwc_text.specs.Lines.{context_line, groups_line, tail_lines}
 use Rattle.lwc_text.specs.Report.{contexts_text, replies_text, report_of, threads_text}
 use Rattle.lwc_vault.specs.Blanks.{ActsOutside, blank_machine}
-use Rattle.vault_calls.specs.Outside.{IsOutside}
+use Rattle.world_views.specs.Outside.{IsOutside}
 use Rattle.kernel_core.proofs.Runs.{step_of_ended}
 use Rattle.kernel_core.specs.Start.{vault_name}
 use Rattle.lwc_vault.proofs.Stepping.{step-blank}
-use Rattle.vault_view.proofs.Changes.{blanks-alike}
-use Rattle.vault_view.specs.Blank.{blank}
+use Rattle.world_views.proofs.BlankChanges.{blanks-alike}
+use Rattle.world_views.specs.Blank.{blank}
 
 -- a step of a run leaves a run
 pub stays_run : (m : Machine) (t : ℕ) → m.serve ≡ None → (step m t).serve ≡ None

@@ -11,8 +11,8 @@ use Rattle.lwc_base.specs.declared.descriptor.Descriptor.TheVariants.{Ctx}
 use Rattle.lwc_base.specs.declared.descriptor.TheConstants.{SLOTS}
 use Rattle.lwc_base.specs.declared.fault.ThreadStatus.TheVariants.{Running}
 use Rattle.lwc_base.specs.declared.name.Name.{Name}
-use Rattle.vault_calls.specs.Outside.{IsOutside, LacksKeys}
-use Rattle.vault_view.specs.Blank.{blank}
+use Rattle.world_views.specs.Blank.{blank}
+use Rattle.world_views.specs.Outside.{IsOutside, LacksKeys}
 
 -- the machine with zero bytes in each page of the vault, the tags kept
 abbrev pub blank_machine : Machine → Machine

@@ -9,10 +9,6 @@ use Rattle.guest_isa.specs.declared.op.Op.TheVariants.{Ldb, Ldw, Stb, Stw, Sys, 
 use Rattle.guest_machine.specs.declared.progress.Advance.{Advance}
 use Rattle.guest_machine.specs.declared.progress.Next.{Next}
 use Rattle.guest_machine.specs.declared.progress.Next.TheVariants.{Shared, Pause, BadPc}
-use Rattle.job_calls.specs.Ends.{OutcomesAlike}
-use Rattle.job_view.specs.ByJob.{Home, LooksAlike}
-use Rattle.job_view.specs.Facts.{AnswersAlike}
-use Rattle.job_view.specs.Views.{channel_view}
 use Rattle.kernel_core.specs.Machine.{Environment}
 use Rattle.kernel_core.specs.Step.{Outcome, address, advance_outcome, answered, args_of, call_outcome, ended_outcome, faulted, guest_calls, is_aligned, loaded, next_outcome, plainly, shared_outcome, store_outcome, stored_outcome, switch_outcome, switched, three_times, unchanged, with_regs, with_steps, with_world, word_for, word_outcome}
 use Rattle.kernel_core.specs.declared.calling.TheConstants.{LW_CREATE, LW_OVERLAY, LW_RESTRICT, LW_SWITCH, LW_SYSCALL}
@@ -34,9 +30,13 @@ use Rattle.lwc_syscall.specs.Syscall.{lw_syscall}
 use Rattle.lwc_syscall.specs.declared.answer.CallAnswer.TheVariants as ends
 use Rattle.lwc_syscall.specs.declared.plain_call.PlainCall.{PlainCall}
 use Rattle.request_isolation.specs.Needs.{CallIsFull, IsFull, StoreIsFull, WantsFrames}
-use Rattle.job_calls.proofs.Calling.{create-alike, overlay-alike, restrict-alike, switch-alike}
-use Rattle.job_calls.proofs.PlainAlike.{plain-alike, syscall-alike}
-use Rattle.job_view.proofs.Together.{answers-alike, changes-alike}
+use Rattle.world_views.proofs.Calling.{create-alike, overlay-alike, restrict-alike, switch-alike}
+use Rattle.world_views.proofs.PlainAlike.{plain-alike, syscall-alike}
+use Rattle.world_views.proofs.Together.{answers-alike, changes-alike}
+use Rattle.world_views.specs.ByJob.{Home, LooksAlike}
+use Rattle.world_views.specs.Ends.{OutcomesAlike}
+use Rattle.world_views.specs.JobFacts.{AnswersAlike}
+use Rattle.world_views.specs.Views.{channel_view}
 
 -- two acts for a request leave the same thread, and what looks alike to its job
 pub record ActsAlike (home : Home) (r t s : ℕ) (first second : Outcome) : Type 0 where

@@ -7,9 +7,6 @@ use Rattle.guest_isa.specs.declared.op.Op.TheVariants.{Ldb, Ldw, Stb, Stw, Sys, 
 use Rattle.guest_machine.specs.declared.progress.Advance.{Advance}
 use Rattle.guest_machine.specs.declared.progress.Next.{Next}
 use Rattle.guest_machine.specs.declared.progress.Next.TheVariants.{Shared, Pause, BadPc}
-use Rattle.job_calls.specs.Ends.{AreOf}
-use Rattle.job_view.specs.ByJob.{Home, KeepsJobs}
-use Rattle.job_view.specs.Views.{channel_view, view}
 use Rattle.kernel_core.specs.Machine.{Environment}
 use Rattle.kernel_core.specs.Step.{Outcome, advance_outcome, call_outcome, ended_outcome, faulted, guest_calls, is_aligned, loaded, next_outcome, plainly, shared_outcome, store_outcome, stored_outcome, switched, three_times, unchanged, with_regs, with_world, word_outcome}
 use Rattle.kernel_core.specs.declared.calling.TheConstants.{LW_CREATE, LW_OVERLAY, LW_RESTRICT, LW_SWITCH, LW_SYSCALL}
@@ -33,7 +30,10 @@ use Rattle.lwc_syscall.specs.Syscall.{lw_syscall}
 use Rattle.lwc_syscall.specs.declared.answer.CallAnswer.{CallAnswer}
 use Rattle.lwc_syscall.specs.declared.answer.CallAnswer.TheVariants as ends
 use Rattle.lwc_syscall.specs.declared.plain_call.PlainCall.{PlainCall}
-use Rattle.job_calls.proofs.Apart.{LeavesOthers, create-leaves, leaves_stored, overlay-leaves, plain-leaves, plain-same, restrict-leaves, switch-leaves, switch-target, syscall-leaves, syscall-same}
+use Rattle.world_views.proofs.Apart.{LeavesOthers, create-leaves, leaves_stored, overlay-leaves, plain-leaves, plain-same, restrict-leaves, switch-leaves, switch-target, syscall-leaves, syscall-same}
+use Rattle.world_views.specs.ByJob.{Home, KeepsJobs}
+use Rattle.world_views.specs.Ends.{AreOf}
+use Rattle.world_views.specs.Views.{channel_view, view}
 
 -- an environment after a change for a job
 pub record Apart (home : Home) (job : ℕ) (e f : Environment) : Type 0 where

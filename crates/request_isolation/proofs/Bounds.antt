@@ -18,7 +18,7 @@ use Rattle.lwc_base.specs.declared.name.Name.{Name}
 use Rattle.lwc_base.specs.declared.name.Tag.{Tag}
 use Rattle.request_isolation.proofs.Taking.{names_of}
 use Rattle.request_isolation.proofs.Counting.{OfJobs, any_filter, distinct, distinct-split, distinct_of_jobs, few_distinct, first_distinct, first_tags, in_first, no_fewer}
-use Rattle.job_view.proofs.Counting.{is_in_list, tag_of_job}
+use Rattle.world_views.proofs.Counting.{is_in_list, tag_of_job}
 use Rattle.lwc_base.proofs.Life.{or_right}
 use Rattle.lwc_base.proofs.Orders.{same_tag, tag-itself}
 use Rattle.lwc_base.proofs.Small.{one_tag}

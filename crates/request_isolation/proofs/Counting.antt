@@ -10,9 +10,9 @@ use Rattle.std.specs.FinSet as set
 use Rattle.lwc_base.specs.Names.{tag_cmp}
 use Rattle.lwc_base.specs.declared.name.Tag.{Tag}
 use Rattle.lwc_base.proofs.Facts.{orders}
-use Rattle.job_view.proofs.Counting.{is_in_list, tag_of_job}
 use Rattle.lwc_base.proofs.Life.{or_left, or_right}
 use Rattle.lwc_base.proofs.Orders.{same_tag, tag-itself}
+use Rattle.world_views.proofs.Counting.{is_in_list, tag_of_job}
 
 -- the number of different tags
 abbrev pub distinct : List Tag → ℕ

@@ -12,8 +12,8 @@ use Rattle.guest_image.specs.Limits.{IsImage}
 use Rattle.guest_image.specs.declared.image.Image.{Image}
 use Rattle.guest_machine.specs.Advances.{advanced}
 use Rattle.guest_machine.specs.declared.progress.Advance.{Advance}
-use Rattle.job_view.specs.ByJob.{Home, IsPageOf, KeepsJobs, LooksAlike, by_job}
-use Rattle.job_view.specs.Views.{channel_view, view}
+use Rattle.world_views.specs.ByJob.{Home, IsPageOf, KeepsJobs, LooksAlike, by_job}
+use Rattle.world_views.specs.Views.{channel_view, view}
 use Rattle.kernel_core.specs.Machine.{Environment, Machine, Serve}
 use Rattle.kernel_core.specs.Step.{advance_outcome, beside, guest_calls, next_outcome, with_regs}
 use Rattle.kernel_core.specs.declared.thread.Thread.{Thread}
@@ -42,7 +42,7 @@ use Rattle.request_isolation.proofs.Homes.{home_for}
 use Rattle.request_isolation.proofs.Reached.{IsServedBy, first_tag, image_below, of_group, of_live}
 use Rattle.request_isolation.proofs.Tagged.{AtContext, AtGroup, Holder, held_alike, held_in, held_job, holder_of, job_of}
 use Rattle.request_isolation.proofs.Taking.{names_of}
-use Rattle.job_view.proofs.Counting.{is_in_list}
+use Rattle.world_views.proofs.Counting.{is_in_list}
 use Rattle.lwc_base.proofs.Life.{or_right}
 use Rattle.kernel_core.proofs.Worlds.{few_parting}
 

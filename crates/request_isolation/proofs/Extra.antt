@@ -9,7 +9,6 @@ use Rattle.guest_image.specs.Limits.{IsImage, page_numbers}
 use Rattle.guest_image.specs.Numbers.{rising, rising_after}
 use Rattle.guest_image.specs.declared.image.Image.{Image}
 use Rattle.guest_image.specs.declared.image.PageImage.{PageImage}
-use Rattle.job_view.specs.ByJob.{KeepsJobs}
 use Rattle.kernel_core.specs.Machine.{Machine, Serve}
 use Rattle.kernel_core.specs.Runs.{frames_of}
 use Rattle.kernel_core.specs.Start.{first_page, image_tag}
@@ -27,7 +26,8 @@ use Rattle.request_isolation.specs.Needs.{acted_world, most_used, world_by, worl
 use Rattle.request_isolation.proofs.Homes.{home_for, tag_at}
 use Rattle.request_isolation.proofs.Stages.{by_one}
 use Rattle.request_isolation.proofs.Tagged.{AtContext, held_in}
-use Rattle.job_view.proofs.Counting.{is_in_list}
+use Rattle.world_views.proofs.Counting.{is_in_list}
+use Rattle.world_views.specs.ByJob.{KeepsJobs}
 
 -- each page of an image is found by its number
 above_first : (p : ℕ) (pages : List PageImage) (k : ℕ) (q : PageImage) → rising_after (Some p) (map (λ (e : PageImage). e.number) pages) ≡ true → slice_get pages k ≡ Some q → p < q.number

@@ -68,7 +68,7 @@ use Rattle.lwc_syscall.specs.declared.calls.CallContexts.{CallContexts}
 use Rattle.lwc_syscall.specs.declared.plain_call.PlainCall.{PlainCall}
 use Rattle.lwc_syscall.specs.declared.plain_call.PlainCall.TheVariants as plain_calls
 use Rattle.res_spec.specs.declared.items.SpecCall.TheVariants as spec_call
-use Rattle.job_view.proofs.Counting.{is_in_list}
+use Rattle.world_views.proofs.Counting.{is_in_list}
 use Rattle.lwc_base.proofs.Holders.{in_clone, keeps-add_context, keeps-change_context, keeps-on_pages, keeps-put_at, keeps-share, keeps-with_overlay, lets-everywhere, value_at-keeps}
 use Rattle.lwc_base.proofs.Sharing.{shares-share}
 use Rattle.snapshot_host.specs.Begin.{begin, begun_context}

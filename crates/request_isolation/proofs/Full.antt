@@ -13,7 +13,7 @@ use Rattle.guest_isa.specs.declared.op.Op.{Op}
 use Rattle.guest_isa.specs.declared.op.Op.TheVariants.{Stb, Stw, Sys}
 use Rattle.guest_machine.specs.declared.progress.Next.{Next}
 use Rattle.guest_machine.specs.declared.progress.Next.TheVariants.{Shared, Pause, BadPc}
-use Rattle.job_view.specs.ByJob.{Home, IsSlotOf, KeepsJobs}
+use Rattle.world_views.specs.ByJob.{Home, IsSlotOf, KeepsJobs}
 use Rattle.kernel_core.specs.Machine.{Environment}
 use Rattle.kernel_core.specs.Step as kernel
 use Rattle.kernel_core.specs.Step.{address, args_of, beside, ended_outcome, guest_calls, is_aligned, next_outcome, shared_outcome, store_outcome, stored_outcome, three_times, word_outcome}
@@ -63,8 +63,8 @@ use Rattle.lwc_syscall.specs.declared.plain_call.PlainCall.TheVariants as plain_
 use Rattle.request_isolation.specs.Needs.{IsFull, StoreIsFull, WantsFrames}
 use Rattle.request_isolation.proofs.Counting.{no_fewer}
 use Rattle.request_isolation.proofs.Tagged.{AtContext, AtGroup, Holder, held_in, holder_of}
-use Rattle.job_calls.proofs.Frames.{plain-reason}
-use Rattle.job_view.proofs.Keeping.{value_at-in}
+use Rattle.world_views.proofs.Frames.{plain-reason}
+use Rattle.world_views.proofs.Keeping.{value_at-in}
 use Rattle.lwc_base.proofs.Room.{store-used}
 use Rattle.lwc_base.proofs.Lookups.{changes-change_context, changes-change_group}
 use Rattle.lwc_base.proofs.Orders.{name-itself, same_name}

@@ -5,8 +5,8 @@ use Rattle.std.proofs.lemmas.List.{get_or-set_other, length-set}
 use Rattle.std.proofs.lemmas.Option.{slice_get_within}
 use Rattle.guest_image.specs.declared.image.Image.{Image}
 use Rattle.guest_machine.specs.Advances.{advanced}
-use Rattle.job_view.specs.ByJob.{KeepsJobs}
-use Rattle.job_view.specs.Views.{channel_view, view}
+use Rattle.world_views.specs.ByJob.{KeepsJobs}
+use Rattle.world_views.specs.Views.{channel_view, view}
 use Rattle.kernel_core.specs.Machine.{Machine, Serve, has_ended, home_of}
 use Rattle.kernel_core.specs.Step.{AfterStep, Outcome, advance_outcome, after_outcome, begin_next, finish, finished_by, guest_calls, only, roots, thread_outcome, unchanged, with_reply, with_status}
 use Rattle.kernel_core.specs.declared.thread.Thread.{Thread}
@@ -18,11 +18,11 @@ use Rattle.request_isolation.proofs.Homes.{begun_in, home_for}
 use Rattle.request_isolation.proofs.Roots.{Nobody, Placed, home_root, nobody_put, no_root, only_root, placed_put, serving}
 use Rattle.request_isolation.proofs.Serves.{step_made}
 use Rattle.request_isolation.proofs.Taking.{AddsFew, few_begin, few_same}
-use Rattle.job_calls.proofs.Beginning.{begin-hidden, begin-keeps}
-use Rattle.job_view.proofs.Together.{reap-hidden, reap-keeps}
+use Rattle.world_views.proofs.Beginning.{begin-hidden, begin-keeps}
+use Rattle.world_views.proofs.Together.{reap-hidden, reap-keeps}
 use Rattle.lwc_base.proofs.Facts.{counts}
 use Rattle.lwc_base.proofs.Reaped.{reap-stays}
-use Rattle.job_calls.proofs.Plainly.{slice_get-other}
+use Rattle.world_views.proofs.JobPlainly.{slice_get-other}
 use Rattle.kernel_core.proofs.Outcomes.{IsStep, guest_calls_act, step_running}
 use Rattle.kernel_core.proofs.ReadyRuns.{ready_step, ready_thread, some_of, well_ready}
 use Rattle.kernel_core.specs.Ready.{IsReady, IsReadyServe}

@@ -10,8 +10,8 @@ use Rattle.guest_image.specs.Limits.{IsImage, pages_of}
 use Rattle.guest_image.specs.declared.image.Image.{Image}
 use Rattle.guest_image.specs.declared.image.PageImage.{PageImage}
 use Rattle.guest_image.specs.declared.image.SlotImage.{SlotImage}
-use Rattle.job_view.specs.ByJob.{Home, IsPageOf, IsSlotOf, KeepsJobs, by_job}
-use Rattle.job_view.specs.Views.{seen_by, view}
+use Rattle.world_views.specs.ByJob.{Home, IsPageOf, IsSlotOf, KeepsJobs, by_job}
+use Rattle.world_views.specs.Views.{seen_by, view}
 use Rattle.kernel_core.specs.Machine.{home_of}
 use Rattle.kernel_core.specs.Start.{counted, first_page, first_slot, first_entry, home_context, home_value, image_tag, serve_world, with_homes, world_of}
 use Rattle.lwc_base.specs.Cells.{value_at, value_of}

@@ -8,8 +8,8 @@ use Rattle.std.proofs.lemmas.Option.{slice_get-get_or}
 use Rattle.guest_image.specs.declared.image.Image.{Image}
 use Rattle.guest_isa.specs.declared.instr.Instr.{Instr}
 use Rattle.guest_machine.specs.Advances.{advanced}
-use Rattle.job_view.specs.ByJob.{KeepsJobs, LooksAlike}
-use Rattle.job_view.specs.Views.{channel_view, view}
+use Rattle.world_views.specs.ByJob.{KeepsJobs, LooksAlike}
+use Rattle.world_views.specs.Views.{channel_view, view}
 use Rattle.guest_image.specs.declared.image.Vault.{Vault}
 use Rattle.kernel_core.specs.Kernel.{CanKeep, CanOpen, MayHave}
 use Rattle.kernel_core.specs.Machine.{Machine, Serve, has_ended, home_of, in_serve, reply_of}

@@ -7,7 +7,7 @@ use Rattle.std.proofs.lemmas.Bool.{false≢true, or_cases}
 use Rattle.std.proofs.lemmas.Option.{slice_get_within}
 use Rattle.guest_image.specs.declared.image.Image.{Image}
 use Rattle.guest_image.specs.declared.image.PageImage.{PageImage}
-use Rattle.job_view.specs.ByJob.{by_job}
+use Rattle.world_views.specs.ByJob.{by_job}
 use Rattle.kernel_core.specs.Machine.{Machine, Serve, home_of, homes_of}
 use Rattle.kernel_core.specs.Start.{first_page, home_context, home_value, image_tag}
 use Rattle.kernel_core.specs.Step.{contexts_of, roots}
@@ -33,7 +33,7 @@ use Rattle.kernel_core.proofs.HomeStart.{home_among_at}
 use Rattle.kernel_core.proofs.Homes.{no_names}
 use Rattle.lwc_base.proofs.Reaped.{number_in}
 use Rattle.lwc_base.specs.declared.descriptor.TheConstants.{SLOTS}
-use Rattle.job_view.proofs.Reaping.{links-job}
+use Rattle.world_views.proofs.Reaping.{links-job}
 
 -- a worker serves a request of a job
 pub record IsServedBy (threads : List Thread) (job : ℕ) : Type 0 where

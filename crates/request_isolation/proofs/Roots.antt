@@ -11,7 +11,7 @@ use Rattle.lwc_base.specs.Names.{name_cmp}
 use Rattle.lwc_base.specs.declared.fault.ThreadStatus.{ThreadStatus}
 use Rattle.lwc_base.specs.declared.fault.ThreadStatus.TheVariants.{Idle, Running, Done, Faulted}
 use Rattle.lwc_base.specs.declared.name.Name.{Name}
-use Rattle.job_calls.proofs.Plainly.{slice_get-other}
+use Rattle.world_views.proofs.JobPlainly.{slice_get-other}
 use Rattle.kernel_core.proofs.Afters.{home_job, home_there}
 use Rattle.kernel_core.proofs.Others.{found_set}
 use Rattle.kernel_core.specs.Ready.{HasItsJob, IsWorker}

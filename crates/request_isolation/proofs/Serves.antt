@@ -23,7 +23,7 @@ use Rattle.lwc_base.specs.declared.name.Name.{Name}
 use Rattle.lwc_base.specs.declared.regs.Regs.{Regs}
 use Rattle.snapshot_host.specs.declared.finishing.Finished.{Finished}
 use Rattle.request_isolation.specs.Replies.{HasReply}
-use Rattle.job_calls.proofs.Plainly.{slice_get-other}
+use Rattle.world_views.proofs.JobPlainly.{slice_get-other}
 use Rattle.kernel_core.proofs.HomeStart.{ready_start}
 use Rattle.kernel_core.proofs.Others.{found_set}
 use Rattle.kernel_core.proofs.Outcomes.{IsStep, guest_calls_act, step_running}

@@ -8,8 +8,8 @@ use Rattle.std.proofs.lemmas.Option.{slice_get_within, unwrap_or-slice_get}
 use Rattle.guest_isa.specs.declared.instr.Instr.{Instr}
 use Rattle.guest_image.specs.declared.image.Image.{Image}
 use Rattle.guest_machine.specs.Advances.{advanced}
-use Rattle.job_view.specs.ByJob.{LooksAlike}
-use Rattle.job_view.specs.Views.{ChannelView, channel_view, view}
+use Rattle.world_views.specs.ByJob.{LooksAlike}
+use Rattle.world_views.specs.Views.{ChannelView, channel_view, view}
 use Rattle.kernel_core.specs.Machine.{Machine, Serve, has_ended, home_of, in_serve, reply_of}
 use Rattle.kernel_core.specs.Start.{world_size}
 use Rattle.kernel_core.specs.Step.{AfterStep, Outcome, advance_outcome, after_outcome, after_thread, begin_next, finish, finished_by, guest_calls, only, roots, serving, status_with, step, step_by, thread_outcome, unchanged, with_regs, with_reply, with_status}
@@ -29,9 +29,9 @@ use Rattle.request_isolation.proofs.Homes.{IsHomeOf, begun_alike, begun_in, entr
 use Rattle.request_isolation.proofs.Holds.{Holds, Leaves, acts, begun_few, few_after, holds_after, home_at_root, home_stays, leaves_begun, leaves_ended, leaves_finished, leaves_going, nobody_after, ready_serve, reply_count_is, request_count_is, serving_now, text_stays, thread_count_is, unseen_nobody, unseen_served, world_is}
 use Rattle.request_isolation.proofs.Roots.{Nobody, only_root}
 use Rattle.request_isolation.proofs.Taking.{names_of}
-use Rattle.job_calls.proofs.Beginning.{begin-alike}
-use Rattle.job_view.proofs.Together.{reap-alike}
-use Rattle.job_calls.proofs.Plainly.{slice_get-other}
+use Rattle.world_views.proofs.Beginning.{begin-alike}
+use Rattle.world_views.proofs.Together.{reap-alike}
+use Rattle.world_views.proofs.JobPlainly.{slice_get-other}
 use Rattle.kernel_core.proofs.Others.{found_set}
 use Rattle.std.proofs.lemmas.Bool.{cases_eq}
 

@@ -9,7 +9,6 @@ use Rattle.std.specs.Ordering.{eq_by_cmp}
 use Rattle.std.proofs.lemmas.Bool.{eqb-true, false≢true, or_cases}
 use Rattle.std.proofs.lemmas.Bool.Decides.{nat_tests}
 use Rattle.std.proofs.lemmas.List.Folds.{list_any-append}
-use Rattle.job_view.specs.Views.{JobView, seen_by, view}
 use Rattle.lwc_base.specs.Frames.{own_value, tag_of, tags, tags_of_context, tags_of_group}
 use Rattle.lwc_base.specs.Holders.{IsGroup}
 use Rattle.lwc_base.specs.Names.{name_cmp, tag_cmp}
@@ -21,10 +20,11 @@ use Rattle.lwc_base.specs.declared.name.Name.{Name}
 use Rattle.lwc_base.specs.declared.name.Tag.{Tag}
 use Rattle.lwc_base.specs.declared.page.PageValue.{PageValue}
 use Rattle.lwc_base.specs.declared.page.PageValue.TheVariants.{Zero, Data}
-use Rattle.job_view.proofs.Counting.{is_in_list}
 use Rattle.lwc_base.proofs.Life.{or_left, or_right}
 use Rattle.lwc_base.proofs.Orders.{name-itself, same_name, same_tag, tag-itself}
 use Rattle.lwc_base.proofs.Reaped.{there_of}
+use Rattle.world_views.proofs.Counting.{is_in_list}
+use Rattle.world_views.specs.Views.{JobView, seen_by, view}
 
 -- a holder of a tag
 pub data Holder (w : World) (t : Tag) : Type 0 where

@@ -7,7 +7,7 @@ ghost use Rattle.kernel_core.specs.Machine.{reply_of};
 ghost use Rattle.kernel_core.specs.Runs.{frames_of, run};
 ghost use Rattle.kernel_core.specs.Start.{Inputs, start, thread_count};
 ghost use Rattle.kernel_core.specs.declared.settings.Job.TheVariants as jobs;
-ghost use Rattle.job_view.specs.ByJob.{Home, KeepsJobs};
+ghost use Rattle.world_views.specs.ByJob.{Home, KeepsJobs};
 ghost use Rattle.lwc_base.specs.Channels.{Channels, bytes_in};
 ghost use Rattle.lwc_base.specs.Frames.{used};
 ghost use Rattle.lwc_base.specs.World.{World, is_live};

@@ -1,4 +1,0 @@
-pub mod ByJob
-pub mod Facts
-pub mod JobFrames
-pub mod Views

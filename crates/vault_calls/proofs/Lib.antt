@@ -1,4 +1,0 @@
-pub mod Named
-pub mod Calls
-pub mod Plainly
-pub mod Alike

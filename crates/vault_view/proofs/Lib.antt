@@ -1,4 +1,0 @@
-pub mod Tables
-pub mod Asked
-pub mod Counts
-pub mod Changes
