@@ -2,7 +2,7 @@
 use Rattle.std.proofs.Common.{◌≡◌, ◌≢◌, ◌⊎◌, inl, inr, ℕ, ◌<◌, Bool, true, false, cond, ltb, None, Some, [], ◌∷◌, ◌++◌, refl, ap, sym, subst, ◌∙◌, arith}
 use Rattle.std.proofs.lemmas.Bool.{ltb-true}
 use Rattle.std.specs.Prelude.{is_none, slice_get, slice_index}
-use Rattle.call_items.specs.Asked.{item_refusals}
+use Rattle.guest_call.specs.Asked.{item_refusals}
 use Rattle.guest_call.specs.Guest.{descriptor_for, link_of, slot_refusals}
 use Rattle.kernel_core.specs.Refused.{advanced_thread, refusal_in, refusal_of}
 use Rattle.guest_isa.specs.declared.instr.Instr.{Instr}

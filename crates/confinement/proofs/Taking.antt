@@ -1,7 +1,7 @@
 -- What an overlay leaves in the context that it takes from.
 use Rattle.std.proofs.Common.{◌≡◌, ◌≢◌, inl, inr, Option, None, Some, refl, ap, sym, subst, ◌∙◌}
 use Rattle.std.specs.Prelude.{slice_index}
-use Rattle.call_items.proofs.Taken.{mode-taken}
+use Rattle.guest_call.proofs.Taken.{mode-taken}
 use Rattle.lwc_base.proofs.Overlays.{overlay-copied_value, overlay-others, overlay-shared_value, overlay-unnamed}
 use Rattle.lwc_base.specs.declared.item.Mode.{Mode}
 use Rattle.lwc_base.specs.declared.item.Mode.TheVariants.{Copy, Share, Unmap, CopyRead}

@@ -1,2 +1,4 @@
 pub mod Changes
+pub mod NotRefused
+pub mod Taken
 pub mod Targets

@@ -2,10 +2,14 @@ pub use Rattle.lwc_base.specs.Cells
 pub use Rattle.lwc_base.specs.Clones
 pub use Rattle.lwc_base.specs.Facts
 pub use Rattle.lwc_base.specs.Life
+pub use Rattle.lwc_base.specs.Memory
+pub use Rattle.lwc_base.specs.Modes
 pub use Rattle.lwc_base.specs.Refusals
 pub use Rattle.lwc_base.specs.Saved
 pub use Rattle.lwc_base.specs.Summaries
 pub use Rattle.lwc_base.specs.World
+pub use Rattle.res_spec.specs.Items
 pub use Rattle.world_face.specs.Calls
+pub mod Asked
 pub mod Changes
 pub mod Guest

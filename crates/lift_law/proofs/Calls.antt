@@ -2,7 +2,7 @@
 use Rattle.std.proofs.Common.{◌≡◌, ◌≢◌, ◌∙◌, ◌⊎◌, inr, ◌≤◌, refl, sym, ap, ℕ, Bool, true, false, cond, not, ◌&&◌, Option, Some, None, List, [], ◌∷◌, ◌++◌}
 use Rattle.std.specs.Prelude.{is_none, nat_le, nat_lt, slice_index, unwrap_or}
 use Rattle.std.specs.Option.{option_map}
-use Rattle.call_items.specs.Asked.{item_refusals}
+use Rattle.guest_call.specs.Asked.{item_refusals}
 use Rattle.guest_call.specs.Guest.{are_too_many, descriptor_for, link_of, slot_refusals, with_answer}
 use Rattle.kernel_core.specs.Refused.{refusal_in}
 use Rattle.lwc_base.specs.Capabilities.{empty_cap, full_cap}

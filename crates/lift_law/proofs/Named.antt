@@ -5,7 +5,7 @@ use Rattle.std.specs.Prelude.{is_none, nat_le, nat_lt, unwrap_or}
 use Rattle.std.specs.List.{list_all}
 use Rattle.std.specs.Option.{option_map}
 use Rattle.access_cap.specs.Kinds.{has_kinds, is_chosen}
-use Rattle.call_items.specs.Asked.{asked, item_bytes, item_refusals, items_of}
+use Rattle.guest_call.specs.Asked.{asked, item_bytes, item_refusals, items_of}
 use Rattle.guest_call.specs.Guest.{descriptor_for, link_of, slot_refusals}
 use Rattle.lwc_base.specs.Capabilities.{covers, empty_cap, full_cap, has_key, is_named}
 use Rattle.lwc_base.specs.Modes.{IsKey, kind_of, limit, mode, number_of}

@@ -11,7 +11,7 @@ use Rattle.lwc_base.specs.declared.name.Name.{Name}
 use Rattle.lwc_base.specs.declared.regs.Regs.{Regs}
 use Rattle.res_spec.specs.declared.items.SpecCall.TheVariants.{Create}
 use Rattle.lwc_create.specs.Create.{items_of, refusals, room_refusals}
-use Rattle.call_items.proofs.NotRefused.{rest_clear, spec_asked}
+use Rattle.guest_call.proofs.NotRefused.{rest_clear, spec_asked}
 
 module _ (w : World) (c : Name) (job : ℕ) (regs : Regs) (none : first_refusal (refusals w c job regs) ≡ None) where
   -- its items are a specifier

@@ -1,7 +1,7 @@
 -- The call that makes a new context: its refusals in their order, and what it does where none of them holds.
 use Rattle.std.specs.Prelude.{◌≡◌, ◌<◌, ℕ, ◌+◌, ◌++◌, ◌-◌, ◌%◌, ◌^◌, ◌&&◌, Bool, true, List, [], ◌∷◌, Option, None, Some, is_none, nat_le, slice_index, slice_set, unwrap_or}
-use Rattle.call_items.specs.Asked as asked
-use Rattle.call_items.specs.Asked.{item_refusals}
+use Rattle.guest_call.specs.Asked as asked
+use Rattle.guest_call.specs.Asked.{item_refusals}
 use Rattle.guest_call.specs.Guest.{are_too_many}
 use Rattle.lwc_base.specs.declared.answer.Answer.{Answer}
 use Rattle.lwc_base.specs.declared.answer.Answer.TheVariants.{Done, Refused}

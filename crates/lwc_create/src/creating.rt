@@ -5,8 +5,7 @@ ghost use Rattle.lwc_create.specs.Create as spec;
 ghost use Rattle.lwc_create.specs.Create.{HasPlaces, HasRoom, IfRefused, IsAllowed};
 ghost use Rattle.world_face.specs.Calls.{IsLive, MayName};
 
-use call_items::items_for;
-use guest_call::are_too_many;
+use guest_call::{are_too_many, items_for};
 use lwc_base::{
     Answer, Grant, Lent, MOST_CONTEXTS_OF_JOB, MOST_GROUPS_OF_JOB, Name, OutOfMemory, Refusal,
     Regs, Spec,

@@ -6,7 +6,7 @@ use Rattle.std.specs.Option.{option_and_then, option_map, option_map_or}
 use Rattle.std.specs.Ordering.{eq_by_cmp}
 use Rattle.std.specs.FinMap as fm
 use Rattle.access_cap.specs.Kinds.{has_kinds}
-use Rattle.call_items.specs.Asked.{item_refusals}
+use Rattle.guest_call.specs.Asked.{item_refusals}
 use Rattle.guest_call.specs.Guest.{descriptor_for, link_of}
 use Rattle.lwc_base.specs.Modes.{same_kind}
 use Rattle.lwc_base.specs.Names.{name_cmp}

@@ -5,8 +5,7 @@ ghost use Rattle.lwc_monitor.specs.Traps as spec;
 ghost use Rattle.world_face.specs.Calls.{IsLive};
 
 use crate::traps::Traps;
-use call_items::items_for;
-use guest_call::context_for;
+use guest_call::{context_for, items_for};
 use lwc_base::{Item, Kind, Mode, Name, Regs, Spec};
 use res_spec::SpecCall;
 use world_face::World;

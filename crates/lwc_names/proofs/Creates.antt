@@ -1,8 +1,8 @@
 -- The call that makes a context, under other numbers.
 use Rattle.std.proofs.Common.{◌≡◌, ℕ, ◌*◌, refl, ap, ◌∙◌, ◌&&◌, leb, ltb, not, Option, Some, None, List, [], ◌∷◌, ◌++◌}
 use Rattle.std.specs.Prelude.{is_none, slice_index, unwrap_or}
-use Rattle.call_items.specs.Asked as asked
-use Rattle.call_items.specs.Asked.{item_bytes, item_refusals}
+use Rattle.guest_call.specs.Asked as asked
+use Rattle.guest_call.specs.Asked.{item_bytes, item_refusals}
 use Rattle.guest_call.specs.Guest.{are_too_many}
 use Rattle.lwc_base.specs.Capabilities.{full_cap}
 use Rattle.lwc_base.specs.Cells.{put_slot}

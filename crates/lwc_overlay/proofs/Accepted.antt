@@ -1,8 +1,8 @@
 -- Calls that are not refused.
 use Rattle.std.proofs.Common.{◌≡◌, ◌<◌, ◌++◌, ℕ, Bool, true, List, [], Option, Some, None, arith, refl, subst}
 use Rattle.std.specs.Prelude.{slice_index}
-use Rattle.call_items.proofs.NotRefused.{rest_clear, spec_asked}
-use Rattle.call_items.specs.Asked.{item_refusals}
+use Rattle.guest_call.proofs.NotRefused.{rest_clear, spec_asked}
+use Rattle.guest_call.specs.Asked.{item_refusals}
 use Rattle.guest_call.specs.Guest.{descriptor_for, link_of, slot_refusals}
 use Rattle.lwc_base.specs.declared.answer.Answer.{Answer}
 use Rattle.lwc_base.specs.declared.answer.Answer.TheVariants.{Done, Refused}

@@ -1,4 +1,4 @@
-pub use Rattle.call_items.specs.Asked
+pub use Rattle.guest_call.specs.Asked
 pub use Rattle.guest_call.specs.Changes
 pub use Rattle.guest_call.specs.Guest
 pub use Rattle.lwc_base.specs.Capabilities

@@ -1,7 +1,7 @@
 -- What the two calls name: a context by the slot in register 1, and items by registers 2 and 3.
 use Rattle.std.specs.Prelude.{◌++◌, Bool, List, slice_index, unwrap_or}
-use Rattle.call_items.specs.Asked as asked
-use Rattle.call_items.specs.Asked.{item_refusals}
+use Rattle.guest_call.specs.Asked as asked
+use Rattle.guest_call.specs.Asked.{item_refusals}
 use Rattle.guest_call.specs.Guest.{descriptor_for, link_of, slot_refusals}
 use Rattle.lwc_base.specs.declared.answer.Answer.{Answer}
 use Rattle.lwc_base.specs.declared.answer.Answer.TheVariants.{Done, Refused}

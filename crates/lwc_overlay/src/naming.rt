@@ -8,8 +8,7 @@ ghost use Rattle.lwc_base.specs.declared.refusal.Refusal.{Refusal};
 ghost use Rattle.lwc_overlay.specs.Named.{items_of, link, refusals_before};
 ghost use Rattle.world_face.specs.Calls.{IsLive};
 
-use call_items::items_for;
-use guest_call::context_for;
+use guest_call::{context_for, items_for};
 use lwc_base::{Grant, Name, Refusal, Regs, Spec};
 use res_spec::SpecCall;
 use world_face::World;

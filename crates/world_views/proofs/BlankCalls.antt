@@ -3,7 +3,7 @@ use Rattle.std.proofs.Common.{◌≢◌, ◌≡◌, inl, inr, ℕ, refl, sym, ap
 use Rattle.std.proofs.lemmas.List.{append-nil}
 use Rattle.std.specs.Prelude.{is_none, nat_le, not, slice_index, unwrap_or}
 use Rattle.std.specs.Option.{option_map}
-use Rattle.call_items.specs.Asked.{item_refusals}
+use Rattle.guest_call.specs.Asked.{item_refusals}
 use Rattle.guest_call.specs.Guest.{are_too_many, descriptor_for, link_of, slot_refusals, with_answer}
 use Rattle.lwc_base.specs.Capabilities.{covers, empty_cap, full_cap, restricted}
 use Rattle.lwc_base.specs.Cells.{put_slot}
@@ -34,7 +34,7 @@ use Rattle.lwc_overlay.specs.RestrictCall as restricting
 use Rattle.lwc_switch.specs.Switch as switching
 use Rattle.res_spec.specs.declared.items.SpecCall.{SpecCall}
 use Rattle.res_spec.specs.declared.items.SpecCall.TheVariants as spec_call
-use Rattle.call_items.proofs.NotRefused.{spec_asked}
+use Rattle.guest_call.proofs.NotRefused.{spec_asked}
 use Rattle.lwc_base.proofs.Orders.{cases_name}
 use Rattle.world_views.proofs.BlankChanges.{asks-alike, blanks-alike, changes-alike}
 use Rattle.world_views.proofs.BlankNamed.{descriptor-blank, first-append, item_refusals-blank, items-blank, link_or, none-append, nothing-covered, slot_refusals-blank}

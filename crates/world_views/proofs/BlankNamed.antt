@@ -5,7 +5,7 @@ use Rattle.std.proofs.lemmas.Bool.Decides.{nat_tests}
 use Rattle.std.specs.Prelude.{is_none, is_some, nat_lt, not, unwrap_or}
 use Rattle.std.specs.List.{find}
 use Rattle.std.specs.Option.{option_map}
-use Rattle.call_items.specs.Asked.{item_bytes, item_refusals, items_of}
+use Rattle.guest_call.specs.Asked.{item_bytes, item_refusals, items_of}
 use Rattle.guest_call.specs.Guest.{descriptor_for, link_of, slot_refusals}
 use Rattle.lwc_base.specs.Capabilities.{covers, empty_cap}
 use Rattle.lwc_base.specs.Modes.{IsItem, IsKey, IsSpec, limit, mode, names}

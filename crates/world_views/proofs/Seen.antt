@@ -1,7 +1,7 @@
 -- What calls ask of two worlds that look alike to their job is answered alike, and what they name is of the job.
 use Rattle.std.proofs.Common.{◌≡◌, ℕ, ◌*◌, refl, ap, Bool, true, false, cond, [], ◌∷◌}
 use Rattle.std.specs.Prelude.{is_none, nat_lt, not, slice_index, unwrap_or}
-use Rattle.call_items.specs.Asked.{item_bytes, item_refusals, items_of}
+use Rattle.guest_call.specs.Asked.{item_bytes, item_refusals, items_of}
 use Rattle.guest_call.specs.Guest.{descriptor_for, link_of, slot_refusals}
 use Rattle.lwc_base.specs.Capabilities.{empty_cap}
 use Rattle.lwc_base.specs.Cells.{slot_at}

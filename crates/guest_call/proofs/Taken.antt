@@ -1,7 +1,7 @@
 -- Items that are read are of modes that their call takes_mode.
 use Rattle.std.proofs.Common.{◌≡◌, ℕ, true, false, None, Some, List, [], ◌∷◌, refl, ap, subst, ◌∙◌, arith}
 use Rattle.std.specs.List.{filter_map, find}
-use Rattle.call_items.specs.Asked.{asked, items_of}
+use Rattle.guest_call.specs.Asked.{asked, items_of}
 use Rattle.lwc_base.specs.declared.item.Item.{Item}
 use Rattle.lwc_base.specs.declared.item.Mode.{Mode}
 use Rattle.lwc_base.specs.declared.key.Key.{Key}

@@ -1,7 +1,7 @@
 -- Items that no row refuses.
 use Rattle.std.proofs.Common.{◌≡◌, refl, ◌*◌, ◌≤◌, ◌++◌, ℕ, Bool, List, [], Some, None, Ok, ap, arith, false, length, true}
 use Rattle.std.proofs.lemmas.List.FromFn.{length-map-range_with_len}
-use Rattle.call_items.specs.Asked.{asked, item_bytes, item_refusals, items_of}
+use Rattle.guest_call.specs.Asked.{asked, item_bytes, item_refusals, items_of}
 use Rattle.lwc_base.specs.declared.limits.TheConstants.{MOST_ITEMS}
 use Rattle.lwc_base.specs.declared.name.Name.{Name}
 use Rattle.lwc_base.specs.declared.refusal.Refusal.{Refusal}

@@ -1,6 +1,6 @@
 ghost use Rattle.std.specs.Prelude.{◌≡◌, ◌++◌, ◌≤◌, [], ℕ, Bool, List, Some, None, IfErr, IfOk, OnOk};
-ghost use Rattle.call_items.specs.Asked as spec;
-ghost use Rattle.call_items.specs.Asked.{item_refusals, items_of};
+ghost use Rattle.guest_call.specs.Asked as spec;
+ghost use Rattle.guest_call.specs.Asked.{item_refusals, items_of};
 ghost use Rattle.lwc_base.specs.Modes.{IsSpec};
 ghost use Rattle.lwc_base.specs.Refusals.{first_refusal};
 ghost use Rattle.lwc_base.specs.World as worlds;

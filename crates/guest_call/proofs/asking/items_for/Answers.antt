@@ -1,8 +1,8 @@
 use Rattle.std.proofs.Common.{◌≡◌, ◌∙◌, ◌++◌, arith, subst, sym}
-use Rattle.call_items.specs.Asked.{item_refusals, items_of}
+use Rattle.guest_call.proofs.NotRefused.{no_items, no_items_pass}
+use Rattle.guest_call.proofs.asking.items_for.Goals as goal
+use Rattle.guest_call.specs.Asked.{item_refusals, items_of}
 use Rattle.lwc_base.specs.Refusals.{first_refusal}
-use Rattle.call_items.proofs.NotRefused.{no_items, no_items_pass}
-use Rattle.call_items.proofs.asking.items_for.Goals as goal
 
 pub returns-then-count-eq0-clause-passed : goal.returns-then-count-eq0-clause-passed
 returns-then-count-eq0-clause-passed g c rows =

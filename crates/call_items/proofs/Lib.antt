@@ -1,2 +1,0 @@
-pub mod NotRefused
-pub mod Taken
