@@ -1,6 +1,6 @@
-use byte_reading::ReadError;
 use guest_asm::*;
 use guest_image::{ImageRule, write_image};
+use lwc_base::ReadError;
 use std::alloc::{AllocError, Global};
 use std::test::Fail;
 

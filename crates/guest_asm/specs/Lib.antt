@@ -1,6 +1,6 @@
-pub use Rattle.byte_reading.specs.Outcomes
 pub use Rattle.guest_image.specs.Reading
 pub use Rattle.guest_image.specs.Spelling
+pub use Rattle.lwc_base.specs.Outcomes
 pub mod Rules
 pub mod Lexis
 pub mod Numbers

@@ -2,7 +2,7 @@
 use Rattle.std.specs.Prelude.{ℕ, ◌+◌, if◌then◌else◌, List, [], ◌∷◌, ◌++◌, length, Option, Some, None, is_some, Result, Ok, Err}
 use Rattle.std.specs.Map.{update}
 use Rattle.std.specs.Str.{bytes_eq}
-use Rattle.byte_reading.specs.Outcomes.{Refusal}
+use Rattle.lwc_base.specs.Outcomes.{Refusal}
 use Rattle.guest_image.specs.declared.image.Form.{Form}
 use Rattle.guest_asm.specs.declared.error.SourceRule.{SourceRule}
 use Rattle.guest_asm.specs.declared.error.SourceRule.TheVariants.{BadLabel}

@@ -2,7 +2,7 @@
 
 ghost use Rattle.std.specs.Prelude.{◌≡◌, ◌++◌, ◌-◌, ◌*◌, ◌≤◌, length, OnOk, IfOk};
 ghost use Rattle.std.specs.List.{flat_map};
-ghost use Rattle.byte_reading.specs.Outcomes.{Answers};
+ghost use Rattle.lwc_base.specs.Outcomes.{Answers};
 ghost use Rattle.guest_isa.specs.Spelling as instructions;
 ghost use Rattle.guest_image.specs.Spelling.{number};
 ghost use Rattle.lwc_base.specs.declared.limits.TheConstants.{MOST_IMAGE_BYTES};
@@ -14,10 +14,9 @@ use crate::error::{SourceError, SourceRule};
 use crate::operand::Immediate;
 use crate::parts::{FileDraft, PageDraft, SlotDraft};
 use crate::source::Source;
-use byte_reading::ReadError;
 use guest_image::Form;
 use guest_isa::Instr;
-use lwc_base::{MOST_IMAGE_BYTES, OutOfMemory, PAGE_BYTES};
+use lwc_base::{MOST_IMAGE_BYTES, OutOfMemory, PAGE_BYTES, ReadError};
 use std::alloc::Global;
 use std::collections::HashMap;
 

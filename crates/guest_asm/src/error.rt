@@ -3,8 +3,8 @@
 ghost use Rattle.std.specs.Prelude.{◌≡◌};
 ghost use Rattle.guest_asm.specs.Rules.{rule_name};
 
-use byte_reading::ReadError;
 use guest_image::ImageRule;
+use lwc_base::ReadError;
 
 /// The rules of a source.
 #[derive(Clone, Copy, Debug, PartialEq, Eq)]

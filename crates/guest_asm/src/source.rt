@@ -3,23 +3,22 @@
 ghost use Rattle.std.specs.Prelude.{◌≡◌, ◌<◌, ◌≤◌, ◌^◌, ◌+◌, length, OnOk, IfErr, IfOk, Ok, true};
 ghost use Rattle.std.specs.List.{list_all};
 ghost use Rattle.std.specs.Option.{option_map};
-ghost use Rattle.byte_reading.specs.Outcomes.{Answers};
-ghost use Rattle.byte_reading.specs.declared.error.ReadError.TheVariants.{OutOfMemory};
 ghost use Rattle.guest_asm.specs.Lexis.{is_plain, lines, text_of};
 ghost use Rattle.guest_asm.specs.Statements.{bytes_of};
 ghost use Rattle.guest_asm.specs.Sources as spec;
 ghost use Rattle.guest_asm.specs.Views.{bytes_in, immediate_in, source_in, statement_in};
+ghost use Rattle.lwc_base.specs.Outcomes.{Answers};
+ghost use Rattle.lwc_base.specs.declared.reading.ReadError.TheVariants.{OutOfMemory};
 
 use crate::error::{SourceError, SourceRule};
 use crate::operand::Immediate;
 use crate::parts::{FileDraft, PageDraft, SlotDraft};
 use crate::statement::{Statement, read_line};
 use crate::words::{FirstLine, all_clean, next_line};
-use byte_reading::ReadError;
 use guest_image::Form;
 use guest_isa::Instr;
 use hex::FromHexError;
-use lwc_base::Sequence;
+use lwc_base::{ReadError, Sequence};
 use std::alloc::Global;
 use std::collections::HashMap;
 

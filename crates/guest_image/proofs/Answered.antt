@@ -1,8 +1,5 @@
 -- What a reading of a file answers.
 use Rattle.std.proofs.Common.{◌≡◌, ℕ, List, Result, Ok, Err, subst, ap, ◌∙◌, IfOk}
-use Rattle.byte_reading.specs.Outcomes.{Answers}
-use Rattle.byte_reading.specs.declared.error.ReadError.TheVariants.{Refused}
-use Rattle.byte_reading.specs.declared.error.ReadError.{ReadError}
 use Rattle.guest_image.specs.declared.fault.ImageRule.{ImageRule}
 use Rattle.guest_image.specs.declared.image.Image.{Image}
 use Rattle.guest_image.specs.Facts.{ReadingFacts}
@@ -14,6 +11,9 @@ use Rattle.guest_image.proofs.FieldLaws.{IsBytes}
 use Rattle.guest_image.proofs.PartLaws.{all_bytes}
 use Rattle.guest_image.proofs.WholeLaws.{image_takes, image_again, refused_fails, fails_refused}
 use Rattle.guest_isa.proofs.Inverse.{IsBytes-from_all}
+use Rattle.lwc_base.specs.Outcomes.{Answers}
+use Rattle.lwc_base.specs.declared.reading.ReadError.{ReadError}
+use Rattle.lwc_base.specs.declared.reading.ReadError.TheVariants.{Refused}
 
 -- an image is read from its bytes, no other bytes give one, and a refusal is exactly where a rule is broken
 pub reading_facts : ReadingFacts

@@ -4,12 +4,12 @@ use Rattle.std.specs.Int.{w32, from_le_bytes}
 use Rattle.std.proofs.lemmas.Bool.{cases_lt, ltb-false, le-ltb}
 use Rattle.std.proofs.lemmas.List.{take_at, drop_at, take-append-drop, length-append, length-take, get_or-drop, get_or-take, get_or_past}
 use Rattle.std.proofs.lemmas.Nat.{le_bytes_4, from_le_bytes-to_le_bytes_4}
-use Rattle.byte_reading.specs.Outcomes.{Refusal, ◌>>=◌}
 use Rattle.guest_image.specs.declared.fault.ImageRule.{ImageRule}
 use Rattle.guest_image.specs.declared.fault.ImageRule.TheVariants.{Truncated}
 use Rattle.guest_image.specs.Rest.{Rest}
 use Rattle.guest_image.specs.Spelling.{number}
 use Rattle.guest_image.specs.Reading.{Read, refused, bytes_at, number_at, number_where}
+use Rattle.lwc_base.specs.Outcomes.{Refusal, ◌>>=◌}
 
 abbrev pub IsBytes : List ℕ → Type 0
 IsBytes bytes = (i : ℕ) → get_or bytes i 0 < 256

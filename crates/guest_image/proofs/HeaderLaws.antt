@@ -6,7 +6,7 @@ use Rattle.std.proofs.lemmas.Bool.{eqb-true, and_parts, and_from, leb-true, le-l
 use Rattle.std.proofs.lemmas.Bool.Decides.{nat_tests}
 use Rattle.std.proofs.lemmas.List.{flat_map_more, append-nil, length-append}
 use Rattle.std.proofs.lemmas.List.Concat.{flat_map-cons}
-use Rattle.byte_reading.specs.Outcomes.{Refusal, ◌>>=◌}
+use Rattle.lwc_base.specs.Outcomes.{Refusal, ◌>>=◌}
 use Rattle.lwc_base.specs.declared.limits.TheConstants.{MOST_FILES, MOST_IMAGE_SLOTS, MOST_INSTRUCTIONS, MOST_THREADS}
 use Rattle.guest_image.specs.declared.fault.ImageRule.{ImageRule}
 use Rattle.guest_image.specs.declared.fault.ImageRule.TheVariants.{BadMagic, BadCount}

@@ -1,11 +1,11 @@
 -- Reading values one after another, as a loop does.
 use Rattle.std.proofs.Common.{◌≡◌, ℕ, suc, ◌-◌, ◌+◌, ◌≤◌, ◌<◌, List, [], ◌∷◌, ◌++◌, Ok, Err, refl, sym, ◌∙◌, arith}
-use Rattle.byte_reading.specs.Outcomes.{Fails}
-use Rattle.byte_reading.specs.declared.error.ReadError.{ReadError}
-use Rattle.byte_reading.specs.declared.error.ReadError.TheVariants as errors
 use Rattle.guest_image.specs.declared.fault.ImageRule.{ImageRule}
 use Rattle.guest_image.specs.Reading.{Read, list_at}
 use Rattle.guest_image.specs.Rest.{Rest}
+use Rattle.lwc_base.specs.Outcomes.{Fails}
+use Rattle.lwc_base.specs.declared.reading.ReadError.{ReadError}
+use Rattle.lwc_base.specs.declared.reading.ReadError.TheVariants as errors
 
 -- how a value is read after others
 abbrev pub Reader : Type 0 → Type 0

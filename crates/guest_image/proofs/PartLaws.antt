@@ -6,7 +6,7 @@ use Rattle.std.proofs.lemmas.Bool.Decides.{nat_tests}
 use Rattle.std.proofs.lemmas.List.{get_or_append_left, get_or_default, length-append, length-replicate, map_push, map-append}
 use Rattle.std.proofs.lemmas.List.Elements.{All-push, All-contains, All-weaker, Contains-push}
 use Rattle.std.proofs.lemmas.List.Sums.{sum_by_push, sum_by-append}
-use Rattle.byte_reading.specs.Outcomes.{Refusal, ◌>>=◌}
+use Rattle.lwc_base.specs.Outcomes.{Refusal, ◌>>=◌}
 use Rattle.lwc_base.specs.declared.channels.FileImage.{FileImage}
 use Rattle.lwc_base.specs.declared.descriptor.TheConstants.{SLOTS}
 use Rattle.lwc_base.specs.declared.limits.TheConstants.{MOST_FILE_BYTES, MOST_RANGES}

@@ -1,11 +1,11 @@
 -- A refusal of a file: it ends too early, or a rule is broken at an offset.
 use Rattle.std.proofs.Common.{◌≡◌, ◌⊎◌, inl, inr, ℕ, List, subst, sym, refl, ◌∙◌}
-use Rattle.byte_reading.specs.Outcomes.{Refusal}
 use Rattle.guest_image.specs.declared.fault.ImageRule.{ImageRule}
 use Rattle.guest_image.specs.declared.image.Form.{Form}
 use Rattle.guest_image.specs.Rest.{Rest}
 use Rattle.guest_image.specs.Refusals.{Breaks}
 use Rattle.guest_image.proofs.FieldLaws.{Takes, Takes-end, end_of}
+use Rattle.lwc_base.specs.Outcomes.{Refusal}
 
 -- the rule is broken behind the bytes that were taken
 pub record StopsAt (form : Form) (file : Rest) (s : Refusal ImageRule) : Type 0 where

@@ -3,7 +3,6 @@ use Rattle.std.proofs.Common.{◌≡◌, inl, inr, ℕ, zero, suc, ◌+◌, ◌-
 use Rattle.std.specs.List.{flat_map}
 use Rattle.std.proofs.lemmas.List.{append-nil, flat_map_more, length-append, length_push}
 use Rattle.std.proofs.lemmas.List.Concat.{flat_map-cons}
-use Rattle.byte_reading.specs.Outcomes.{Refusal}
 use Rattle.guest_image.specs.declared.fault.ImageRule.{ImageRule}
 use Rattle.guest_image.specs.declared.image.Form.{Form}
 use Rattle.guest_image.specs.Rest.{Rest}
@@ -12,6 +11,7 @@ use Rattle.guest_image.specs.Refusals.{AllValues, SomeValues}
 use Rattle.guest_image.proofs.FieldLaws.{IsBytes, from, bind_ok, bind_err, ok_is, Takes, Takes-then}
 use Rattle.guest_image.proofs.Loops.{Reader}
 use Rattle.guest_image.proofs.Stops.{Stops}
+use Rattle.lwc_base.specs.Outcomes.{Refusal}
 
 -- what is read is spelled so, and then P holds of it and those before it
 pub record TakesEach {A : Type 0} (P : List A → Type 0) (spell : A → List ℕ) (read : Reader A) : Type 0 where

@@ -1,7 +1,7 @@
 -- Reading an image from its first byte to its last, up to the first refusal.
 use Rattle.std.specs.Prelude.{ℕ, zero, suc, ◌+◌, Bool, false, ◌&&◌, nat_lt, nat_le, ◌==◌, if◌then◌else◌, List, [], ◌∷◌, ◌++◌, length, take, drop, slice_index, Option, Some, None, Result, Ok, Err}
 use Rattle.std.specs.Int.{w32, from_le_bytes}
-use Rattle.byte_reading.specs.Outcomes.{Refusal, ◌>>=◌}
+use Rattle.lwc_base.specs.Outcomes.{Refusal, ◌>>=◌}
 use Rattle.lwc_base.specs.declared.channels.FileImage.{FileImage}
 use Rattle.lwc_base.specs.declared.descriptor.TheConstants.{SLOTS}
 use Rattle.lwc_base.specs.declared.limits.TheConstants.{MOST_FILE_BYTES, MOST_FILES, MOST_IMAGE_BYTES, MOST_IMAGE_SLOTS, MOST_BYTES_OF_FORM_ONE, MOST_INSTRUCTIONS, MOST_RANGES, MOST_THREADS}

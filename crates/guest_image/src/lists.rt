@@ -1,7 +1,7 @@
 //! The lists of an image, each as long as its header says.
 
 ghost use Rattle.std.specs.Prelude.{◌≡◌, ◌≤◌};
-ghost use Rattle.byte_reading.specs.Outcomes.{Answers};
+ghost use Rattle.lwc_base.specs.Outcomes.{Answers};
 ghost use Rattle.lwc_base.specs.declared.limits.TheConstants.{MOST_FILES, MOST_INSTRUCTIONS};
 ghost use Rattle.guest_image.specs.Reading.{instructions_at, pages_at, files_at, slots_at, entries_at};
 

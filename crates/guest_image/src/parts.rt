@@ -1,7 +1,7 @@
 //! One instruction, page, file, slot or entry of an image.
 
 ghost use Rattle.std.specs.Prelude.{◌≡◌, ◌+◌, ◌<◌, ◌≤◌, length, IfOk};
-ghost use Rattle.byte_reading.specs.Outcomes.{Answers};
+ghost use Rattle.lwc_base.specs.Outcomes.{Answers};
 ghost use Rattle.guest_isa.specs.Instructions.{IsInstruction};
 ghost use Rattle.lwc_base.specs.declared.limits.TheConstants.{MOST_FILE_BYTES, MOST_FILES, MOST_RANGES};
 ghost use Rattle.guest_image.specs.Numbers.{is_above, begins, ranges_with};
@@ -12,11 +12,10 @@ ghost use Rattle.guest_image.specs.Reading.{length_at, file_at, slot_number_at, 
 use crate::fault::{ImageFault, ImageRule};
 use crate::image::{FIRST_SLOT, Form, PageImage, SlotImage};
 use crate::reader::Reader;
-use byte_reading::ReadError;
 use guest_isa::{Instr, decode};
 use lwc_base::{
-    FileImage, MOST_FILE_BYTES, MOST_RANGES, PAGE_BYTES, PageBytes, PageNumber, SLOTS, Sequence,
-    SlotNumber,
+    FileImage, MOST_FILE_BYTES, MOST_RANGES, PAGE_BYTES, PageBytes, PageNumber, ReadError, SLOTS,
+    Sequence, SlotNumber,
 };
 use std::alloc::Global;
 

@@ -15,6 +15,7 @@ pub mod Mapping
 pub mod Memory
 pub mod Modes
 pub mod Names
+pub mod Outcomes
 pub mod Overlay
 pub mod Pages
 pub mod Ranges

@@ -1,5 +1,5 @@
-//! Plain types of the kernel, and the definitions of its world: contexts, groups, values under keys, frames,
-//! and the store of bytes.
+//! Plain types of the kernel, the definitions of its world (contexts, groups, values under keys, frames, and the
+//! store of bytes), and what a reader of bytes answers.
 #![tactic(auto)]
 
 pub mod answer;
@@ -15,6 +15,7 @@ pub mod memory;
 pub mod name;
 pub mod page;
 pub mod range;
+pub mod reading;
 pub mod refusal;
 pub mod regs;
 pub mod right;
@@ -42,6 +43,7 @@ pub use memory::OutOfMemory;
 pub use name::{Name, Tag};
 pub use page::{PAGE_BYTES, PageBytes, PageValue};
 pub use range::{Range, touched_pages};
+pub use reading::ReadError;
 pub use refusal::Refusal;
 pub use regs::Regs;
 pub use right::Right;

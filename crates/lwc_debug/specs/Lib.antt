@@ -1,9 +1,9 @@
-pub use Rattle.byte_reading.specs.Outcomes
 pub use Rattle.kernel_core.specs.Histories
 pub use Rattle.kernel_core.specs.Kernel
 pub use Rattle.kernel_core.specs.Machine
 pub use Rattle.kernel_core.specs.Runs
 pub use Rattle.kernel_core.specs.Start
+pub use Rattle.lwc_base.specs.Outcomes
 pub use Rattle.lwc_base.specs.World
 pub mod Scripts
 pub mod Telling

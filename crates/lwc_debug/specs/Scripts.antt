@@ -3,7 +3,7 @@ use Rattle.std.specs.Prelude.{◌≡◌, ℕ, ◌-◌, ◌≤◌, ◌==◌, Bool
 use Rattle.std.specs.List.{after_first, before_first, filter_map, range_with_len}
 use Rattle.std.specs.Option.{option_and_then, option_map}
 use Rattle.std.specs.Str.Lines.{lines}
-use Rattle.byte_reading.specs.Outcomes.{Refusal, unless_refused}
+use Rattle.lwc_base.specs.Outcomes.{Refusal, unless_refused}
 use Rattle.lwc_base.specs.declared.name.Name.{Name}
 use Rattle.lwc_text.specs.Numbers.{number_of}
 use Rattle.lwc_text.specs.Requests.{after_lines}

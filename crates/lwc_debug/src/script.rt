@@ -3,16 +3,15 @@
 ghost use Rattle.std.specs.Prelude.{◌≡◌, ◌≤◌, ◌∷◌, ◌++◌, ◌+◌, ◌<◌, ◌^◌, ◌==◌, IfErr, IfOk, List, None, Ok, OnOk, [], length};
 ghost use Rattle.std.specs.List.{after_first, before_first, filter_map, position_or_len};
 ghost use Rattle.std.specs.Option.{option_map};
-ghost use Rattle.byte_reading.specs.Outcomes.{Answers, Fails, IsFound, unless_refused};
-ghost use Rattle.byte_reading.specs.declared.error.ReadError.TheVariants.{OutOfMemory};
+ghost use Rattle.lwc_base.specs.Outcomes.{Answers, Fails, IsFound, unless_refused};
+ghost use Rattle.lwc_base.specs.declared.reading.ReadError.TheVariants.{OutOfMemory};
 ghost use Rattle.lwc_text.specs.Schedules.{refusal_of};
 ghost use Rattle.lwc_debug.specs.declared.command.Command as commands;
 ghost use Rattle.lwc_debug.specs.declared.command.TheConstants.{MOST_COMMANDS};
 ghost use Rattle.lwc_debug.specs.Scripts as spec;
 
 use crate::command::{Command, MOST_COMMANDS, Script};
-use byte_reading::ReadError;
-use lwc_base::Name;
+use lwc_base::{Name, ReadError};
 use lwc_text::{InputFault, InputRule, next_line, number_of};
 use std::alloc::Global;
 

@@ -7,9 +7,9 @@ use Rattle.std.proofs.lemmas.List.Elements.{All-nil, All-cons, All-head, All-tai
 use Rattle.std.proofs.Math.Seq.{take-length}
 use Rattle.std.specs.List.{cons_option, filter_map, range_with_len}
 use Rattle.std.specs.Option.{option_map}
-use Rattle.byte_reading.specs.Outcomes.{Fails, IsFound, unless_refused}
-use Rattle.byte_reading.specs.declared.error.ReadError.{ReadError}
-use Rattle.byte_reading.specs.declared.error.ReadError.TheVariants as errors
+use Rattle.lwc_base.specs.Outcomes.{Fails, IsFound, unless_refused}
+use Rattle.lwc_base.specs.declared.reading.ReadError.{ReadError}
+use Rattle.lwc_base.specs.declared.reading.ReadError.TheVariants as errors
 use Rattle.lwc_text.specs.declared.fault.InputRule.{InputRule}
 use Rattle.lwc_base.specs.declared.limits.TheConstants.{MOST_SCHEDULE_BYTES, MOST_THREADS}
 use Rattle.lwc_text.proofs.Refusals.{clear_next, first_refused, none_refused, nothing_refused, read_by, unless_none}

@@ -9,14 +9,14 @@ use Rattle.std.proofs.lemmas.List.{get_or-drop, get_or-take, get_or_past, length
 use Rattle.std.proofs.lemmas.List.Elements.{All-cons, All-head, All-nil, All-tail}
 use Rattle.std.proofs.lemmas.Nat.{from_le_bytes-to_le_bytes_4, le_bytes_4}
 use Rattle.std.proofs.Math.Seq.{drop-append_seam, take-append_seam}
-use Rattle.byte_reading.specs.Outcomes.{Answers, ◌>>=◌}
-use Rattle.byte_reading.specs.declared.error.ReadError.{ReadError}
-use Rattle.byte_reading.specs.declared.error.ReadError.TheVariants as errors
 use Rattle.guest_image.specs.Limits.{page_numbers}
 use Rattle.guest_image.specs.Numbers.{is_above, rising_after}
 use Rattle.guest_image.specs.Spelling.{number, page}
 use Rattle.guest_image.specs.declared.image.PageImage.{PageImage}
 use Rattle.guest_image.specs.declared.image.Vault.{Vault}
+use Rattle.lwc_base.specs.Outcomes.{Answers, ◌>>=◌}
+use Rattle.lwc_base.specs.declared.reading.ReadError.{ReadError}
+use Rattle.lwc_base.specs.declared.reading.ReadError.TheVariants as errors
 use Rattle.lwc_text.specs.declared.fault.InputRule.{InputRule}
 use Rattle.lwc_text.specs.declared.fault.InputRule.TheVariants.{BadEntry, BadPage, TooLong, Truncated}
 use Rattle.lwc_text.specs.VaultFiles.{IsVaultFile, Read, number_in, page_at, page_in, pages_at, refused, vault_at}

@@ -3,10 +3,10 @@ use Rattle.std.proofs.Common.{◌≡◌, ◌∙◌, ℕ, zero, suc, ◌+◌, ◌
 use Rattle.std.specs.Prelude.{is_some}
 use Rattle.std.proofs.lemmas.Bool.Decides.{nat_tests}
 use Rattle.std.proofs.lemmas.List.{length-drop}
-use Rattle.byte_reading.specs.Outcomes.{Fails, ◌>>=◌}
-use Rattle.byte_reading.specs.declared.error.ReadError.{ReadError}
-use Rattle.byte_reading.specs.declared.error.ReadError.TheVariants as errors
 use Rattle.guest_image.specs.declared.image.PageImage.{PageImage}
+use Rattle.lwc_base.specs.Outcomes.{Fails, ◌>>=◌}
+use Rattle.lwc_base.specs.declared.reading.ReadError.{ReadError}
+use Rattle.lwc_base.specs.declared.reading.ReadError.TheVariants as errors
 use Rattle.lwc_text.specs.declared.fault.InputRule.{InputRule}
 use Rattle.lwc_text.specs.VaultFiles.{Read, page_at, pages_at}
 

@@ -1,4 +1,3 @@
-pub use Rattle.byte_reading.specs.Outcomes
 pub use Rattle.hex.specs.Hex
 pub use Rattle.kernel_core.specs.Kernel
 pub use Rattle.kernel_core.specs.Machine
@@ -6,6 +5,7 @@ pub use Rattle.kernel_core.specs.Runs
 pub use Rattle.kernel_core.specs.Start
 pub use Rattle.lwc_base.specs.Faults
 pub use Rattle.lwc_base.specs.Frames
+pub use Rattle.lwc_base.specs.Outcomes
 pub use Rattle.lwc_base.specs.Summaries
 pub use Rattle.lwc_base.specs.World
 pub mod Facts

@@ -4,7 +4,7 @@ use Rattle.std.specs.Option.{option_map, option_map_or}
 use Rattle.std.specs.List.{filter_map, range_with_len}
 use Rattle.lwc_text.specs.declared.fault.InputRule.{InputRule}
 use Rattle.lwc_text.specs.declared.fault.InputRule.TheVariants.{TooLong, BadThread, TooManySteps}
-use Rattle.byte_reading.specs.Outcomes.{Refusal, unless_refused}
+use Rattle.lwc_base.specs.Outcomes.{Refusal, unless_refused}
 use Rattle.lwc_base.specs.declared.limits.TheConstants.{MOST_SCHEDULE_BYTES}
 
 -- whether a byte is skipped: a space, a carriage return or a line feed

@@ -2,13 +2,13 @@
 use Rattle.std.specs.Prelude.{◌≡◌, ℕ, zero, suc, ◌+◌, ◌&&◌, not, nat_lt, ◌==◌, if◌then◌else◌, List, [], ◌∷◌, ◌++◌, length, take, drop, Option, Some, None, Result, Ok, Err, is_some}
 use Rattle.std.specs.Int.{w32, from_le_bytes}
 use Rattle.std.specs.List.{flat_map}
-use Rattle.byte_reading.specs.Outcomes.{Refusal, ◌>>=◌}
 use Rattle.guest_image.specs.Limits.{IsVault}
 use Rattle.guest_image.specs.Numbers.{is_above}
 use Rattle.guest_image.specs.Spelling.{number, page}
 use Rattle.guest_image.specs.declared.image.PageImage.{PageImage}
 use Rattle.guest_image.specs.declared.image.TheConstants.{MOST_VAULT_PAGES}
 use Rattle.guest_image.specs.declared.image.Vault.{Vault}
+use Rattle.lwc_base.specs.Outcomes.{Refusal, ◌>>=◌}
 use Rattle.lwc_text.specs.declared.fault.InputRule.{InputRule}
 use Rattle.lwc_text.specs.declared.fault.InputRule.TheVariants.{TooLong, Truncated, BadEntry, BadPage}
 use Rattle.lwc_text.specs.declared.vault.TheConstants.{MOST_VAULT_BYTES, NUMBER_BYTES, NUMBERED_PAGE_BYTES}

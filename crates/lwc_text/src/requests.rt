@@ -2,16 +2,17 @@
 
 ghost use Rattle.std.specs.Prelude.{◌≡◌, ◌<◌, ◌≤◌, ◌+◌, ◌^◌, ◌∷◌, ◌==◌, ℕ, List, length, IfErr, IfOk, IfSome};
 ghost use Rattle.std.specs.Prelude.{OnOk, None, Some, Ok};
-ghost use Rattle.byte_reading.specs.Outcomes.{Answers, Fails, IsFound, unless_refused};
-ghost use Rattle.byte_reading.specs.declared.error.ReadError.TheVariants.{OutOfMemory};
 ghost use Rattle.hex.specs.Hex as digits;
+ghost use Rattle.lwc_base.specs.Outcomes.{Answers, Fails, IsFound, unless_refused};
+ghost use Rattle.lwc_base.specs.declared.reading.ReadError.TheVariants.{OutOfMemory};
 ghost use Rattle.lwc_text.specs.Requests as spec;
 
 use crate::fault::{InputFault, InputRule};
 use crate::file_lines::next_line;
-use byte_reading::ReadError;
 use hex::FromHexError;
-use lwc_base::{MOST_REQUEST_BYTES, MOST_REQUEST_FILE_BYTES, MOST_REQUESTS, Requests, Sequence};
+use lwc_base::{
+    MOST_REQUEST_BYTES, MOST_REQUEST_FILE_BYTES, MOST_REQUESTS, ReadError, Requests, Sequence,
+};
 use std::alloc::Global;
 
 /// Reads requests, one a line: hexadecimal digits in either case, two for each byte (`IsRequestFile`). A line

@@ -3,15 +3,14 @@
 ghost use Rattle.std.specs.Prelude.{◌≡◌, ◌≤◌, ◌<◌, ◌++◌, ◌∷◌, ℕ, List, [], ◌↔◌, IsTrue, length, All};
 ghost use Rattle.std.specs.Prelude.{slice_get, take, ◌+◌, IfOk, IfErr, OnOk, Some, None, Ok};
 ghost use Rattle.std.specs.Option.{option_map};
-ghost use Rattle.byte_reading.specs.Outcomes.{Answers, Fails, IsFound, unless_refused};
-ghost use Rattle.byte_reading.specs.declared.error.ReadError.TheVariants.{OutOfMemory};
+ghost use Rattle.lwc_base.specs.Outcomes.{Answers, Fails, IsFound, unless_refused};
 ghost use Rattle.lwc_base.specs.declared.limits.TheConstants.{MOST_STEPS, MOST_THREADS};
+ghost use Rattle.lwc_base.specs.declared.reading.ReadError.TheVariants.{OutOfMemory};
 ghost use Rattle.lwc_text.specs.Schedules.{IsSchedule, digit_number, is_blank, names_thread, numbers};
 ghost use Rattle.lwc_text.specs.Schedules.{refusal_of, refusals, rule_broken, schedule_at};
 
 use crate::fault::{InputFault, InputRule};
-use byte_reading::ReadError;
-use lwc_base::{MOST_SCHEDULE_BYTES, MOST_STEPS};
+use lwc_base::{MOST_SCHEDULE_BYTES, MOST_STEPS, ReadError};
 use std::alloc::Global;
 use std::marker::Model;
 

@@ -1,18 +1,17 @@
 //! Vault files: where a vault is entered, and its pages.
 
 ghost use Rattle.std.specs.Prelude.{◌≡◌, ◌≤◌, ◌+◌, None, Some, IfErr, IfOk, drop, length};
-ghost use Rattle.byte_reading.specs.Outcomes.{Answers};
-ghost use Rattle.byte_reading.specs.declared.error.ReadError.TheVariants.{OutOfMemory};
 ghost use Rattle.guest_image.specs.declared.image.TheConstants.{MOST_VAULT_PAGES};
 ghost use Rattle.guest_image.specs.declared.image.Vault as vaults;
 ghost use Rattle.guest_image.specs.Numbers.{is_above};
+ghost use Rattle.lwc_base.specs.Outcomes.{Answers};
 ghost use Rattle.lwc_base.specs.declared.limits.TheConstants.{MOST_PAGES};
+ghost use Rattle.lwc_base.specs.declared.reading.ReadError.TheVariants.{OutOfMemory};
 ghost use Rattle.lwc_text.specs.VaultFiles as spec;
 
 use crate::fault::{InputFault, InputRule};
-use byte_reading::ReadError;
 use guest_image::{MOST_VAULT_PAGES, PageImage, Vault};
-use lwc_base::{PAGE_BYTES, PageBytes, PageNumber, Sequence};
+use lwc_base::{PAGE_BYTES, PageBytes, PageNumber, ReadError, Sequence};
 use std::alloc::Global;
 
 /// The number of bytes of a number.

@@ -6,7 +6,7 @@ use Rattle.std.proofs.lemmas.List.Elements.{All-append, All-get_or, All-nil, All
 use Rattle.std.specs.Prelude.{nat_lt}
 use Rattle.std.specs.List.{range_with_len}
 use Rattle.std.specs.Option.{option_map}
-use Rattle.byte_reading.specs.Outcomes.{Refusal}
+use Rattle.lwc_base.specs.Outcomes.{Refusal}
 use Rattle.guest_asm.specs.Drafts.{assembled}
 use Rattle.guest_image.specs.Limits.{IsImage, lifted, pages_of}
 use Rattle.guest_image.specs.Reading.{image_at}

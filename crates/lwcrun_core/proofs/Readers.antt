@@ -4,9 +4,9 @@ use Rattle.std.specs.Prelude.{nat_lt}
 use Rattle.std.specs.Result.{IsErr, IsErrAnd}
 use Rattle.std.proofs.lemmas.Bool.{le-ltb, lt-ltb, ltb-false}
 use Rattle.std.proofs.lemmas.Bool.Decides.{nat_tests}
-use Rattle.byte_reading.specs.Outcomes.{Refusal, Fails}
-use Rattle.byte_reading.specs.declared.error.ReadError.{ReadError}
-use Rattle.byte_reading.specs.declared.error.ReadError.TheVariants as errors
+use Rattle.lwc_base.specs.Outcomes.{Refusal, Fails}
+use Rattle.lwc_base.specs.declared.reading.ReadError.{ReadError}
+use Rattle.lwc_base.specs.declared.reading.ReadError.TheVariants as errors
 use Rattle.guest_asm.specs.Drafts.{assembled, draft_at}
 use Rattle.guest_asm.specs.declared.error.SourceRule.TheVariants as sources
 use Rattle.guest_image.specs.Reading.{image_at}

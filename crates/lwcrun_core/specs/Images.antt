@@ -1,6 +1,6 @@
 -- The inputs of a call.
 use Rattle.std.specs.Prelude.{ℕ, ◌+◌, ◌*◌, if◌then◌else◌, nat_lt, length, List, Result, Ok, Err}
-use Rattle.byte_reading.specs.Outcomes.{Refusal}
+use Rattle.lwc_base.specs.Outcomes.{Refusal}
 use Rattle.guest_asm.specs.Drafts.{assembled}
 use Rattle.guest_image.specs.declared.image.Image.{Image}
 use Rattle.guest_image.specs.declared.image.Vault.{Vault}

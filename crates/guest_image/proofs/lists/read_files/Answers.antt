@@ -1,7 +1,7 @@
 use Rattle.std.proofs.Common.{length, refl}
 use Rattle.std.proofs.lemmas.Result.{err_from_is_err_and}
 use Rattle.std.proofs.lemmas.List.Sums.{sum_by_push}
-use Rattle.byte_reading.specs.Outcomes.{Fails}
+use Rattle.lwc_base.specs.Outcomes.{Fails}
 use Rattle.lwc_base.specs.declared.channels.FileImage.{FileImage}
 use Rattle.guest_image.specs.Reading.{next_file}
 use Rattle.guest_image.proofs.Loops.{continues, ends, is_done}

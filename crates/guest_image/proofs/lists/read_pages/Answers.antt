@@ -1,10 +1,10 @@
 use Rattle.std.proofs.Common.{sym, refl}
 use Rattle.std.proofs.lemmas.Result.{err_from_is_err_and}
-use Rattle.byte_reading.specs.Outcomes.{Fails}
 use Rattle.guest_image.specs.Reading.{next_page}
 use Rattle.guest_image.proofs.Loops.{continues, ends, is_done}
 use Rattle.guest_image.proofs.Push.{last_page, page_ranges}
 use Rattle.guest_image.proofs.lists.read_pages.Goals as goal
+use Rattle.lwc_base.specs.Outcomes.{Fails}
 
 pub returns-in_err-page : goal.returns-in_err-page
 returns-in_err-page c =

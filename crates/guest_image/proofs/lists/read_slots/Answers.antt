@@ -1,10 +1,10 @@
 use Rattle.std.proofs.Common.{sym}
 use Rattle.std.proofs.lemmas.Result.{err_from_is_err_and}
-use Rattle.byte_reading.specs.Outcomes.{Fails}
 use Rattle.guest_image.specs.Reading.{next_slot}
 use Rattle.guest_image.proofs.Loops.{continues, ends, is_done}
 use Rattle.guest_image.proofs.Push.{last_slot}
 use Rattle.guest_image.proofs.lists.read_slots.Goals as goal
+use Rattle.lwc_base.specs.Outcomes.{Fails}
 
 pub returns-in_err-slot : goal.returns-in_err-slot
 returns-in_err-slot c =

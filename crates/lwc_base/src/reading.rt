@@ -1,7 +1,7 @@
 ghost use Rattle.std.specs.Prelude.{◌≡◌};
-ghost use Rattle.byte_reading.specs.declared.error.ReadError.TheVariants.{OutOfMemory};
+ghost use Rattle.lwc_base.specs.declared.reading.ReadError.TheVariants.{OutOfMemory};
 
-use lwc_base::OutOfMemory as NoMemory;
+use crate::memory::OutOfMemory as NoMemory;
 use std::alloc::{AllocError, AllocFailed};
 
 /// Why bytes were not read: memory ran out, or they break a rule, the first of them at this offset.
