@@ -1,5 +1,5 @@
 use std::alloc::Global;
-use std::{io, iter};
+use std::io;
 
 /// How the outside of a call behaves: which fetch fails, how many bytes a write takes at most, and which write
 /// fails, each counted from 0 on.
@@ -55,14 +55,14 @@ impl Case {
         match word {
             "line" => self.lines.push(String::from_str(alloc, rest)?)?,
             "schedule" => self.schedule.push_str(rest)?,
-            "requests" => append_lines(&mut self.requests, rest.split(' '))?,
+            "requests" => append_parts(&mut self.requests, rest, " ")?,
             "vault" => self.vault = vault_bytes(alloc, rest)?,
-            "script" => append_lines(&mut self.script, rest.split(", "))?,
+            "script" => append_parts(&mut self.script, rest, ", ")?,
             "guest" => self.guest = Some(hex::decode(alloc, rest).unwrap_or(Vec::new(alloc))),
             "fetch" => self.outside.fetch = number_in(rest),
             "most" => self.outside.most = number_in(rest) as usize,
             "write" => self.outside.write = number_in(rest),
-            _ => append_lines(&mut self.source, iter::once(line))?,
+            _ => append_parts(&mut self.source, line, "\n")?,
         }
         Ok(())
     }
@@ -79,11 +79,11 @@ pub fn take_line(alloc: Global, cases: &mut Vec<Case>, line: &str) -> io::Result
     Ok(())
 }
 
-/// Appends lines.
-fn append_lines<'a>(text: &mut String, lines: impl Iterator<Item = &'a str>) -> io::Result<()> {
-    for line in lines {
-        text.push_str(line)?;
-        text.push_str("\n")?;
+/// Appends the parts of a text between separators, each as a line.
+fn append_parts(lines: &mut String, text: &str, separator: &str) -> io::Result<()> {
+    for part in text.split(separator) {
+        lines.push_str(part)?;
+        lines.push_str("\n")?;
     }
     Ok(())
 }

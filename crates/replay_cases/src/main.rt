@@ -39,10 +39,12 @@ fn replay_of(alloc: Global, words: &str) -> Result<Option<String>, AllocError> {
     }
 }
 
-/// A text in two parts, of which the second is its last word with the blank before it.
-fn parted(text: &[u8]) -> (&[u8], &[u8]) {
-    let at = text.iter().rposition(|byte| *byte == b' ').unwrap_or(0);
-    text.split_at_checked(at).unwrap_or((text, &[]))
+/// The last word of a text, with the blank before it, which a schedule may have.
+fn last_word(text: &[u8]) -> &[u8] {
+    match text.iter().rposition(|byte| *byte == b' ') {
+        Some(at) => text.get(at..).unwrap_or(&[]),
+        None => &[],
+    }
 }
 
 /// How what was written differs from what another way gives, a line for each.
@@ -70,7 +72,7 @@ fn differences<R: AllocGlobal + Threads + Wait + Sync>(
         }
     }
     if let Some(line) = replay_of(alloc, words)? {
-        let files = files_of(alloc, case, guest, parted(left.out.bytes()).1)?;
+        let files = files_of(alloc, case, guest, last_word(left.out.bytes()))?;
         if call(rt, line.as_str(), files, SURE)?.out.bytes() != left.out.bytes() {
             found.push("its replay differs")?;
         }
@@ -86,21 +88,29 @@ fn shown(alloc: Global, line: &str) -> Result<String, AllocError> {
     }
 }
 
-/// Appends the lines of bytes as they are printed: those of a text, or else one of their hexadecimal digits.
-fn append_shown(alloc: Global, lines: &mut Vec<String>, bytes: &[u8]) -> Result<(), AllocError> {
+/// Appends the lines of bytes as they are printed: those of a text, or else one of their hexadecimal digits. Of what
+/// threads make by themselves the lines from `peak` on are left out, since they tell which thread came first.
+fn append_shown(
+    alloc: Global,
+    lines: &mut Vec<String>,
+    bytes: &[u8],
+    is_by_threads: bool,
+) -> Result<(), AllocError> {
     let text = if bytes.contains(&0) {
         hex::encode(alloc, bytes)?
     } else {
         String::from_utf8_lossy(alloc, bytes)?
     };
     for line in text.lines() {
+        if is_by_threads && line.starts_with("peak ") {
+            break;
+        }
         lines.push(shown(alloc, line)?)?;
     }
     Ok(())
 }
 
-/// Calls the program on one line of a case. The answer is the lines that are printed of it. The steps that threads
-/// make by themselves are not among them.
+/// Calls the program on one line of a case. The answer is the lines that are printed of it.
 fn answer<R: AllocGlobal + Threads + Wait + Sync>(
     rt: &R,
     case: &Case,
@@ -111,14 +121,9 @@ fn answer<R: AllocGlobal + Threads + Wait + Sync>(
     let files = files_of(alloc, case, guest, case.schedule.as_bytes())?;
     let left = call(rt, words, files, case.outside)?;
     let mut lines = Vec::new(alloc);
-    let out = left.out.bytes();
-    let is_replayed = replay_of(alloc, words)?.is_some();
-    append_shown(
-        alloc,
-        &mut lines,
-        if is_replayed { parted(out).0 } else { out },
-    )?;
-    append_shown(alloc, &mut lines, left.err.bytes())?;
+    let is_by_threads = replay_of(alloc, words)?.is_some();
+    append_shown(alloc, &mut lines, left.out.bytes(), is_by_threads)?;
+    append_shown(alloc, &mut lines, left.err.bytes(), false)?;
     if left.status == ExitStatus::Ok {
         for difference in differences(rt, case, guest, words, &left)? {
             lines.push(String::from_str(alloc, difference)?)?;
