@@ -1,3 +1,5 @@
+//! Stored cases, as they are read.
+
 use std::alloc::Global;
 use std::io;
 
@@ -19,7 +21,7 @@ pub const SURE: Outside = Outside {
 
 /// Lines that are called over the same files: what they show, the words after the program's name of each, the
 /// schedule, the file of requests, the vault's file, the script, the source of the guest, the guest itself where it
-/// is not made from the source, and how the outside behaves.
+/// is not made from the source, how the outside behaves, and whether what is written is not printed.
 #[derive(Drop)]
 pub struct Case {
     pub title: String,
@@ -31,6 +33,7 @@ pub struct Case {
     pub source: String,
     pub guest: Option<Vec<u8>>,
     pub outside: Outside,
+    pub is_quiet: bool,
 }
 
 impl Case {
@@ -46,6 +49,7 @@ impl Case {
             source: String::new(alloc),
             guest: None,
             outside: SURE,
+            is_quiet: false,
         })
     }
 
@@ -62,6 +66,7 @@ impl Case {
             "fetch" => self.outside.fetch = number_in(rest),
             "most" => self.outside.most = number_in(rest) as usize,
             "write" => self.outside.write = number_in(rest),
+            "quiet" => self.is_quiet = true,
             _ => append_parts(&mut self.source, line, "\n")?,
         }
         Ok(())

@@ -1,11 +1,16 @@
-//! Calls the program on stored lines, and prints what it writes. A replay is also made over a world by whole copies,
-//! and by the public call `replay` alone; of a run or a serve the printed steps are replayed.
+//! Calls the program on stored lines, and prints what it writes. Replays, beside a monitor, a vault or a script too,
+//! are also made over a world by whole copies, and plain ones by the public call `replay` alone; of a run or a serve
+//! the printed steps are replayed.
 //!
 //! The input is a list of cases. Each begins with a line `# ` and what it shows. Then come lines of which the first
 //! word says what they have: `line` the words after the program's name, once or more; `schedule` the schedule;
 //! `requests` the requests of a serve, parted by blanks; `vault` a vault's entry and its pages; `script` the commands
 //! of a script, parted by commas; `guest` the guest's bytes in place of a source; `fetch` and `write` the number of
-//! the one that fails; `most` how many bytes a write takes at most. Every other line is one of the guest's source.
+//! the one that fails; `most` how many bytes a write takes at most; `quiet` that what is written is not printed. Every
+//! other line is one of the guest's source. The first file of a run or a serve is `guest`.
+//!
+//! The output has each title; where a case has several lines, the words of each behind `> `; what was written, bytes
+//! with a zero in hexadecimal digits; the message; the status if it is not 0; and a sentence for each difference.
 #![tactic(auto)]
 
 mod calls;
@@ -47,7 +52,7 @@ fn last_word(text: &[u8]) -> &[u8] {
     }
 }
 
-/// How what was written differs from what another way gives, a line for each.
+/// How a call that ended well differs from what other ways give, a line for each.
 fn differences<R: AllocGlobal + Threads + Wait + Sync>(
     rt: &R,
     case: &Case,
@@ -57,16 +62,13 @@ fn differences<R: AllocGlobal + Threads + Wait + Sync>(
 ) -> Result<Vec<&'static str>, AllocError> {
     let alloc = rt.alloc();
     let mut found = Vec::new(alloc);
-    let schedule = case.schedule.as_bytes();
-    if status_in_memory(rt, words, files_of(alloc, case, guest, schedule)?)? != ExitStatus::Ok {
-        found.push("in memory it ends otherwise")?;
-    }
     if let Some(text) = text_over_copies(alloc, guest, case, words)? {
         if text.as_slice() != left.out.bytes() {
             found.push("over whole copies it differs")?;
         }
     }
-    if let Some(text) = text_by_replay(alloc, words, files_of(alloc, case, guest, schedule)?)? {
+    let files = files_of(alloc, case, guest, case.schedule.as_bytes())?;
+    if let Some(text) = text_by_replay(alloc, words, files)? {
         if text.bytes() != left.out.bytes() {
             found.push("by replay alone it differs")?;
         }
@@ -80,6 +82,21 @@ fn differences<R: AllocGlobal + Threads + Wait + Sync>(
     Ok(found)
 }
 
+/// Whether the program ends otherwise over files that never fail, where neither a fetch nor a write has failed.
+fn ends_otherwise<R: AllocGlobal + Threads + Wait + Sync>(
+    rt: &R,
+    case: &Case,
+    guest: &[u8],
+    words: &str,
+    status: ExitStatus,
+) -> Result<bool, AllocError> {
+    if status == ExitStatus::ReadFault || status == ExitStatus::WriteFault {
+        return Ok(false);
+    }
+    let files = files_of(rt.alloc(), case, guest, case.schedule.as_bytes())?;
+    Ok(status_in_memory(rt, words, files)? != status)
+}
+
 /// A line as it is printed: the beginning of a long one, and its length.
 fn shown(alloc: Global, line: &str) -> Result<String, AllocError> {
     match line.get(..LINE_START) {
@@ -88,8 +105,8 @@ fn shown(alloc: Global, line: &str) -> Result<String, AllocError> {
     }
 }
 
-/// Appends the lines of bytes as they are printed: those of a text, or else one of their hexadecimal digits. Of what
-/// threads make by themselves the lines from `peak` on are left out, since they tell which thread came first.
+/// Appends the lines of bytes as they are printed: those of a text, or else one of their hexadecimal digits. Where
+/// several threads made the steps, the lines from `peak` on are left out, since they tell which thread came first.
 fn append_shown(
     alloc: Global,
     lines: &mut Vec<String>,
@@ -121,8 +138,12 @@ fn answer<R: AllocGlobal + Threads + Wait + Sync>(
     let files = files_of(alloc, case, guest, case.schedule.as_bytes())?;
     let left = call(rt, words, files, case.outside)?;
     let mut lines = Vec::new(alloc);
-    let is_by_threads = replay_of(alloc, words)?.is_some();
-    append_shown(alloc, &mut lines, left.out.bytes(), is_by_threads)?;
+    let steps = last_word(left.out.bytes());
+    let is_by_threads = replay_of(alloc, words)?.is_some()
+        && !steps.iter().all(|digit| b" 0\n".contains(digit));
+    if !case.is_quiet {
+        append_shown(alloc, &mut lines, left.out.bytes(), is_by_threads)?;
+    }
     append_shown(alloc, &mut lines, left.err.bytes(), false)?;
     if left.status == ExitStatus::Ok {
         for difference in differences(rt, case, guest, words, &left)? {
@@ -130,6 +151,9 @@ fn answer<R: AllocGlobal + Threads + Wait + Sync>(
         }
     } else {
         lines.push(format!(in alloc; "status {}", left.status.number())?)?;
+    }
+    if ends_otherwise(rt, case, guest, words, left.status)? {
+        lines.push(String::from_str(alloc, "in memory it ends otherwise")?)?;
     }
     Ok(lines)
 }

@@ -1,3 +1,5 @@
+//! The same replays over a world by whole copies.
+
 ghost use Rattle.guest_image.specs.Limits.{IsImage};
 ghost use Rattle.kernel_core.specs.Kernel.{MayHave};
 ghost use Rattle.kernel_core.specs.Settings.{IsSettings};
@@ -16,8 +18,8 @@ use lwcrun_core::{Line, read_line};
 use std::alloc::{AllocError, Global};
 use whole_world::WholeWorld;
 
-/// What a line of a case writes over a world by whole copies, or nothing if it asks for no replay, or its files are
-/// refused.
+/// What a line of a case writes over a world by whole copies, or nothing if it asks for no replay, or its image or its
+/// requests are refused. Where another file is refused the text is empty.
 pub fn text_over_copies(
     alloc: Global,
     guest: &[u8],
@@ -66,7 +68,7 @@ pub fn text_over_copies(
     Ok(Some(text))
 }
 
-/// The report of the schedule's steps over a world by whole copies. Digits that name no thread are left out.
+/// The report of the schedule's steps over a world by whole copies. Bytes but the digits 0 to 9 of threads are left out.
 fn steps_over_copies(
     alloc: Global,
     image: &Image,
