@@ -10,6 +10,7 @@ use lazy_world::LazyWorld;
 use lwc_base::ThreadStatus;
 use process_core::{Process, ProcessPass, ProcessPasses};
 use std::alloc::AllocError;
+use std::sync::Wait;
 use std::test::Fail;
 
 /// The passes of two threads, and the vector that had them.
@@ -58,22 +59,55 @@ fn close_both(
     Ok(process.close(passes))
 }
 
+/// One turn of a pass: how it left its thread, and the thread's register 6.
+fn turned<R: Wait>(
+    rt: &R,
+    process: &Process<LazyWorld>,
+    pass: &mut ProcessPass<LazyWorld>,
+) -> (ThreadStatus, u64)
+    requires { IsPassOf process.now pass.old }
+    ensures ours { IsPassOf process.now pass.new }
+    ensures number { pass.new.held.number ≡ pass.old.held.number }
+{
+    let turn = process.turn(rt, pass, None);
+    (turn.status, turn.regs.r[6])
+}
+
+/// Two turns of each pass by turns, and one more of the first: the steps that the second pass sees after the first
+/// turn, and what each turn after that answers.
+fn turns_of_both<R: Wait>(
+    rt: &R,
+    process: &Process<LazyWorld>,
+    zero: &mut ProcessPass<LazyWorld>,
+    one: &mut ProcessPass<LazyWorld>,
+) -> (u64, [(ThreadStatus, u64); 4])
+    requires { IsPassOf process.now zero.old × IsPassOf process.now one.old }
+    ensures ours { IsPassOf process.now zero.new × IsPassOf process.now one.new }
+    ensures zero { zero.new.held.number ≡ zero.old.held.number }
+    ensures one { one.new.held.number ≡ one.old.held.number }
+{
+    turned(rt, process, zero);
+    let seen = steps_so_far(process, one);
+    let loaded = turned(rt, process, one);
+    let ended = turned(rt, process, zero);
+    let other = turned(rt, process, one);
+    (seen, [loaded, ended, other, turned(rt, process, zero)])
+}
+
 #[test]
 fn passes_make_one_history(rt: HostRuntime) -> Result<(), Fail> {
     let kernel = run_of_two(rt.alloc())?;
     assert!(rt; kernel.thread_count() == 2 && kernel.work() == kernel.room());
     let (process, passes) = Process::open(rt.alloc(), kernel)?;
     let (mut zero, mut one, rest) = two_passes(&process, passes);
-    let done = ThreadStatus::Done { code: 0 };
-    process.turn(&rt, &mut zero, None);
-    assert_eq!(rt; steps_so_far(&process, &mut one), 1);
-    assert_eq!(rt; process.turn(&rt, &mut one, None).regs.r[6], 7);
-    let ended = process.turn(&rt, &mut zero, None);
-    assert_eq!(rt; ended.status, done);
-    assert_eq!(rt; process.turn(&rt, &mut one, None).status, done);
-    let again = process.turn(&rt, &mut zero, None);
-    assert_eq!(rt; (again.status, again.regs), (ended.status, ended.regs));
+    let (seen, turns) = turns_of_both(&rt, &process, &mut zero, &mut one);
     let kernel = close_both(process, rest, zero, one)?;
     assert_eq!(rt; kernel.schedule(), [0, 1, 0, 1].as_slice());
+    let done = ThreadStatus::Done { code: 0 };
+    assert_eq!(rt; seen, 1);
+    assert_eq!(rt;
+        turns,
+        [(ThreadStatus::Running, 7), (done, 0), (done, 7), (done, 0)]
+    );
     Ok(())
 }
