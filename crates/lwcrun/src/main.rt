@@ -1,7 +1,7 @@
 //! `lwcrun`: runs a guest image under a schedule, and prints what it did.
 #![tactic(auto)]
 
-ghost use Rattle.std.specs.Prelude.{◌≡◌, ◌≢◌, [], IfErr, IfOk, IsOkAnd, Ok};
+ghost use Rattle.std.specs.Prelude.{◌≡◌, ◌≢◌, [], Err, IfErr, IfOk, IsOkAnd, Ok};
 ghost use Rattle.std.specs.IoError.{error_kind};
 
 use crate::progress::{ClearingSink, Progress};
@@ -22,11 +22,13 @@ fn words<R: Env + AllocGlobal>(rt: &R) -> io::Result<Vec<String>> {
     Ok(env::args(rt)?.collect(rt.alloc())?)
 }
 
-/// The words that were read, or none if they are not UTF-8: a line of no words is not accepted.
+/// The words that were read, or none if they are not UTF-8: a line of no words is not accepted. The only error is out
+/// of memory.
 fn words_or_none(alloc: Global, words: io::Result<Vec<String>>) -> io::Result<Vec<String>>
     ensures read { IfOk words (λ read. result ≡ Ok read) }
     ensures other { IfErr words (λ error. error_kind error ≢ ErrorKind.OutOfMemory
         → IsOkAnd result (λ none. none.items ≡ [])) }
+    ensures memory { IfErr words (λ error. error_kind error ≡ ErrorKind.OutOfMemory → result ≡ Err error) }
 {
     match words {
         Err(error) if error.kind() != ErrorKind::OutOfMemory => Ok(Vec::new(alloc)),
