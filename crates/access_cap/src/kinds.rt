@@ -11,7 +11,7 @@ use bitflags::{Flag, Flags, bitflag_items};
 use lwc_base::{Cap, Kind, PageNumber};
 
 /// Kinds of keys: the pages of the memory, the slots, the credential.
-#[derive(Clone, Copy, Debug, PartialEq, Eq)]
+#[derive(Clone, Copy, PartialEq, Eq)]
 pub struct Mask(u8);
 
 bitflag_items! {

@@ -21,7 +21,7 @@ use range_map::RangeMap;
 use std::sync::ledger::Ledger;
 
 /// What the pages of a page run get.
-#[derive(Clone, Copy, Debug, PartialEq, Eq)]
+#[derive(Clone, Copy, PartialEq, Eq)]
 pub enum Origin {
     /// They become absent.
     Absent,
@@ -36,7 +36,7 @@ pub enum Origin {
 
 /// The pages of a range, what they get, and the right of those that are present then: without one the right
 /// that the place that is copied has there, and `Write` if none is copied.
-#[derive(Clone, Copy, Debug, PartialEq, Eq)]
+#[derive(Clone, Copy, PartialEq, Eq)]
 pub struct PageRun {
     pub range: Range,
     pub origin: Origin,

@@ -13,7 +13,7 @@ use crate::numbers::{number_of, register_of};
 use crate::words::{is_name, next_word};
 
 /// A field of an instruction, which an operand gives.
-#[derive(Clone, Copy, Debug, PartialEq, Eq)]
+#[derive(Clone, Copy, PartialEq, Eq)]
 pub enum Field {
     /// The register that is written.
     Rd,
@@ -26,7 +26,7 @@ pub enum Field {
 }
 
 /// A number, or the label that stands for one.
-#[derive(Clone, Copy, Debug)]
+#[derive(Clone, Copy)]
 pub(crate) enum Immediate<'a> {
     Value(u32),
     Label(&'a [u8]),

@@ -3,7 +3,7 @@
 use lwc_base::Sequence;
 
 /// A page: its number, and its first bytes.
-#[derive(Debug, Drop)]
+#[derive(Drop)]
 pub struct PageDraft {
     /// The number.
     pub number: u32,
@@ -12,7 +12,7 @@ pub struct PageDraft {
 }
 
 /// A file: its owner, whether it is public, and its bytes.
-#[derive(Debug, Drop)]
+#[derive(Drop)]
 pub struct FileDraft {
     /// The uid of the owner.
     pub owner: u32,
@@ -23,7 +23,7 @@ pub struct FileDraft {
 }
 
 /// A slot that is filled from the start, and its file's place in the list of files.
-#[derive(Clone, Copy, Debug)]
+#[derive(Clone, Copy)]
 pub struct SlotDraft {
     /// The slot.
     pub slot: u32,

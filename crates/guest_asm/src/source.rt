@@ -23,7 +23,7 @@ use std::alloc::Global;
 use std::collections::HashMap;
 
 /// The use of a label, and the offset of its line.
-#[derive(Clone, Copy, Debug)]
+#[derive(Clone, Copy)]
 pub(crate) struct Use<'a> {
     pub(crate) at: u64,
     pub(crate) name: &'a [u8],

@@ -20,7 +20,7 @@ use guest_isa::{Instr, Op};
 use lwc_base::PAGE_BYTES;
 
 /// What a line says beside its label. The bytes of a page and of a file are still hexadecimal.
-#[derive(Clone, Copy, Debug)]
+#[derive(Clone, Copy)]
 pub(crate) enum Statement<'a> {
     Instruction(Instr, Immediate<'a>),
     Uid(u32),
@@ -32,7 +32,7 @@ pub(crate) enum Statement<'a> {
 }
 
 /// A line: its label and its statement.
-#[derive(Clone, Copy, Debug)]
+#[derive(Clone, Copy)]
 pub(crate) struct Line<'a> {
     pub(crate) label: Option<&'a [u8]>,
     pub(crate) statement: Option<Statement<'a>>,

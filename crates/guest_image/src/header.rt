@@ -12,7 +12,7 @@ use crate::reader::Reader;
 use lwc_base::{MOST_FILES, MOST_IMAGE_SLOTS, MOST_INSTRUCTIONS, MOST_THREADS, ReadError};
 
 /// The number of values of each list, and the uid.
-#[derive(Clone, Copy, Debug)]
+#[derive(Clone, Copy)]
 pub(crate) struct Header {
     pub(crate) instructions: u32,
     pub(crate) pages: u32,

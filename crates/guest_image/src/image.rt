@@ -51,7 +51,7 @@ impl Form {
 }
 
 /// A page of an image: its number and its bytes.
-#[derive(Debug, Drop)]
+#[derive(Drop)]
 pub struct PageImage {
     /// The number, below the pages of the image's form.
     pub number: PageNumber,
@@ -60,7 +60,7 @@ pub struct PageImage {
 }
 
 /// A slot that is filled from the start, with a file of the image.
-#[derive(Clone, Copy, Debug, PartialEq, Eq)]
+#[derive(Clone, Copy, PartialEq, Eq)]
 pub struct SlotImage {
     /// The slot, from `FIRST_SLOT` on.
     pub slot: SlotNumber,
@@ -69,7 +69,7 @@ pub struct SlotImage {
 }
 
 /// A guest and what it starts with.
-#[derive(Debug, Drop)]
+#[derive(Drop)]
 pub struct Image {
     /// The form, which says how many pages there may be.
     pub form: Form,
@@ -88,7 +88,7 @@ pub struct Image {
 }
 
 /// A secret beside an image: where it is entered, and what it holds.
-#[derive(Debug, Drop)]
+#[derive(Drop)]
 pub struct Vault {
     /// Where a thread enters it: a place in the image's text.
     pub entry: u32,

@@ -6,7 +6,7 @@ use std::alloc::{AllocError, Global};
 use std::marker::Model;
 
 /// The instructions of a program: 1 to 65536 of them.
-#[derive(Debug, Drop)]
+#[derive(Drop)]
 pub struct Text {
     list: Vec<Instr>,
 }

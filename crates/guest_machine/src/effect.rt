@@ -7,7 +7,7 @@ use guest_isa::{Instr, Op};
 use lwc_base::Regs;
 
 /// What a private instruction does. Unless it says otherwise, pc grows by one, modulo 2^64.
-#[derive(Clone, Copy, Debug, PartialEq, Eq)]
+#[derive(Clone, Copy, PartialEq, Eq)]
 pub enum Effect {
     /// rd gets the number.
     Puts(u64),

@@ -13,7 +13,7 @@ pub enum Next {
 }
 
 /// How far a thread came by private instructions.
-#[derive(Clone, Copy, Debug, PartialEq, Eq)]
+#[derive(Clone, Copy, PartialEq, Eq)]
 pub struct Advance {
     /// The registers before the first instruction.
     pub before: Regs,

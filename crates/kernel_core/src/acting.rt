@@ -22,7 +22,7 @@ use snapshot_host::begin;
 use world_face::World;
 
 /// What a step has changed.
-#[derive(Clone, Copy, Debug, PartialEq, Eq)]
+#[derive(Clone, Copy, PartialEq, Eq)]
 pub enum Change {
     /// Not the world, and not the context that the thread is in.
     Thread,
@@ -33,7 +33,7 @@ pub enum Change {
 }
 
 /// What a step has changed, and the number of the request that it has finished, if it has.
-#[derive(Clone, Copy, Debug, PartialEq, Eq)]
+#[derive(Clone, Copy, PartialEq, Eq)]
 pub struct Effect {
     pub change: Change,
     pub finished: Option<u16>,

@@ -1,12 +1,12 @@
 /// What a kernel does: it runs the threads of its image, or workers serve requests.
-#[derive(Clone, Copy, Debug, PartialEq, Eq)]
+#[derive(Clone, Copy, PartialEq, Eq)]
 pub enum Job {
     Run,
     Serve { workers: u32 },
 }
 
 /// How a kernel is set up (`IsSettings` has the limits).
-#[derive(Clone, Copy, Debug, PartialEq, Eq)]
+#[derive(Clone, Copy, PartialEq, Eq)]
 pub struct Settings {
     /// The number of frames.
     pub frames: u32,

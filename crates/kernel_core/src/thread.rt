@@ -9,7 +9,7 @@ use snapshot_host::Finished;
 
 /// A thread: its status, the context that it is in, its registers, the job that it acts for, and the number
 /// of steps that it may still make.
-#[derive(Clone, Copy, Debug, PartialEq, Eq)]
+#[derive(Clone, Copy, PartialEq, Eq)]
 pub struct Thread {
     pub status: ThreadStatus,
     pub context: Name,
@@ -19,7 +19,7 @@ pub struct Thread {
 }
 
 /// What a step left of its thread: the registers and the status, and the request that it finished, if it did.
-#[derive(Debug, Drop)]
+#[derive(Drop)]
 pub struct Turn {
     pub regs: Regs,
     pub status: ThreadStatus,
@@ -27,7 +27,7 @@ pub struct Turn {
 }
 
 /// What can be seen of a thread: its status, its context and its registers.
-#[derive(Clone, Copy, Debug, PartialEq, Eq)]
+#[derive(Clone, Copy, PartialEq, Eq)]
 pub struct ThreadView {
     pub status: ThreadStatus,
     pub context: Name,

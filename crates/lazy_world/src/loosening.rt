@@ -19,7 +19,7 @@ use fd_table::lowest_bit;
 use lwc_base::{Lent, Name, SlotNumber};
 
 /// The garbage among some contexts, which is what no root reaches, as far as that is seen without a search.
-#[derive(Clone, Copy, Debug, PartialEq, Eq)]
+#[derive(Clone, Copy, PartialEq, Eq)]
 pub enum Garbage {
     /// The roots reach each context that is live.
     Nothing,

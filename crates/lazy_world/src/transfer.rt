@@ -13,7 +13,7 @@ use lwc_base::{Item, MOST_ITEMS, Mode, Name, Range, Right, Spec};
 use range_map::SegmentKind;
 
 /// What a place gets of the cells of a context, by the modes of their keys.
-#[derive(Clone, Copy, Debug, PartialEq, Eq)]
+#[derive(Clone, Copy, PartialEq, Eq)]
 pub enum Transfer {
     /// The context itself: its own values of mode share become common of the group of this name.
     Mark(Name),
@@ -29,7 +29,7 @@ pub enum Transfer {
 
 /// Who has the value of a cell, the place of the group that has it, if that group is live, and the right of a
 /// page that is present.
-#[derive(Clone, Copy, Debug, PartialEq, Eq)]
+#[derive(Clone, Copy, PartialEq, Eq)]
 pub struct Found {
     pub kind: Option<SegmentKind>,
     pub holder: Option<usize>,

@@ -1,7 +1,7 @@
 use crate::name::Name;
 
 /// What a context has under a key: a value of its own, or the name of the group that has the value.
-#[derive(Debug, Drop)]
+#[derive(Drop)]
 pub enum Cell<T> {
     Own(T),
     Common(Name),

@@ -10,7 +10,7 @@ use std::alloc::Global;
 use std::marker::Model;
 
 /// A file of an image: the uid of its owner, whether others may open it, and its bytes.
-#[derive(Debug, Drop)]
+#[derive(Drop)]
 pub struct FileImage {
     pub owner: u32,
     pub public: bool,

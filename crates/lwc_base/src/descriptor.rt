@@ -9,7 +9,7 @@ pub const SLOTS: SlotNumber = 64;
 
 /// An access capability: the set of keys that may be taken from a context. Page p is bit p mod 64 of
 /// `pages[p / 64]`, slot n is bit n of `slots`, and the credential is `cred`.
-#[derive(Clone, Copy, Debug, PartialEq, Eq)]
+#[derive(Clone, Copy, PartialEq, Eq)]
 pub struct Cap {
     pub pages: [u64; 256],
     pub slots: u64,
@@ -17,7 +17,7 @@ pub struct Cap {
 }
 
 /// What a slot of a descriptor table has.
-#[derive(Clone, Copy, Debug, PartialEq, Eq)]
+#[derive(Clone, Copy, PartialEq, Eq)]
 pub enum Descriptor {
     Empty,
     Console,

@@ -15,7 +15,7 @@ pub enum Kind {
 }
 
 /// What a context has a value under: a page of its memory, a slot of its descriptor table, or the credential.
-#[derive(Clone, Copy, Debug, PartialEq, Eq)]
+#[derive(Clone, Copy, PartialEq, Eq)]
 pub enum Key {
     Page(PageNumber),
     Slot(SlotNumber),

@@ -11,7 +11,7 @@ use std::marker::Model;
 pub const PAGE_BYTES: usize = 4096;
 
 /// The bytes of one page, seen as a list of 4096 numbers.
-#[derive(Debug, Drop)]
+#[derive(Drop)]
 pub struct PageBytes {
     bytes: Vec<u8>,
 }
@@ -81,7 +81,7 @@ impl PageBytes {
 }
 
 /// What a page has: zeros, which need no frame, or the bytes of a frame under its tag.
-#[derive(Debug, Drop)]
+#[derive(Drop)]
 pub enum PageValue {
     Zero,
     Data(Tag, PageBytes),

@@ -8,7 +8,7 @@ use crate::key::PageNumber;
 use crate::page::PAGE_BYTES;
 
 /// The pages from `from` up to and without `to`.
-#[derive(Clone, Copy, Debug, Default, PartialEq, Eq)]
+#[derive(Clone, Copy, Default, PartialEq, Eq)]
 pub struct Range {
     pub from: PageNumber,
     pub to: PageNumber,

@@ -1,7 +1,7 @@
 use crate::key::PageNumber;
 
 /// The size of a world: its frames, the most contexts and groups that live at once, its jobs, and its pages.
-#[derive(Clone, Copy, Debug, PartialEq, Eq)]
+#[derive(Clone, Copy, PartialEq, Eq)]
 pub struct WorldSize {
     pub frames: u32,
     pub contexts: u32,

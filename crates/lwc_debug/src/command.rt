@@ -31,7 +31,7 @@ pub enum Command {
 }
 
 /// At most `MOST_COMMANDS` commands, in order.
-#[derive(Debug, Drop)]
+#[derive(Drop)]
 pub struct Script {
     commands: Vec<Command>,
 }

@@ -31,7 +31,7 @@ use world_face::World;
 pub const MOST_DEBUGGED_STEPS: u32 = 100000;
 
 /// A command, the place where it is given, and what it is answered, once that is known.
-#[derive(Debug, Drop)]
+#[derive(Drop)]
 pub(crate) struct Answer {
     pub command: Command,
     pub place: usize,

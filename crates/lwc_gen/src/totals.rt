@@ -8,7 +8,7 @@ use lwc_base::{OutOfMemory, ThreadStatus};
 use std::alloc::Global;
 
 /// What the replies of a generated server add up to.
-#[derive(Clone, Copy, Debug, PartialEq, Eq)]
+#[derive(Clone, Copy, PartialEq, Eq)]
 pub struct Totals {
     /// The number of requests.
     pub requests: u32,

@@ -54,7 +54,7 @@ impl Files for SureFiles {
 }
 
 /// A sink that takes each piece whole and keeps nothing of it. Its writes never fail.
-#[derive(Clone, Copy, Debug, PartialEq, Eq, Default)]
+#[derive(Clone, Copy, PartialEq, Eq, Default)]
 pub struct SureSink;
 
 impl Sink for SureSink {

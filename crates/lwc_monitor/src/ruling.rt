@@ -27,7 +27,7 @@ use lwc_base::{Name, Refusal, SlotNumber};
 use world_face::World;
 
 /// What becomes of a call under traps that is not the kernel's.
-#[derive(Clone, Copy, Debug, PartialEq, Eq)]
+#[derive(Clone, Copy, PartialEq, Eq)]
 pub enum Ruling {
     /// Its thread goes on with this value in r0.
     Answer(u64),

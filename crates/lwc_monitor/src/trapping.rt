@@ -18,7 +18,7 @@ use world_face::World;
 pub const ALL_KINDS: u64 = 7;
 
 /// Why a context is not trapped.
-#[derive(Clone, Copy, Debug, PartialEq, Eq)]
+#[derive(Clone, Copy, PartialEq, Eq)]
 pub enum TrapRefusal {
     /// As other calls are refused.
     Plain(Refusal),

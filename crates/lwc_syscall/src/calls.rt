@@ -13,7 +13,7 @@ use lwc_base::{Channels, Name, OutOfMemory, Refusal};
 use world_face::World;
 
 /// The contexts of a call: one for the memory, one for the slots, and one for the credential.
-#[derive(Clone, Copy, Debug, PartialEq, Eq)]
+#[derive(Clone, Copy, PartialEq, Eq)]
 pub struct CallContexts {
     pub memory: Name,
     pub slots: Name,

@@ -2,7 +2,7 @@ ghost use Rattle.std.specs.Prelude.{◌≡◌};
 ghost use Rattle.lwc_syscall.specs.Plain as spec;
 
 /// A plain call: one of a context's files, console, pages and credential, or the end of its thread.
-#[derive(Clone, Copy, Debug, PartialEq, Eq)]
+#[derive(Clone, Copy, PartialEq, Eq)]
 pub enum PlainCall {
     Open,
     Close,

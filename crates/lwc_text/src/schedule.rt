@@ -19,7 +19,7 @@ const CHUNK: usize = 64;
 
 /// The steps to make, each the number of the thread that makes it: at most `MOST_STEPS`, each below
 /// `MOST_THREADS`.
-#[derive(Debug, Drop)]
+#[derive(Drop)]
 pub struct Schedule {
     steps: Vec<u8>,
 }

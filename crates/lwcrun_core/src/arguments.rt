@@ -10,7 +10,7 @@ use clap::{Arg, ArgMatches, Command};
 use std::alloc::{AllocError, Global};
 
 /// The mode, the words behind it and the values of the options, as far as they are given.
-#[derive(Clone, Copy, Debug)]
+#[derive(Clone, Copy)]
 pub struct Arguments<'a> {
     pub mode: Option<&'a str>,
     pub first: Option<&'a str>,

@@ -7,7 +7,7 @@ use guest_image::{ImageFault, ImageRule};
 use lwc_text::{InputFault, InputRule};
 
 /// Why an input was refused.
-#[derive(Clone, Copy, Debug, PartialEq, Eq)]
+#[derive(Clone, Copy, PartialEq, Eq)]
 pub enum Rejection {
     /// The image is not in its grammar or limits: the rule that it breaks first, and the offset where it
     /// does.
@@ -23,7 +23,7 @@ pub enum Rejection {
 }
 
 /// How a call ends.
-#[derive(Clone, Copy, Debug)]
+#[derive(Clone, Copy)]
 pub enum Ending<'a> {
     /// All was read, run and written.
     Done,

@@ -13,7 +13,7 @@ use lwc_base::{MOST_BUDGET, MOST_FRAMES, MOST_THREADS};
 use std::alloc::Global;
 
 /// What a line asks for.
-#[derive(Debug, Drop)]
+#[derive(Drop)]
 pub enum Line {
     /// An image under a schedule, and a serve where there are requests, each a file by its name.
     Replay {
@@ -79,7 +79,7 @@ pub enum Line {
 }
 
 /// Why a line was not read.
-#[derive(Clone, Copy, Debug, PartialEq, Eq)]
+#[derive(Clone, Copy, PartialEq, Eq)]
 pub enum LineFault {
     OutOfMemory,
     /// The line is not accepted.

@@ -10,7 +10,7 @@ use std::alloc::Global;
 const CHUNK: usize = 65536;
 
 /// Why a file was not read whole.
-#[derive(Clone, Copy, Debug, PartialEq, Eq)]
+#[derive(Clone, Copy, PartialEq, Eq)]
 pub enum FetchError {
     OutOfMemory,
     /// A fetch of it failed.

@@ -12,14 +12,14 @@ pub enum SegmentKind {
 }
 
 /// A present page's kind and its right.
-#[derive(Clone, Copy, Debug, PartialEq, Eq)]
+#[derive(Clone, Copy, PartialEq, Eq)]
 pub struct PageState {
     pub kind: SegmentKind,
     pub right: Right,
 }
 
 /// The pages from `from` up to and without `to`, which are all of one kind and of one right.
-#[derive(Clone, Copy, Debug, Default, PartialEq, Eq)]
+#[derive(Clone, Copy, Default, PartialEq, Eq)]
 pub struct Segment {
     pub from: PageNumber,
     pub to: PageNumber,
@@ -29,7 +29,7 @@ pub struct Segment {
 
 /// The kind and the right that the pages from `from` up to and without `to` are to have; with no kind they
 /// become absent.
-#[derive(Clone, Copy, Debug, Default, PartialEq, Eq)]
+#[derive(Clone, Copy, Default, PartialEq, Eq)]
 pub struct Change {
     pub from: PageNumber,
     pub to: PageNumber,

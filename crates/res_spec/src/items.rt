@@ -19,7 +19,7 @@ use lwc_base::{Item, Kind, MOST_ITEMS, Mode, PageNumber, SLOTS, Spec};
 pub const ITEM_BYTES: usize = 16;
 
 /// The calls that take a specifier.
-#[derive(Clone, Copy, Debug, PartialEq, Eq)]
+#[derive(Clone, Copy, PartialEq, Eq)]
 pub enum SpecCall {
     Create,
     Restrict,

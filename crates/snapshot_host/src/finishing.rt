@@ -7,7 +7,7 @@ use lwc_base::{Channels, ThreadStatus};
 use std::marker::Model;
 
 /// The bytes of a finished reply, at most `MOST_REPLY_BYTES`, seen as their list.
-#[derive(Debug, Drop)]
+#[derive(Drop)]
 pub struct ReplyBytes {
     bytes: ArrayVec<u8, 4096>,
 }
@@ -55,7 +55,7 @@ impl ReplyBytes {
 }
 
 /// What is recorded of a request that is finished: how its thread ended, and the bytes of its reply.
-#[derive(Debug, Drop)]
+#[derive(Drop)]
 pub struct Finished {
     pub request: u16,
     pub status: ThreadStatus,

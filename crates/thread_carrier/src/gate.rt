@@ -55,7 +55,7 @@ pub trait Gate: Sync {
 }
 
 /// A gate at which nobody waits.
-#[derive(Clone, Copy, Debug, PartialEq, Eq, Default)]
+#[derive(Clone, Copy, PartialEq, Eq, Default)]
 pub struct OpenGate;
 
 impl Gate for OpenGate {

@@ -4,7 +4,7 @@ use crate::world::WholeWorld;
 use lwc_base::Name;
 
 /// How many contexts, groups and tags a job has named.
-#[derive(Clone, Copy, Debug, PartialEq, Eq)]
+#[derive(Clone, Copy, PartialEq, Eq)]
 pub struct Counts {
     pub contexts: u32,
     pub groups: u32,

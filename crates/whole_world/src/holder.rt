@@ -5,7 +5,7 @@ ghost use Rattle.whole_world.specs.declared.holder.Holder.TheVariants.{Own};
 use lwc_base::{Name, Right};
 
 /// Who has the value under a key.
-#[derive(Clone, Copy, Debug, PartialEq, Eq)]
+#[derive(Clone, Copy, PartialEq, Eq)]
 pub enum Holder {
     /// Nobody: the page is absent.
     Nobody,
@@ -34,7 +34,7 @@ impl Holder {
 }
 
 /// Who has the value of a page of a context, and the right of the page.
-#[derive(Clone, Copy, Debug, PartialEq, Eq)]
+#[derive(Clone, Copy, PartialEq, Eq)]
 pub struct Side {
     pub holder: Holder,
     pub right: Right,
