@@ -56,23 +56,23 @@ use Rattle.lwc_text.specs.Requests.{IsRequestFile, requests_at}
 use Rattle.lwc_text.specs.Schedules.{IsSchedule, schedule_at}
 use Rattle.lwc_text.specs.VaultFiles.{IsVaultFile, vault_at}
 use Rattle.lwc_text.specs.declared.vault.TheConstants.{MOST_VAULT_BYTES}
-use Rattle.lwcrun_core.specs.declared.ending.Rejection.{Rejection}
-use Rattle.lwcrun_core.specs.declared.ending.Rejection.TheVariants as rejections
+use Rattle.lwcrun_modes.specs.declared.ending.Rejection.{Rejection}
+use Rattle.lwcrun_modes.specs.declared.ending.Rejection.TheVariants as rejections
 use Rattle.lwcrun_core.specs.declared.status.ExitStatus.{ExitStatus}
 use Rattle.lwcrun_core.specs.declared.status.ExitStatus.TheVariants as statuses
 use Rattle.lwcrun_core.specs.Calls.{AreContents, AreRequestsIn, CallEnded, CommandEnded, FetchesNamed, FetchesPlan, FileFailed, Headline, IsFitting, IsNameIn, IsOrNoMemory, IsRejected, IsRunnable, IsServe, IsUndisturbed, IsVaultReplay, Names, NoFault, WroteOnlyReplies, WroteServe, status_by}
-use Rattle.lwcrun_core.specs.Ends.{End, Outside, Ended, FetchFailed, IsUnhindered, IsUnwritten, NothingFailed, WriteFailed, end_by}
-use Rattle.lwcrun_core.specs.Ends as ends
+use Rattle.lwcrun_modes.specs.Ends.{End, Outside, Ended, FetchFailed, IsUnhindered, IsUnwritten, NothingFailed, WriteFailed, end_by}
+use Rattle.lwcrun_modes.specs.Ends as ends
 use Rattle.lwc_text.specs.Report.{report_of_schedule, stream_text}
-use Rattle.lwcrun_core.specs.Headline.{IsText, Work, after_image, after_monitored, after_schedule, after_server, after_streamer, after_debugged, after_debugged_image, after_vault, after_vault_image, asm_plan, debug_plan, dis_plan, gen_plan, inputs_of, lift_plan, monitor_plan, plan_of, read_by, replay_plan, run_plan, serve_plan, stream_plan, vault_plan}
-use Rattle.lwcrun_core.specs.Headline as works
-use Rattle.lwcrun_core.specs.Images.{bounded, bounded_requests_of, fitted, fitted_beside, fitting_image_of, fitting_vault_for, image_of, or_rejected, requests_of, schedule_of, script_of, serve_steps, source_of, then_tested, vault_for}
-use Rattle.lwcrun_core.specs.Lines.{AreReplaySettings, AreRunSettings, AreServeSettings, Command, IsWithinLimits}
-use Rattle.lwcrun_core.specs.Lines as commands
-use Rattle.lwcrun_core.specs.Plans.{Plan, AreFetchesOf, FileContents, LeadsTo, Reads, AreKnown, accepted, outcome}
-use Rattle.lwcrun_core.specs.Plans as plans
+use Rattle.lwcrun_modes.specs.Headline.{IsText, Work, after_image, after_monitored, after_schedule, after_server, after_streamer, after_debugged, after_debugged_image, after_vault, after_vault_image, asm_plan, debug_plan, dis_plan, gen_plan, inputs_of, lift_plan, monitor_plan, plan_of, read_by, replay_plan, run_plan, serve_plan, stream_plan, vault_plan}
+use Rattle.lwcrun_modes.specs.Headline as works
+use Rattle.lwcrun_modes.specs.Images.{bounded, bounded_requests_of, fitted, fitted_beside, fitting_image_of, fitting_vault_for, image_of, or_rejected, requests_of, schedule_of, script_of, serve_steps, source_of, then_tested, vault_for}
+use Rattle.lwcrun_line.specs.Lines.{AreReplaySettings, AreRunSettings, AreServeSettings, Command, IsWithinLimits}
+use Rattle.lwcrun_line.specs.Lines as commands
+use Rattle.lwcrun_modes.specs.Plans.{Plan, AreFetchesOf, FileContents, LeadsTo, Reads, AreKnown, accepted, outcome}
+use Rattle.lwcrun_modes.specs.Plans as plans
 use Rattle.lwcrun_core.specs.Statuses.{exit_number, status_of, status_of_rejection}
-use Rattle.lwcrun_core.proofs.Readers.{beside_found, bounded_found, fits_beside, fitted_found, image_fits, image_read, requests_bounded, requests_read, schedule_read, script_read, source_read, tested, vault_read}
+use Rattle.lwcrun_modes.proofs.Readers.{beside_found, bounded_found, fits_beside, fitted_found, image_fits, image_read, requests_bounded, requests_read, schedule_read, script_read, source_read, tested, vault_read}
 use Rattle.lwcrun_core.proofs.Promises.{known_bytes, leads_known, settled}
 
 -- what follows the last input of each command

@@ -1,10 +1,4 @@
-pub mod Accepted
-pub mod Answered
-pub mod Clauses
-pub mod TakenWords
-pub mod Fetches
-pub mod Follows
-pub mod Readers
-pub mod Promises
-mod Streams
+mod Answered
+mod Clauses
+mod Promises
 mod Visited

@@ -1,10 +1,10 @@
 -- What users are promised of a call's ending.
 use Rattle.std.proofs.Common.{◌≡◌, ◌⊎◌, inl, inr, ℕ, List, Option, Some, Result, Ok, Err, IfSome, refl, sym, subst, ap, ◌∙◌}
 use Rattle.lwc_io.specs.Outside.{MayBeContents}
-use Rattle.lwcrun_core.specs.Ends.{End, Outside, Ended, IsUnhindered, end_by}
-use Rattle.lwcrun_core.specs.Ends as ends
-use Rattle.lwcrun_core.specs.Plans.{Plan, FileContents, LeadsTo, Reads, AreKnown, outcome}
-use Rattle.lwcrun_core.specs.Plans as plans
+use Rattle.lwcrun_modes.specs.Ends.{End, Outside, Ended, IsUnhindered, end_by}
+use Rattle.lwcrun_modes.specs.Ends as ends
+use Rattle.lwcrun_modes.specs.Plans.{Plan, FileContents, LeadsTo, Reads, AreKnown, outcome}
+use Rattle.lwcrun_modes.specs.Plans as plans
 
 -- known contents are no others
 pub known_bytes : (contents : Option (List ℕ)) (known bytes : List ℕ) → contents ≡ Some known → MayBeContents contents bytes → known ≡ bytes

@@ -1,15 +1,16 @@
 -- What threads did at the gate, beside the text of their work.
 use Rattle.std.proofs.Common.{◌≡◌, ◌⊎◌, inl, inr, ℕ, List, None, Some, Option, sym, subst}
-use Rattle.lwcrun_core.specs.Calls.{CommandEnded, StreamEnded, VisitedBy}
-use Rattle.lwcrun_core.specs.Ends.{End, Ended, IsBeforeWork, Outside}
-use Rattle.lwcrun_core.specs.Ends as ends
-use Rattle.lwcrun_core.specs.Headline.{HaveVisited, IsText, Work, plan_of}
-use Rattle.lwcrun_core.specs.Headline as works
-use Rattle.lwcrun_core.specs.Lines.{Command, IsStream}
-use Rattle.lwcrun_core.specs.Plans.{Plan}
+use Rattle.lwcrun_core.specs.Calls.{CommandEnded, VisitedBy}
+use Rattle.lwcrun_modes.specs.Ends.{End, Ended, IsBeforeWork, Outside}
+use Rattle.lwcrun_modes.specs.Ends as ends
+use Rattle.lwcrun_modes.specs.Headline.{HaveVisited, IsText, Work, plan_of}
+use Rattle.lwcrun_modes.specs.StreamEnds.{StreamEnded}
+use Rattle.lwcrun_modes.specs.Headline as works
+use Rattle.lwcrun_line.specs.Lines.{Command, IsStream}
+use Rattle.lwcrun_modes.specs.Plans.{Plan}
 use Rattle.lwcrun_core.specs.Statuses.{MayBeAnsweredAs, status_of, status_of_rejection}
-use Rattle.lwcrun_core.specs.declared.ending.Rejection.{Rejection}
-use Rattle.lwcrun_core.specs.declared.ending.Rejection.TheVariants as rejections
+use Rattle.lwcrun_modes.specs.declared.ending.Rejection.{Rejection}
+use Rattle.lwcrun_modes.specs.declared.ending.Rejection.TheVariants as rejections
 use Rattle.lwcrun_core.specs.declared.status.ExitStatus.{ExitStatus}
 use Rattle.lwcrun_core.specs.declared.status.ExitStatus.TheVariants as statuses
 use Rattle.thread_carrier.specs.declared.visit.Visit.{Visit}

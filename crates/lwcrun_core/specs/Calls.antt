@@ -28,33 +28,23 @@ use Rattle.lwc_text.specs.Requests.{IsRequestFile}
 use Rattle.lwc_text.specs.Schedules.{IsSchedule}
 use Rattle.lwc_text.specs.VaultFiles.{IsVaultFile}
 use Rattle.lwc_vault.specs.Secrets.{KeepsSecret, beside}
-use Rattle.lwcrun_core.specs.declared.ending.Rejection.{Rejection}
+use Rattle.lwcrun_modes.specs.declared.ending.Rejection.{Rejection}
 use Rattle.lwcrun_core.specs.declared.status.ExitStatus.{ExitStatus}
 use Rattle.lwcrun_core.specs.declared.status.ExitStatus.TheVariants as statuses
-use Rattle.lwcrun_core.specs.Ends.{End, Outside, Ended, FetchFailed, IsUnwritten, NothingFailed, WriteFailed}
-use Rattle.lwcrun_core.specs.Ends as ends
+use Rattle.lwcrun_modes.specs.Ends.{End, Outside, Ended, FetchFailed, IsUnwritten, NothingFailed, WriteFailed}
+use Rattle.lwcrun_modes.specs.Ends as ends
 use Rattle.lwc_text.specs.Report.{replies_text, report_of_schedule, stream_text}
-use Rattle.lwcrun_core.specs.Headline.{HaveVisited, IsText, Work, inputs_of, plan_of}
-use Rattle.lwcrun_core.specs.Headline as works
-use Rattle.lwcrun_core.specs.Images.{serve_steps}
-use Rattle.lwcrun_core.specs.Lines.{Command, IsStream}
-use Rattle.lwcrun_core.specs.Lines as commands
-use Rattle.lwcrun_core.specs.Plans.{AreFetchesOf, FileContents, LeadsTo, Plan, outcome}
-use Rattle.lwcrun_core.specs.Reading.{Fetched}
+use Rattle.lwcrun_modes.specs.Headline.{HaveVisited, IsText, Work, inputs_of, plan_of}
+use Rattle.lwcrun_modes.specs.Headline as works
+use Rattle.lwcrun_modes.specs.Images.{serve_steps}
+use Rattle.lwcrun_line.specs.Lines.{Command, IsStream}
+use Rattle.lwcrun_line.specs.Lines as commands
+use Rattle.lwcrun_modes.specs.Plans.{AreFetchesOf, FileContents, LeadsTo, Plan, outcome}
+use Rattle.lwcrun_modes.specs.Reading.{Fetched}
+use Rattle.lwcrun_modes.specs.StreamEnds.{WroteReplies}
 use Rattle.lwcrun_core.specs.Serving.{EachHasReply, NoneIsShort, RepliesAreAlone, summary_alone}
 use Rattle.lwcrun_core.specs.Statuses.{IsAnswered, status_of_rejection}
 use Rattle.thread_carrier.specs.declared.visit.Visit.{Visit}
-
--- the plan leads to a stream, the replies of a complete history were written, and nothing failed
-abbrev pub WroteReplies : Outside → Plan Rejection Work → Type 0
-WroteReplies o p =
-    (inputs : Inputs) × (steps : List ℕ) × LeadsTo o.files.contents p (Ok (works.Streaming inputs))
-    × IsComplete (start inputs) steps
-    × (o.out_after.taken ≡ appended o.out.taken (replies_text (run (start inputs) steps))) × NothingFailed o
-
--- what holds at each end of a stream's plan: memory may run out behind the replies, too
-abbrev pub StreamEnded : List (List Visit) → List (List Visit) → Outside → Plan Rejection Work → End Rejection → Type 0
-StreamEnded before after o p e = Ended (HaveVisited before after) o p e ⊎ ((e ≡ ends.NoMemory) × WroteReplies o p)
 
 -- what holds at each end of a command: what holds at that end of its plan; or a stream's memory ran out behind the
 -- replies

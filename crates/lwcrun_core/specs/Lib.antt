@@ -1,15 +1,5 @@
 pub use Rattle.lwc_io.specs.Outside
 pub mod Calls
-pub mod Ends
-pub mod Arguments
-pub mod Headline
-pub mod Images
 pub mod InMemory
-pub mod Lines
-pub mod Numbers
-pub mod Parts
-pub mod Plans
-pub mod Reading
 pub mod Serving
 pub mod Statuses
-pub mod Views

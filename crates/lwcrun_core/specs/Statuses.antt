@@ -4,12 +4,12 @@ use Rattle.guest_asm.specs.Rules as sources
 use Rattle.guest_image.specs.Rules as images
 use Rattle.lwc_io.specs.Outside.{CountsOneFault, IsPartTaken, SinkView, appended}
 use Rattle.lwc_text.specs.Rules as inputs
-use Rattle.lwcrun_core.specs.declared.ending.Rejection.{Rejection}
-use Rattle.lwcrun_core.specs.declared.ending.Rejection.TheVariants as rejections
+use Rattle.lwcrun_modes.specs.declared.ending.Rejection.{Rejection}
+use Rattle.lwcrun_modes.specs.declared.ending.Rejection.TheVariants as rejections
 use Rattle.lwcrun_core.specs.declared.status.ExitStatus.{ExitStatus}
 use Rattle.lwcrun_core.specs.declared.status.ExitStatus.TheVariants as statuses
-use Rattle.lwcrun_core.specs.Ends.{End}
-use Rattle.lwcrun_core.specs.Ends as ends
+use Rattle.lwcrun_modes.specs.Ends.{End}
+use Rattle.lwcrun_modes.specs.Ends as ends
 
 -- the number of an exit status
 abbrev pub exit_number : ExitStatus → ℕ

@@ -1,31 +1,27 @@
 ghost use Rattle.std.specs.Prelude.{◌≡◌, ◌≢◌, ◌⊎◌, ◌≤◌, ℕ, List, None, Some, IfSome, length, map};
 ghost use Rattle.std.specs.Prelude.{string_bytes};
 ghost use Rattle.lwc_base.specs.declared.limits.TheConstants.{MOST_THREADS};
-ghost use Rattle.lwcrun_core.specs.declared.ending.Rejection.{Rejection};
+ghost use Rattle.lwcrun_modes.specs.declared.ending.Rejection.{Rejection};
 ghost use Rattle.lwcrun_core.specs.Calls.{Answers, AreContents, CommandEnded, FetchesNamed, FetchesPlan};
 ghost use Rattle.lwcrun_core.specs.Calls.{FileFailed, Headline, IsOrNoMemory, IsRejected, IsRunnable};
 ghost use Rattle.lwcrun_core.specs.Calls.{IsUndisturbed, VisitedBy, WroteOnlyReplies, status_by};
-ghost use Rattle.lwcrun_core.specs.Ends as ends;
-ghost use Rattle.lwcrun_core.specs.Ends.{Ended, IsBeforeWork, IsUnwritten, NothingFailed, WriteFailed};
-ghost use Rattle.lwcrun_core.specs.Headline.{HaveVisited, plan_of};
-ghost use Rattle.lwcrun_core.specs.Lines.{Command, IsWithinLimits, RunsThreads, asked_by, command_of};
-ghost use Rattle.lwcrun_core.specs.Plans.{AreFetchesOf, ComesToWork, outcome};
-ghost use Rattle.lwcrun_core.specs.Reading.{Fetched};
+ghost use Rattle.lwcrun_modes.specs.Ends as ends;
+ghost use Rattle.lwcrun_modes.specs.Ends.{Ended, IsBeforeWork, IsUnwritten, NothingFailed, WriteFailed};
+ghost use Rattle.lwcrun_modes.specs.Headline.{HaveVisited, plan_of};
+ghost use Rattle.lwcrun_line.specs.Lines.{Command, IsWithinLimits, RunsThreads, asked_by, command_of};
+ghost use Rattle.lwcrun_modes.specs.Plans.{AreFetchesOf, ComesToWork, outcome};
+ghost use Rattle.lwcrun_modes.specs.Reading.{Fetched};
 ghost use Rattle.lwcrun_core.specs.Statuses.{status_of_rejection};
-ghost use Rattle.lwcrun_core.specs.Views.{end_of, outside};
+ghost use Rattle.lwcrun_modes.specs.Views.{end_of, outside};
 
-use crate::debugging::debug_run;
-use crate::ending::Ending;
-use crate::line::{Line, LineFault, read_line};
 use crate::messages::write_message;
-use crate::monitoring::monitor;
-use crate::replaying::replay;
-use crate::running::{run, serve, serve_generated};
-use crate::sources::{asm, dis, lift};
 use crate::status::ExitStatus;
-use crate::streaming::stream;
-use crate::vaulting::replay_with_vault;
 use lwc_io::{Files, Sink};
+use lwcrun_line::{Line, LineFault, read_line};
+use lwcrun_modes::{
+    Ending, asm, debug_run, dis, lift, monitor, replay, replay_with_vault, run, serve,
+    serve_generated, stream,
+};
 use std::alloc::Global;
 use std::sync::Wait;
 use std::thread::Threads;

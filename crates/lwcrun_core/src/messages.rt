@@ -1,14 +1,14 @@
 ghost use Rattle.std.specs.Prelude.{◌≡◌, ◌⊎◌, ◌++◌, ◌∷◌, [], IfOk, string_bytes, codes};
-ghost use Rattle.lwcrun_core.specs.Ends as ends;
-ghost use Rattle.lwcrun_core.specs.Ends.{End};
+ghost use Rattle.lwcrun_modes.specs.Ends as ends;
+ghost use Rattle.lwcrun_modes.specs.Ends.{End};
 ghost use Rattle.lwcrun_core.specs.Statuses.{MayBeAnsweredAs, IsAnswered, Takes, message_of, rejection_words};
 ghost use Rattle.lwcrun_core.specs.Statuses.{message, status_of_rejection};
-ghost use Rattle.lwcrun_core.specs.Views.{end_of};
+ghost use Rattle.lwcrun_modes.specs.Views.{end_of};
 
-use crate::ending::{Ending, Rejection};
 use crate::status::ExitStatus;
 use lwc_base::OutOfMemory;
 use lwc_io::{Sink, write_whole};
+use lwcrun_modes::{Ending, Rejection};
 use std::alloc::Global;
 
 /// The message of a line that is not accepted.

@@ -3,7 +3,7 @@
 ghost use Rattle.guest_image.specs.Limits.{IsImage};
 ghost use Rattle.kernel_core.specs.Kernel.{MayHave};
 ghost use Rattle.kernel_core.specs.Settings.{IsSettings};
-ghost use Rattle.lwcrun_core.specs.Lines.{AreRunSettings};
+ghost use Rattle.lwcrun_line.specs.Lines.{AreRunSettings};
 
 use crate::calls::line_of;
 use crate::case::Case;
@@ -14,7 +14,7 @@ use lwc_debug::{debug, read_script};
 use lwc_monitor::monitor_replay;
 use lwc_text::{read_requests, read_schedule, read_vault, report};
 use lwc_vault::{takes_vault_slot, vault_replay};
-use lwcrun_core::{Line, read_line};
+use lwcrun_line::{Line, read_line};
 use std::alloc::{AllocError, Global};
 use whole_world::WholeWorld;
 

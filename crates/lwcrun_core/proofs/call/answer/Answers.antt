@@ -1,8 +1,8 @@
 use Rattle.std.proofs.Common.{◌≡◌, ◌∙◌, ap, sym, subst, map, Err, IfSome, Option, refl}
 use Rattle.lwcrun_core.specs.Calls.{VisitedBy}
-use Rattle.lwcrun_core.specs.Ends.{Outside}
-use Rattle.lwcrun_core.specs.Views.{outside}
-use Rattle.lwcrun_core.specs.Lines.{Command, RunsThreads, asked_by}
+use Rattle.lwcrun_modes.specs.Ends.{Outside}
+use Rattle.lwcrun_modes.specs.Views.{outside}
+use Rattle.lwcrun_line.specs.Lines.{Command, RunsThreads, asked_by}
 use Rattle.lwcrun_core.proofs.Visited as visits
 use Rattle.lwcrun_core.proofs.Answered.{call_ended, fetches_asked, fetches_nothing, line_ended, line_fault, not_begun}
 use Rattle.lwcrun_core.proofs.call.answer.Goals as goal

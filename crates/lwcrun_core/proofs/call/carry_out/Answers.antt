@@ -1,13 +1,13 @@
 use Rattle.std.proofs.Common.{◌≡◌, ℕ, inl, refl, sym, subst}
-use Rattle.lwcrun_core.specs.Headline as works
-use Rattle.lwcrun_core.specs.Headline.{gen_plan, plan_of}
-use Rattle.lwcrun_core.specs.Lines as commands
-use Rattle.lwcrun_core.specs.Lines.{RunsThreads, asked_by}
-use Rattle.lwcrun_core.specs.Plans.{ComesToWork, FileContents}
-use Rattle.lwcrun_core.specs.declared.line.Line.{Line}
-use Rattle.lwcrun_core.specs.declared.line.Line.TheVariants as lines
-use Rattle.lwcrun_core.proofs.Fetches.{nothing_fetched}
-use Rattle.lwcrun_core.proofs.Follows.{no_fetches}
+use Rattle.lwcrun_modes.specs.Headline as works
+use Rattle.lwcrun_modes.specs.Headline.{gen_plan, plan_of}
+use Rattle.lwcrun_line.specs.Lines as commands
+use Rattle.lwcrun_line.specs.Lines.{RunsThreads, asked_by}
+use Rattle.lwcrun_modes.specs.Plans.{ComesToWork, FileContents}
+use Rattle.lwcrun_line.specs.declared.line.Line.{Line}
+use Rattle.lwcrun_line.specs.declared.line.Line.TheVariants as lines
+use Rattle.lwcrun_modes.proofs.Fetches.{nothing_fetched}
+use Rattle.lwcrun_modes.proofs.Follows.{no_fetches}
 use Rattle.lwcrun_core.proofs.Visited.{by_text, stream_ended, stream_visits}
 use Rattle.lwcrun_core.proofs.call.carry_out.Goals as goal
 

@@ -1,4 +1,4 @@
-use Rattle.lwcrun_core.proofs.Accepted.{accepted_is_within}
+use Rattle.lwcrun_line.proofs.Accepted.{accepted_is_within}
 use Rattle.lwcrun_core.proofs.Clauses.{complete, ends_by, fetches_named, headline, no_fault, nothing, read_fault, refused, usage, usage_only, write_fault}
 use Rattle.lwcrun_core.proofs.call.lwcrun.Goals as goal
 

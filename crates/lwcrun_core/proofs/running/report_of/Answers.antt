@@ -1,9 +1,0 @@
-use Rattle.std.proofs.Common.{sym}
-use Rattle.lwc_text.proofs.Replays.{text_is}
-use Rattle.lwcrun_core.proofs.running.report_of.Goals as goal
-
-pub returns : goal.returns
-returns g c =
-    let made = c.in_ok-kernel.kernel in
-    let complete = c.in_ok-kernel.ensures.complete in
-    (made.steps, complete, text_is made c.args.process.name made.steps _ c.in_ok-kernel.ensures.inputs (sym complete.legal) c.in_ok-text.ensures.exact, c.in_ok-kernel.ensures.visits)

@@ -1,7 +1,0 @@
-use Rattle.lwcrun_core.specs.Headline as works
-use Rattle.lwcrun_core.specs.Headline.{gen_plan}
-use Rattle.lwcrun_core.proofs.running.serve_generated.Goals as goal
-
-pub returns-clause-ended : goal.returns-clause-ended
-unfolding gen_plan
-returns-clause-ended g c files = c.write_work.ensures.visits _ _ (works.Generating c.args.number) files c.summary_text.ensures

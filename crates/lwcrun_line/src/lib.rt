@@ -1,0 +1,8 @@
+//! The line of words: what it asks for, if it is accepted.
+#![tactic(auto)]
+
+mod arguments;
+mod line;
+mod numbers;
+
+pub use line::{Line, LineFault, read_line};

@@ -1,0 +1,4 @@
+pub mod Fetches
+pub mod Follows
+pub mod Readers
+mod Streams

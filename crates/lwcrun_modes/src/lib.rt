@@ -1,0 +1,24 @@
+//! What the program can be asked for: each mode reads its files in their order, tests each before the next, runs or
+//! makes what is asked for, and writes it.
+#![tactic(auto)]
+
+mod debugging;
+mod ending;
+mod inputs;
+mod monitoring;
+mod reading;
+mod replaying;
+mod running;
+mod sources;
+mod streaming;
+mod vaulting;
+mod writing;
+
+pub use debugging::debug_run;
+pub use ending::{Ending, Rejection};
+pub use monitoring::monitor;
+pub use replaying::replay;
+pub use running::{open_process, run, serve, serve_generated};
+pub use sources::{asm, dis, lift};
+pub use streaming::stream;
+pub use vaulting::replay_with_vault;
