@@ -76,11 +76,10 @@ impl Places {
         ensures count { IfOk result (λ opened. count opened ≡ places) }
         ensures frames { IfOk result (λ opened. frame_count opened ≡ frames) }
     {
-        Ok(Places {
-            pages: PageCells::open(alloc, frames, places)?,
-            slots: Slots::open(alloc, places)?,
-            uids: no_uids(alloc, places)?,
-        })
+        let uids = no_uids(alloc, places)?;
+        let slots = Slots::open(alloc, places)?;
+        let pages = PageCells::open(alloc, frames, places)?;
+        Ok(Places { pages, slots, uids })
     }
 
     /// The kind of a page of a place; `None` where it is absent.

@@ -1,6 +1,8 @@
-ghost use Rattle.std.specs.Prelude.{◌≡◌, ◌+◌, IfOk, length, replicate};
+ghost use Rattle.std.specs.Prelude.{◌≡◌, ◌+◌, IfOk, None, length, replicate};
+ghost use Rattle.std.specs.FinMap as fm;
 ghost use Rattle.std.proofs.Props.{props};
 ghost use Rattle.ctx_table.specs.NameTables.{ArePlaced};
+ghost use Rattle.world_face.specs.Calls.{IsSize};
 ghost use Rattle.lazy_world.specs.Seen.{count, frame_count, rights, rows};
 ghost use Rattle.lazy_world.specs.Sound.{IsSound, named_cell-prop};
 ghost use Rattle.lazy_world.specs.States.{no_registers, nothing_counted};
@@ -61,9 +63,38 @@ fn nothing_counted(alloc: Global, jobs: u32) -> Result<Vec<Counts>, OutOfMemory>
     Ok(vec![in alloc; nothing; jobs as usize]?)
 }
 
+/// The registers of the contexts of a world of this size, and what its jobs have counted, before any has named
+/// anything. The only error is out of memory.
+fn nothing_kept(
+    alloc: Global,
+    size: &WorldSize,
+) -> Result<(Vec<Registers>, Vec<Counts>), OutOfMemory>
+    ensures registers { IfOk result (λ kept. length kept.0.items ≡ size.now.contexts) }
+    ensures counts { IfOk result (λ kept. kept.1.items ≡ replicate size.now.jobs nothing_counted) }
+{
+    let registers = no_registers(alloc, size.contexts)?;
+    let counts = nothing_counted(alloc, size.jobs)?;
+    Ok((registers, counts))
+}
+
+/// No names of contexts and none of groups, with the places that a world of this size has for them. The only
+/// error is out of memory.
+fn no_names(alloc: Global, size: &WorldSize) -> Result<(Names, Names), OutOfMemory>
+    requires { IsSize size.now }
+    ensures contexts { IfOk result (λ names.
+        names.0 ≡ record { map = fm.empty; places = replicate size.now.contexts None }) }
+    ensures groups { IfOk result (λ names.
+        names.1 ≡ record { map = fm.empty; places = replicate size.now.groups None }) }
+    ensures placed { IfOk result (λ names. ArePlaced names.0) }
+    ensures placed_groups { IfOk result (λ names. ArePlaced names.1) }
+{
+    let contexts = Names::open(alloc, size.contexts)?;
+    let groups = Names::open(alloc, size.groups)?;
+    Ok((contexts, groups))
+}
+
 impl PlacedWorld {
     ghost use Rattle.lwc_base.specs.World.{empty_world};
-    ghost use Rattle.world_face.specs.Calls.{IsSize};
     ghost use Rattle.lazy_world.specs.Worlds.{seen};
 
     /// A world of this size in which nothing is live. The only error is out of memory.
@@ -71,14 +102,17 @@ impl PlacedWorld {
         requires { IsSize world_size.now }
         ensures { IfOk result (λ w. seen w ≡ empty_world world_size.now) }
     {
+        let (registers, counts) = nothing_kept(alloc, world_size)?;
+        let (contexts, groups) = no_names(alloc, world_size)?;
         let size = *world_size;
+        let places = Places::open(alloc, size.frames, size.contexts + size.groups)?;
         Ok(PlacedWorld {
             size,
-            places: Places::open(alloc, size.frames, size.contexts + size.groups)?,
-            registers: no_registers(alloc, size.contexts)?,
-            contexts: Names::open(alloc, size.contexts)?,
-            groups: Names::open(alloc, size.groups)?,
-            counts: nothing_counted(alloc, size.jobs)?,
+            places,
+            registers,
+            contexts,
+            groups,
+            counts,
         })
     }
 }

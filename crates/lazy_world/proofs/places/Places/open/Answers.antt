@@ -13,25 +13,25 @@ use Rattle.lazy_world.proofs.places.Places.open.Goals as goal
 pub invariant_of-result : goal.invariant_of-result
 invariant_of-result c = record {
   kept = record {
-    slot_count = ap length c.in_ok-open-2.ensures ∙ length-replicate c.args.places no_slots ∙ sym (ap length c.in_ok-open.ensures.cells ∙ length-replicate c.args.places no_pages);
-    uid_count = ap length c.in_ok-no_uids.ensures ∙ length-replicate c.args.places (Own NOBODY) ∙ sym (ap length c.in_ok-open.ensures.cells ∙ length-replicate c.args.places no_pages);
-    targets = subst (λ (table : List (ℕ → Slot)). (i n : ℕ) → IsNumbered (row_of table i n)) (sym c.in_ok-open-2.ensures) (numbered-none c.args.places);
+    slot_count = ap length c.in_ok-slots.ensures ∙ length-replicate c.args.places no_slots ∙ sym (ap length c.in_ok-pages.ensures.cells ∙ length-replicate c.args.places no_pages);
+    uid_count = ap length c.in_ok-uids.ensures ∙ length-replicate c.args.places (Own NOBODY) ∙ sym (ap length c.in_ok-pages.ensures.cells ∙ length-replicate c.args.places no_pages);
+    targets = subst (λ (table : List (ℕ → Slot)). (i n : ℕ) → IsNumbered (row_of table i n)) (sym c.in_ok-slots.ensures) (numbered-none c.args.places);
   };
 }
 
 pub returns-clause-rows : goal.returns-clause-rows
 unfolding rows
 returns-clause-rows c =
-    (λ i. rows_of (c.in_ok-open.ensures.cells i) (c.in_ok-open-2.ensures i) (c.in_ok-no_uids.ensures i)) ∙ rows-none c.args.places
+    (λ i. rows_of (c.in_ok-pages.ensures.cells i) (c.in_ok-slots.ensures i) (c.in_ok-uids.ensures i)) ∙ rows-none c.args.places
 
 pub returns-clause-rights : goal.returns-clause-rights
 unfolding rights
-returns-clause-rights c = ap rights_of c.in_ok-open.ensures.rights ∙ rights-none c.args.places
+returns-clause-rights c = ap rights_of c.in_ok-pages.ensures.rights ∙ rights-none c.args.places
 
 pub returns-clause-count : goal.returns-clause-count
 unfolding count
-returns-clause-count c = ap length c.in_ok-open.ensures.cells ∙ length-replicate c.args.places no_pages
+returns-clause-count c = ap length c.in_ok-pages.ensures.cells ∙ length-replicate c.args.places no_pages
 
 pub returns-clause-frames : goal.returns-clause-frames
 unfolding frame_count
-returns-clause-frames c = c.in_ok-open.ensures.frames
+returns-clause-frames c = c.in_ok-pages.ensures.frames

@@ -9,21 +9,21 @@ pub invariant_of-result : goal.invariant_of-result
 invariant_of-result c =
     let size = c.args.world_size.now in
     record {
-      placed = c.in_ok-open-2.ensures.placed;
-      placed_groups = c.in_ok-open-3.ensures.placed;
-      count = c.in_ok-open.ensures.count;
-      frames = c.in_ok-open.ensures.frames;
+      placed = c.in_ok-contexts.ensures.placed;
+      placed_groups = c.in_ok-contexts.ensures.placed_groups;
+      count = c.in_ok-places.ensures.count;
+      frames = c.in_ok-places.ensures.frames;
       sound = subst IsSound
           (sym (λ e. record {
             size = size;
-            rows = c.in_ok-open.ensures.rows e;
-            rights = c.in_ok-open.ensures.rights e;
-            registers = c.in_ok-no_registers.field-0.items;
-            contexts = c.in_ok-open-2.ensures.none e;
-            groups = c.in_ok-open-3.ensures.none e;
-            counts = c.in_ok-nothing_counted.ensures e;
+            rows = c.in_ok-places.ensures.rows e;
+            rights = c.in_ok-places.ensures.rights e;
+            registers = c.in_ok-registers.registers.items;
+            contexts = c.in_ok-contexts.ensures.contexts e;
+            groups = c.in_ok-contexts.ensures.groups e;
+            counts = c.in_ok-registers.ensures.counts e;
           }))
-          (sound-opened size c.requires c.in_ok-no_registers.field-0.items c.in_ok-no_registers.ensures);
+          (sound-opened size c.requires c.in_ok-registers.registers.items c.in_ok-registers.ensures.registers);
     }
 
 pub returns : goal.returns
@@ -33,11 +33,11 @@ returns c =
     ap world_of
     (λ e. record {
       size = size;
-      rows = c.in_ok-open.ensures.rows e;
-      rights = c.in_ok-open.ensures.rights e;
-      registers = c.in_ok-no_registers.field-0.items;
-      contexts = c.in_ok-open-2.ensures.none e;
-      groups = c.in_ok-open-3.ensures.none e;
-      counts = c.in_ok-nothing_counted.ensures e;
+      rows = c.in_ok-places.ensures.rows e;
+      rights = c.in_ok-places.ensures.rights e;
+      registers = c.in_ok-registers.registers.items;
+      contexts = c.in_ok-contexts.ensures.contexts e;
+      groups = c.in_ok-contexts.ensures.groups e;
+      counts = c.in_ok-registers.ensures.counts e;
     })
-    ∙ world-opened size c.requires c.in_ok-no_registers.field-0.items c.in_ok-no_registers.ensures
+    ∙ world-opened size c.requires c.in_ok-registers.registers.items c.in_ok-registers.ensures.registers
