@@ -1,13 +1,13 @@
-ghost use Rattle.std.specs.Prelude.{◌≡◌};
+ghost use Rattle.std.specs.Prelude.{◌≡◌, ◌+◌, ◌<◌};
 ghost use Rattle.lwc_base.specs.declared.item.Mode.TheVariants.{Copy};
 
+use crate::checks::check_equal;
 use access_cap::granted::{grants, grants_kinds, meet_granted, owned_keys};
 use access_cap::kinds::{Mask, covers_kinds};
 use access_cap::sets::{covers, meet};
 use access_cap::whole::{empty, full};
 use bitflags::Flags;
-use lwc_base::{Grant, Item, Kind, MOST_PAGES, Mode, PAGES_OF_FORM_ONE, Spec};
-use std::test::Fail;
+use lwc_base::{Cap, Grant, Item, Kind, MOST_PAGES, Mode, PAGES_OF_FORM_ONE, Spec};
 
 fn item(kind: Kind, from: u32, to: u32) -> Item
     ensures { result ≡ record { kind = kind; mode = Copy; from = from; to = to } }
@@ -29,64 +29,6 @@ fn some_keys() -> Spec {
     spec
 }
 
-#[test]
-fn a_capability_has_all_keys_or_none(rt: HostRuntime) -> Result<(), Fail> {
-    let all = full(MOST_PAGES);
-    let some = full(70);
-    assert_eq!(rt;
-        (some.pages[0], some.pages[1], some.pages[2]),
-        (u64::MAX, 63, 0)
-    );
-    assert_eq!(rt; (all.pages[16], all.pages[255]), (u64::MAX, u64::MAX));
-    let small = full(PAGES_OF_FORM_ONE);
-    assert_eq!(rt; (small.pages[15], small.pages[16]), (u64::MAX, 0));
-    assert_eq!(rt; all.slots, u64::MAX);
-    assert!(rt; all.cred);
-    let none = empty();
-    assert_eq!(rt; none.pages[0], 0);
-    assert_eq!(rt; none.slots, 0);
-    assert!(rt; !none.cred);
-    Ok(())
-}
-
-#[test]
-fn a_restriction_has_the_keys_that_both_name(rt: HostRuntime) -> Result<(), Fail> {
-    let spec = some_keys();
-    let part = meet(&full(65), &spec);
-    assert_eq!(rt;
-        (part.pages[0], part.pages[1], part.pages[2]),
-        (3 << 62, 1, 0)
-    );
-    assert_eq!(rt; (part.slots, part.cred), (8, true));
-    let nothing = meet(&full(MOST_PAGES), &Spec::empty());
-    assert!(rt; nothing == empty());
-    assert!(rt; covers(&part, &spec, 65));
-    assert!(rt; !covers(&part, &spec, 66));
-    assert!(rt; !covers(&empty(), &spec, 1));
-    assert!(rt; covers(&empty(), &Spec::empty(), MOST_PAGES));
-    Ok(())
-}
-
-#[test]
-fn a_mask_asks_for_whole_kinds(rt: HostRuntime) -> Result<(), Fail> {
-    let some = full(70);
-    for (bits, pages, has) in [
-        (0, MOST_PAGES, true),
-        (1, 70, true),
-        (1, 71, false),
-        (6, MOST_PAGES, true),
-    ] {
-        assert_eq!(rt;
-            covers_kinds(&some, Mask::from_bits_retain(bits), pages),
-            has
-        );
-    }
-    assert!(rt; !covers_kinds(&empty(), Mask::SLOTS, 1));
-    assert!(rt; !covers_kinds(&empty(), Mask::CRED, 1));
-    assert!(rt; Mask::from_bits(8).is_none());
-    Ok(())
-}
-
 /// A page of the second thousand.
 fn far_page() -> Spec {
     let mut spec = Spec::empty();
@@ -94,43 +36,131 @@ fn far_page() -> Spec {
     spec
 }
 
-#[test]
-fn pages_of_form_two_are_keys(rt: HostRuntime) -> Result<(), Fail> {
-    let small = full(PAGES_OF_FORM_ONE);
-    let part = meet(&full(MOST_PAGES), &far_page());
-    assert_eq!(rt;
-        (part.pages[22], part.pages[23], part.pages[24]),
-        (0, 1 << 28, 0)
-    );
-    assert!(rt; covers(&part, &far_page(), MOST_PAGES));
-    assert!(rt; !covers(&small, &far_page(), MOST_PAGES));
-    assert!(rt; covers(&small, &far_page(), PAGES_OF_FORM_ONE));
-    assert!(rt; covers_kinds(&small, Mask::MEMORY, PAGES_OF_FORM_ONE));
-    assert!(rt; !covers_kinds(&small, Mask::MEMORY, MOST_PAGES));
-    Ok(())
+/// Three words of the pages of a capability.
+fn words_from(cap: &Cap, i: usize) -> [u64; 3]
+    requires { i + 2 < 256 }
+{
+    [cap.pages[i], cap.pages[i + 1], cap.pages[i + 2]]
 }
 
 #[test]
-fn lent_keys_are_those_of_their_capability(rt: HostRuntime) -> Result<(), Fail> {
-    let part = meet(&full(MOST_PAGES), &far_page());
-    let all = Grant::All { pages: 70 };
-    let some = Grant::Of(&part);
-    assert!(rt; owned_keys(all) == full(70));
-    assert!(rt; owned_keys(Grant::None) == empty());
-    assert!(rt; owned_keys(some) == part);
-    assert!(rt; meet_granted(Grant::All { pages: MOST_PAGES }, &far_page()) == part);
-    assert!(rt; grants(all, &some_keys(), 70));
-    assert!(rt; grants(all, &far_page(), 70));
-    assert!(rt; !grants(all, &far_page(), MOST_PAGES));
-    assert!(rt; !grants(Grant::None, &some_keys(), 1));
-    assert!(rt; grants(Grant::None, &Spec::empty(), MOST_PAGES));
-    assert!(rt; grants(Grant::None, &far_page(), PAGES_OF_FORM_ONE));
-    assert!(rt; !grants(Grant::None, &far_page(), MOST_PAGES));
-    assert!(rt; grants(some, &far_page(), MOST_PAGES));
-    assert!(rt; grants_kinds(all, Mask::MEMORY, 70));
-    assert!(rt; !grants_kinds(all, Mask::MEMORY, 71));
-    assert!(rt; !grants_kinds(Grant::None, Mask::MEMORY, 1));
-    assert!(rt; grants_kinds(Grant::None, Mask::MEMORY, 0));
-    assert!(rt; !grants_kinds(Grant::None, Mask::CRED, 0));
-    Ok(())
+fn a_capability_has_all_keys_or_none(rt: HostRuntime) {
+    let all = full(MOST_PAGES);
+    let none = empty();
+    let first = words_from(&full(70), 0);
+    let middle = words_from(&full(PAGES_OF_FORM_ONE), 14);
+    let last = [all.pages[16], all.pages[255], none.pages[0]];
+    let most = [u64::MAX, u64::MAX, 0];
+    check_equal(&rt, [first, middle, last], [[u64::MAX, 63, 0], most, most]);
+    check_equal(
+        &rt,
+        (all.slots, all.cred, none.slots, none.cred),
+        (u64::MAX, true, 0, false),
+    );
+}
+
+#[test]
+fn a_restriction_has_the_keys_that_both_name(rt: HostRuntime) {
+    let spec = some_keys();
+    let part = meet(&full(65), &spec);
+    let words = words_from(&part, 0);
+    let answers = [
+        meet(&full(MOST_PAGES), &Spec::empty()) == empty(),
+        covers(&part, &spec, 65),
+        covers(&part, &spec, 66),
+        covers(&empty(), &spec, 1),
+        covers(&empty(), &Spec::empty(), MOST_PAGES),
+    ];
+    check_equal(&rt, words, [3 << 62, 1, 0]);
+    check_equal(&rt, (part.slots, part.cred), (8, true));
+    check_equal(&rt, answers, [true, true, false, false, true]);
+}
+
+#[test]
+fn a_mask_asks_for_whole_kinds(rt: HostRuntime) {
+    let some = full(70);
+    let answers = [
+        covers_kinds(&some, Mask::from_bits_retain(0), MOST_PAGES),
+        covers_kinds(&some, Mask::from_bits_retain(1), 70),
+        covers_kinds(&some, Mask::from_bits_retain(1), 71),
+        covers_kinds(&some, Mask::from_bits_retain(6), MOST_PAGES),
+        covers_kinds(&empty(), Mask::SLOTS, 1),
+        covers_kinds(&empty(), Mask::CRED, 1),
+        Mask::from_bits(8).is_none(),
+    ];
+    check_equal(&rt, answers, [true, true, false, true, false, false, true]);
+}
+
+#[test]
+fn pages_of_form_two_are_keys(rt: HostRuntime) {
+    let small = full(PAGES_OF_FORM_ONE);
+    let far = far_page();
+    let part = meet(&full(MOST_PAGES), &far);
+    let words = words_from(&part, 22);
+    let answers = [
+        covers(&part, &far, MOST_PAGES),
+        covers(&small, &far, MOST_PAGES),
+        covers(&small, &far, PAGES_OF_FORM_ONE),
+        covers_kinds(&small, Mask::MEMORY, PAGES_OF_FORM_ONE),
+        covers_kinds(&small, Mask::MEMORY, MOST_PAGES),
+    ];
+    check_equal(&rt, words, [0, 1 << 28, 0]);
+    check_equal(&rt, answers, [true, false, true, true, false]);
+}
+
+/// All keys of 70 pages, lent.
+const ALL: Grant<'static> = Grant::All { pages: 70 };
+
+/// Whether keys that are lent are those of 70 pages, no key, and those of a capability with a far page alone.
+fn are_owned(part: &Cap, far: &Spec) -> [bool; 4] {
+    [
+        owned_keys(ALL) == full(70),
+        owned_keys(Grant::None) == empty(),
+        owned_keys(Grant::Of(part)) == *part,
+        meet_granted(Grant::All { pages: MOST_PAGES }, far) == *part,
+    ]
+}
+
+/// Whether all keys of 70 pages grant some pages and a far one, and no key does, where there are so many pages.
+fn are_granted(far: &Spec) -> [[bool; 3]; 2] {
+    let some = some_keys();
+    [
+        [
+            grants(ALL, &some, 70),
+            grants(ALL, far, 70),
+            grants(ALL, far, MOST_PAGES),
+        ],
+        [
+            grants(Grant::None, &some, 1),
+            grants(Grant::None, far, PAGES_OF_FORM_ONE),
+            grants(Grant::None, far, MOST_PAGES),
+        ],
+    ]
+}
+
+/// Whether all keys of 70 pages grant 70 pages and 71, and whether no key grants a page, none, and the credential.
+fn are_kinds_granted() -> [bool; 5] {
+    [
+        grants_kinds(ALL, Mask::MEMORY, 70),
+        grants_kinds(ALL, Mask::MEMORY, 71),
+        grants_kinds(Grant::None, Mask::MEMORY, 1),
+        grants_kinds(Grant::None, Mask::MEMORY, 0),
+        grants_kinds(Grant::None, Mask::CRED, 0),
+    ]
+}
+
+#[test]
+fn lent_keys_are_those_of_their_capability(rt: HostRuntime) {
+    let far = far_page();
+    let part = meet(&full(MOST_PAGES), &far);
+    let owned = are_owned(&part, &far);
+    let granted = are_granted(&far);
+    let others = [
+        grants(Grant::None, &Spec::empty(), MOST_PAGES),
+        grants(Grant::Of(&part), &far, MOST_PAGES),
+    ];
+    let kinds = are_kinds_granted();
+    check_equal(&rt, (owned, others), ([true; 4], [true; 2]));
+    check_equal(&rt, granted, [[true, true, false], [false, true, false]]);
+    check_equal(&rt, kinds, [true, false, false, true, false]);
 }

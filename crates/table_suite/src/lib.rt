@@ -5,6 +5,8 @@
 #[cfg(test)]
 mod capabilities;
 #[cfg(test)]
+mod checks;
+#[cfg(test)]
 mod items;
 #[cfg(test)]
 mod names;

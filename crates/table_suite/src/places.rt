@@ -1,8 +1,10 @@
 ghost use Rattle.std.specs.Prelude.{◌≡◌, ◌≢◌, ℕ, ◌+◌, ◌<◌, ◌≤◌, All, IfOk, None, length, slice_set};
 ghost use Rattle.cow_space.specs.Changes.{IsPageRun, changed_place};
 ghost use Rattle.cow_space.specs.Seen.{cells};
+ghost use Rattle.cow_space.specs.Tags.{IsNewTag};
 
-use cow_space::{Origin, PageCells, PageRun};
+use crate::checks::check_equal;
+use cow_space::{NoFrame, Origin, PageCells, PageRun};
 use lwc_base::{MOST_RANGES, Name, Range, Tag};
 use pool_base::Steps;
 use range_map::SegmentKind;
@@ -41,6 +43,23 @@ fn change<L: Ledger>(
     places.change(i, page_runs, &[], steps);
 }
 
+/// Writes three bytes over the end of page 5 of the first place, which has none: whether the page is to part, and the
+/// answer.
+fn write_end<L: Ledger>(
+    rt: &impl Abort,
+    places: &mut PageCells,
+    tag: Tag,
+    steps: &mut Steps<L>,
+) -> (bool, Result<bool, NoFrame>)
+    requires place { 0 < length (cells places.old) }
+    requires new { IsNewTag (cells places.old) tag }
+{
+    assert!(rt; matches!(places.kind(0, 5), Some(SegmentKind::Own)));
+    let is_parting = places.is_parting(0, 5);
+    let answer = places.write(0, 5, 5 * 4096 + 4094, &[7, 8, 9], tag, steps);
+    (is_parting, answer)
+}
+
 /// Three places, of which the first has pages 2 to 7, and bytes at page 5.
 fn written<L: Ledger>(
     rt: &impl Abort,
@@ -48,17 +67,80 @@ fn written<L: Ledger>(
     steps: &mut Steps<L>,
 ) -> Result<PageCells, Fail> {
     let mut places = PageCells::open(alloc, 4, 3)?;
-    assert_eq!(rt; (places.len(), places.frames(), places.used()), (3, 4, 0));
+    assert!(rt; places.len() == 3 && places.frames() == 4 && places.used() == 0);
     change(rt, &mut places, 0, &[page_run(2, 8, Origin::Zeros)], steps);
-    assert_eq!(rt; places.len(), 3);
-    let Some(SegmentKind::Own) = places.kind(0, 5) else {
-        return Err("page 5 is the place's own")?;
-    };
-    assert!(rt; places.is_parting(0, 5));
+    assert!(rt; places.len() == 3);
     let tag = Tag { job: 1, k: 0 };
-    let parted = places.write(0, 5, 5 * 4096 + 4094, &[7, 8, 9], tag, steps);
-    assert_eq!(rt; parted, Ok(true));
+    let (is_parting, answer) = write_end(rt, &mut places, tag, steps);
+    assert!(rt; is_parting && answer == Ok(true));
     Ok(places)
+}
+
+/// The group whose pages are common.
+const GROUP: Name = Name { job: 1, k: 2 };
+
+/// Copies the first place into the second, and makes some pages of the first common and the others absent: the ranges of
+/// the second, and the frames in use.
+fn copy_first<L: Ledger>(
+    rt: &impl Abort,
+    places: &mut PageCells,
+    steps: &mut Steps<L>,
+) -> (u32, u32) {
+    assert!(rt; places.len() == 3);
+    places.clone_place(1, 0, steps);
+    assert!(rt; places.len() == 3);
+    let copied = (places.count(1), places.used());
+    let common = [
+        page_run(4, 6, Origin::Common(GROUP)),
+        page_run(0, 8, Origin::Absent),
+    ];
+    change(rt, places, 0, &common, steps);
+    copied
+}
+
+/// Puts copies of pages of both places, and zeros, into the third.
+fn mix_third<L: Ledger>(rt: &impl Abort, places: &mut PageCells, steps: &mut Steps<L>) {
+    assert!(rt; places.len() == 3);
+    let mixed = [
+        page_run(4, 6, Origin::CopyOf(1)),
+        page_run(5, 8, Origin::CopyOf(0)),
+        page_run(7, 10, Origin::Zeros),
+    ];
+    change(rt, places, 2, &mixed, steps);
+}
+
+/// The kinds of pages 3 and 5 of the first place, and of pages 5, 6, 7 and 9 of the third.
+fn kinds_of(rt: &impl Abort, places: &PageCells) -> [Option<SegmentKind>; 6] {
+    assert!(rt; places.len() == 3);
+    [
+        places.kind(0, 3),
+        places.kind(0, 5),
+        places.kind(2, 5),
+        places.kind(2, 6),
+        places.kind(2, 7),
+        places.kind(2, 9),
+    ]
+}
+
+/// Clears the second place: whether page 5 of the first has no bytes before, and the ranges of the two others and the
+/// frames in use after.
+fn clear_second<L: Ledger>(
+    rt: &impl Abort,
+    places: &mut PageCells,
+    steps: &mut Steps<L>,
+) -> (bool, [u32; 3]) {
+    assert!(rt; places.len() == 3);
+    let has_none = places.bytes(0, 5).is_none();
+    places.clear_place(1, steps);
+    assert!(rt; places.len() == 3);
+    (has_none, [places.count(1), places.count(2), places.used()])
+}
+
+/// How many bytes page 5 of the third place has, and the last three.
+fn last_bytes(rt: &impl Abort, places: &PageCells) -> Option<(usize, [u8; 3])> {
+    assert!(rt; places.len() == 3);
+    let bytes = places.bytes(2, 5)?;
+    Some((bytes.len(), [bytes[4093], bytes[4094], bytes[4095]]))
 }
 
 /// Copies and drops the pages of a place that has bytes at one, and makes some of them common.
@@ -69,45 +151,20 @@ fn try_places<L: Ledger>(rt: &impl Abort, alloc: Global, blank: Blank) -> Result
 {
     let mut steps = Steps::<L>::new(blank);
     let mut places = written(rt, alloc, &mut steps)?;
-    let group = Name { job: 1, k: 2 };
-    assert_eq!(rt; places.len(), 3);
-    places.clone_place(1, 0, &mut steps);
-    assert_eq!(rt; places.len(), 3);
-    assert_eq!(rt; (places.count(1), places.used()), (1, 1));
-    let common = [
-        page_run(4, 6, Origin::Common(group)),
-        page_run(0, 8, Origin::Absent),
-    ];
-    change(rt, &mut places, 0, &common, &mut steps);
-    let mixed = [
-        page_run(4, 6, Origin::CopyOf(1)),
-        page_run(5, 8, Origin::CopyOf(0)),
-        page_run(7, 10, Origin::Zeros),
-    ];
-    change(rt, &mut places, 2, &mixed, &mut steps);
+    let copied = copy_first(rt, &mut places, &mut steps);
+    mix_third(rt, &mut places, &mut steps);
+    let kinds = kinds_of(rt, &places);
+    let cleared = clear_second(rt, &mut places, &mut steps);
+    let last = last_bytes(rt, &places);
     let own = Some(SegmentKind::Own);
-    for (i, p, kind) in [
-        (0, 3, None),
-        (0, 5, Some(SegmentKind::Common(group))),
-        (2, 5, own),
-        (2, 6, None),
-        (2, 7, None),
-        (2, 9, own),
-    ] {
-        assert_eq!(rt; places.len(), 3);
-        assert_eq!(rt; places.kind(i, p), kind);
-    }
-    assert_eq!(rt; places.len(), 3);
-    assert!(rt; places.bytes(0, 5).is_none());
-    places.clear_place(1, &mut steps);
-    assert_eq!(rt; places.len(), 3);
-    assert_eq!(rt;
-        (places.count(1), places.count(2), places.used()),
-        (0, 2, 1)
+    let common = Some(SegmentKind::Common(GROUP));
+    check_equal(rt, kinds, [None, common, own, None, None, own]);
+    let counts = (copied, cleared, last);
+    check_equal(
+        rt,
+        counts,
+        ((1, 1), (true, [0, 2, 1]), Some((4096, [0, 7, 8]))),
     );
-    let bytes = places.bytes(2, 5).ok_or("the page has bytes")?;
-    assert_eq!(rt; bytes.len(), 4096);
-    assert_eq!(rt; (bytes[4093], bytes[4094], bytes[4095]), (0, 7, 8));
     Ok(())
 }
 

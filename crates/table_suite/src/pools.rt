@@ -1,8 +1,11 @@
-ghost use Rattle.std.specs.Prelude.{◌≡◌, ◌<◌};
+ghost use Rattle.std.specs.Prelude.{◌≡◌, ◌≢◌, ◌<◌, ℕ, length};
+ghost use Rattle.frame_pool.specs.Frame.{frame_count};
+ghost use Rattle.node_pool.specs.Nodes.{count_of};
 
-use frame_pool::Pool;
+use crate::checks::check_equal;
+use frame_pool::{FrameNo, Pool};
 use lwc_base::Tag;
-use node_pool::NodePool;
+use node_pool::{NodeNo, NodePool};
 use pool_base::{Counts, Steps, put_next};
 use std::alloc::Global;
 use std::marker::Brand;
@@ -13,16 +16,17 @@ use std::test::Fail;
 #[test]
 fn two_places_are_taken_held_and_given_back(rt: HostRuntime) -> Result<(), Fail> {
     let mut counts = Counts::open(rt.alloc(), 2)?;
-    let first = counts.take().ok_or("none is held")?;
-    let second = counts.take().ok_or("one is held")?;
-    assert_eq!(rt; counts.take(), None);
-    assert_eq!(rt; (counts.len(), counts.used()), (2, 2));
-    assert_eq!(rt; counts.count(first), 1);
+    let first = counts.take().expect(&rt, "none is held");
+    let second = counts.take().expect(&rt, "one is held");
+    assert!(rt; counts.take().is_none());
+    let taken = [counts.len(), counts.used(), counts.count(first)];
     counts.hold(first);
-    assert_eq!(rt; counts.count(first), 2);
+    let held = counts.count(first);
     counts.drop_hold(second);
-    assert_eq!(rt; counts.used(), 1);
-    assert_eq!(rt; counts.take(), Some(second));
+    let used = counts.used();
+    let again = counts.take();
+    check_equal(&rt, (taken, held, used), ([2, 2, 1], 2, 1));
+    check_equal(&rt, again, Some(second));
     Ok(())
 }
 
@@ -32,7 +36,7 @@ fn an_element_is_put_over_another_and_after_it(rt: HostRuntime) -> Result<(), Fa
     put_next(&mut items, 0, 7u8);
     put_next(&mut items, 0, 8u8);
     put_next(&mut items, 1, 9u8);
-    assert_eq!(rt; items.as_slice(), [8, 9].as_slice());
+    check_equal(&rt, items.as_slice(), [8, 9].as_slice());
     Ok(())
 }
 
@@ -50,33 +54,89 @@ fn two_steps<L: Ledger>(blank: Blank) -> u64
 }
 
 #[test]
-fn steps_take_no_bytes(rt: HostRuntime) -> Result<(), Fail> {
-    assert_eq!(rt; std::mem::size_of::<Steps<Brand>>(), 0);
-    assert_eq!(rt; two_steps::<Brand>(Blank::new(1)), 2);
-    Ok(())
+fn steps_take_no_bytes(rt: HostRuntime) {
+    let size = std::mem::size_of::<Steps<Brand>>();
+    check_equal(&rt, (size, two_steps::<Brand>(Blank::new(1))), (0, 2));
+}
+
+/// Writes the last byte of a frame, and copies the frame: the last byte and the stamp of the other one.
+fn copied(pool: &mut Pool, from: FrameNo, to: FrameNo) -> (u8, Tag)
+    requires from { frame_count pool.old from.n ≡ 1 }
+    requires to { frame_count pool.old to.n ≡ 1 }
+    requires apart { from.n ≢ to.n }
+    ensures size { length pool.new ≡ length pool.old }
+    ensures counts { (n : ℕ) → frame_count pool.new n ≡ frame_count pool.old n }
+{
+    pool.bytes_mut(from)[4095] = 7;
+    pool.copy_to(from, to);
+    (pool.bytes(to)[4095], pool.stamp(to))
+}
+
+/// Holds a frame once more, gives another one back, and takes one: the holds of both and the frames in use before, the
+/// frames in use after, and then the frame that is taken and its last byte.
+fn given_back(
+    rt: &impl Abort,
+    pool: &mut Pool,
+    held: FrameNo,
+    dropped: FrameNo,
+) -> ([u32; 4], FrameNo, u8)
+    requires held { frame_count pool.old held.n ≡ 1 }
+    requires dropped { frame_count pool.old dropped.n ≡ 1 }
+    requires apart { held.n ≢ dropped.n }
+{
+    pool.hold(held);
+    let [first, second, used] = [pool.count(held), pool.count(dropped), pool.used()];
+    pool.drop_hold(dropped);
+    let counts = [first, second, used, pool.used()];
+    let taken = pool.take(Tag { job: 1, k: 3 }).expect(rt, "one is held");
+    (counts, taken, pool.bytes(taken)[4095])
 }
 
 #[test]
 fn two_frames_are_taken_and_one_comes_back_zeroed(rt: HostRuntime) -> Result<(), Fail> {
     let mut pool = Pool::open(rt.alloc(), 2)?;
-    let first = pool.take(Tag { job: 1, k: 0 }).ok_or("none is held")?;
-    let second = pool.take(Tag { job: 1, k: 1 }).ok_or("one is held")?;
-    assert_eq!(rt; pool.take(Tag { job: 1, k: 2 }), None);
-    pool.bytes_mut(first)[4095] = 7;
+    let first = pool.take(Tag { job: 1, k: 0 }).expect(&rt, "none is held");
+    let second = pool.take(Tag { job: 1, k: 1 }).expect(&rt, "one is held");
+    assert!(rt; pool.take(Tag { job: 1, k: 2 }).is_none());
     assert!(rt; first != second);
-    pool.copy_to(first, second);
-    assert_eq!(rt; pool.bytes(second)[4095], 7);
-    assert_eq!(rt; pool.stamp(second), Tag { job: 1, k: 1 });
-    pool.hold(first);
-    assert_eq!(rt; (pool.count(first), pool.used()), (2, 2));
-    assert_eq!(rt; pool.count(second), 1);
-    pool.drop_hold(second);
-    assert_eq!(rt; pool.used(), 1);
-    let third = pool.take(Tag { job: 1, k: 3 }).ok_or("one is held")?;
-    assert_eq!(rt; third, second);
-    assert_eq!(rt; pool.bytes(third)[4095], 0);
-    assert_eq!(rt; pool.len(), 2);
+    let copied = copied(&mut pool, first, second);
+    let given_back = given_back(&rt, &mut pool, first, second);
+    let expected = ((7, Tag { job: 1, k: 1 }), ([2, 1, 2, 1], second, 0), 2);
+    check_equal(&rt, (copied, given_back, pool.len()), expected);
     Ok(())
+}
+
+/// Writes an entry of the first of two nodes: that entry of both, and the levels of both.
+fn entered(pool: &mut NodePool, first: NodeNo, second: NodeNo) -> ([u32; 2], [u8; 2])
+    requires first { count_of pool.old first.n ≡ 1 × (first.n < length pool.old) }
+    requires second { count_of pool.old second.n ≡ 1 × (second.n < length pool.old) }
+    ensures size { length pool.new ≡ length pool.old }
+    ensures counts { (n : ℕ) → count_of pool.new n ≡ count_of pool.old n }
+{
+    pool.set_entry(first, 31, 9);
+    (
+        [pool.entry(first, 31), pool.entry(second, 31)],
+        [pool.level(first), pool.level(second)],
+    )
+}
+
+/// Holds the second of two nodes once more, gives the first back, and takes one: the holds of the second, the node that
+/// is taken, and the entry that was written in the first.
+fn taken_again<L: Ledger>(
+    rt: &impl Abort,
+    pool: &mut NodePool,
+    first: NodeNo,
+    second: NodeNo,
+    steps: &mut Steps<L>,
+) -> (u32, NodeNo, u32)
+    requires first { count_of pool.old first.n ≡ 1 × (first.n < length pool.old) }
+    requires second { count_of pool.old second.n ≡ 1 × (second.n < length pool.old) }
+{
+    pool.hold(second, steps);
+    let held = pool.count(second);
+    pool.drop_hold(first, steps);
+    let taken = pool.take(2, steps).expect(rt, "one is held");
+    (held, taken, pool.entry(taken, 31))
 }
 
 /// Takes two nodes, writes an entry, and takes one of them again.
@@ -87,18 +147,12 @@ fn try_two_nodes<L: Ledger>(rt: &impl Abort, alloc: Global, blank: Blank) -> Res
 {
     let mut steps = Steps::<L>::new(blank);
     let mut pool = NodePool::open(alloc, 2)?;
-    let first = pool.take(1, &mut steps).ok_or("none is held")?;
-    let second = pool.take(2, &mut steps).ok_or("one is held")?;
-    assert_eq!(rt; pool.take(1, &mut steps), None);
-    pool.set_entry(first, 31, 9);
-    assert_eq!(rt; (pool.entry(first, 31), pool.entry(second, 31)), (9, 0));
-    assert_eq!(rt; (pool.level(first), pool.level(second)), (1, 2));
-    pool.hold(second, &mut steps);
-    assert_eq!(rt; pool.count(second), 2);
-    pool.drop_hold(first, &mut steps);
-    let third = pool.take(2, &mut steps).ok_or("one is held")?;
-    assert_eq!(rt; third, first);
-    assert_eq!(rt; pool.entry(third, 31), 0);
+    let first = pool.take(1, &mut steps).expect(rt, "none is held");
+    let second = pool.take(2, &mut steps).expect(rt, "one is held");
+    assert!(rt; pool.take(1, &mut steps).is_none());
+    let entered = entered(&mut pool, first, second);
+    let again = taken_again(rt, &mut pool, first, second, &mut steps);
+    check_equal(rt, (entered, again), (([9, 0], [1, 2]), (2, first, 0)));
     Ok(())
 }
 

@@ -1,9 +1,9 @@
 ghost use Rattle.std.specs.Prelude.{◌≡◌, ◌<◌, ◌+◌, ◌-◌, ◌%◌, ◌&&◌, ◌==◌, if◌then◌else◌, ℕ, None, Some, nat_lt};
 
+use crate::checks::check_equal;
 use lwc_base::SlotNumber;
 use reach::links::Links;
 use reach::marks::{Marks, mark};
-use std::test::Fail;
 
 /// Places 0 and 1 link to each other by their last slots, and so do 2 and 3.
 struct Cycles;
@@ -23,14 +23,24 @@ impl Links for Cycles {
     }
 }
 
+/// Whether places 0 to 3 and 528 are marked.
+fn marked(marks: &Marks) -> [bool; 5] {
+    [
+        marks.marked(0),
+        marks.marked(1),
+        marks.marked(2),
+        marks.marked(3),
+        marks.marked(528),
+    ]
+}
+
 #[test]
-fn a_cycle_is_reached_from_a_root_in_it(rt: HostRuntime) -> Result<(), Fail> {
+fn a_cycle_is_reached_from_a_root_in_it(rt: HostRuntime) {
     let mut marks = Marks::new();
     mark(&Cycles, &[1], &mut marks);
-    assert!(rt; marks.marked(0) && marks.marked(1));
-    assert!(rt; !marks.marked(2) && !marks.marked(3) && !marks.marked(528));
+    let first = marked(&marks);
     mark(&Cycles, &[3, 528], &mut marks);
-    assert!(rt; !marks.marked(0) && !marks.marked(1));
-    assert!(rt; marks.marked(2) && marks.marked(3) && marks.marked(528));
-    Ok(())
+    let second = marked(&marks);
+    check_equal(&rt, first, [true, true, false, false, false]);
+    check_equal(&rt, second, [false, false, true, true, true]);
 }

@@ -1,8 +1,10 @@
 ghost use Rattle.std.specs.Prelude.{◌≡◌, ◌<◌, length};
 ghost use Rattle.fd_table.specs.Seen.{slots as seen};
+ghost use Rattle.fd_table.specs.Slots.{no_slots, row_of};
 ghost use Rattle.lwc_base.specs.declared.descriptor.Lent.TheVariants.{Ctx};
 ghost use Rattle.lwc_base.specs.declared.descriptor.TheConstants.{SLOTS};
 
+use crate::checks::check_equal;
 use access_cap::{empty, full, owned};
 use fd_table::*;
 use lwc_base::{Cap, Cell, Descriptor, Grant, Lent, Name};
@@ -18,6 +20,9 @@ fn link(keys: Grant<'_>) -> Lent<'_>
     Lent::Ctx { name: NAME, keys }
 }
 
+/// A group with common slots.
+const GROUP: Name = Name { job: 1, k: 1 };
+
 /// The capability of a slot's descriptor; none where it has no descriptor of a context of its own.
 fn keys_at(slots: &Slots, i: usize, n: u8) -> Option<Cap>
     requires place { i < length (seen slots.now) }
@@ -32,71 +37,144 @@ fn keys_at(slots: &Slots, i: usize, n: u8) -> Option<Cap>
     }
 }
 
+/// What a place has in common and of its own: its filled slots and its common ones as bits, and how many are filled.
+fn bits_of(slots: &Slots, i: usize) -> (u64, u64, u32)
+    requires { i < length (seen slots.now) }
+{
+    (slots.filled(i), slots.common(i), slots.count_filled(i))
+}
+
+/// The lowest filled slots from 0 and from 6, the lowest from 5 that is not filled, and the lowest common one from 64.
+fn lowest_bits(filled: u64, common: u64) -> [Option<u8>; 4] {
+    [
+        lowest_bit(filled, 0),
+        lowest_bit(filled, 6),
+        lowest_bit(!filled, 5),
+        lowest_bit(common, 64),
+    ]
+}
+
+/// Puts a context into slot 5 of the first of three places and a common cell into its slot 63, and clones the place.
+fn fill_and_clone(slots: &mut Slots) -> (u64, u64, u32)
+    requires places { length (seen slots.old) ≡ 3 }
+    requires empty { row_of (seen slots.old) 1 ≡ no_slots }
+    ensures { length (seen slots.new) ≡ 3 }
+{
+    slots.put(0, 5, Cell::Own(link(Grant::None)), Some(2));
+    slots.put(0, 63, Cell::Common(GROUP), Some(1));
+    let bits = bits_of(slots, 0);
+    slots.clone_place(1, 0);
+    bits
+}
+
+/// Puts another cell into slot 5 of the first place: whether both have their own, the contexts there, and whether 2 is named.
+fn part_slot(slots: &mut Slots) -> ([bool; 3], [Option<Name>; 2])
+    requires { length (seen slots.old) ≡ 3 }
+    ensures { length (seen slots.new) ≡ 3 }
+{
+    slots.put(0, 5, Cell::Own(Lent::Console), None);
+    let first = matches!(slots.cell(0, 5), Cell::Own(Lent::Console));
+    let second = matches!(slots.cell(1, 5), Cell::Own(Lent::Ctx { .. }));
+    let contexts = [slots.context(1, 5), slots.context(0, 5)];
+    ([first, second, slots.is_named(2)], contexts)
+}
+
+/// Copies a slot of the second place into the third and clears the second: the context of its common slot before,
+/// whether its last slot is empty after, and whether 1 and 2 are named.
+fn clear_cloned(slots: &mut Slots) -> (Option<Name>, [bool; 3])
+    requires { length (seen slots.old) ≡ 3 }
+    ensures { length (seen slots.new) ≡ 3 }
+{
+    slots.copy_slot(2, 5, 1, 5);
+    slots.put(1, 1, Cell::Common(GROUP), Some(2));
+    let context = slots.context(1, 1);
+    slots.clear_place(1);
+    let empty = matches!(slots.cell(1, 63), Cell::Own(Lent::Empty));
+    (context, [empty, slots.is_named(1), slots.is_named(2)])
+}
+
 #[test]
 fn places_share_cells_until_they_drop_them(rt: HostRuntime) -> Result<(), Fail> {
     let mut slots = Slots::open(rt.alloc(), 3)?;
-    slots.put(0, 5, Cell::Own(link(Grant::None)), Some(2));
-    slots.put(0, 63, Cell::Common(Name { job: 1, k: 1 }), Some(1));
-    assert_eq!(rt; slots.filled(0), 0x8000_0000_0000_0020);
-    assert_eq!(rt; slots.common(0), 0x8000_0000_0000_0000);
-    assert_eq!(rt; slots.count_filled(0), 2);
-    assert_eq!(rt;
-        (
-            lowest_bit(slots.filled(0), 0),
-            lowest_bit(slots.filled(0), 6)
-        ),
-        (Some(5), Some(63))
-    );
-    assert_eq!(rt;
-        (
-            lowest_bit(!slots.filled(0), 5),
-            lowest_bit(slots.common(0), 64)
-        ),
-        (Some(6), None)
-    );
-    slots.clone_place(1, 0);
-    slots.put(0, 5, Cell::Own(Lent::Console), None);
-    assert!(rt; matches!(slots.cell(0, 5), Cell::Own(Lent::Console)));
-    assert!(rt; matches!(slots.cell(1, 5), Cell::Own(Lent::Ctx { .. })));
-    assert_eq!(rt;
-        (slots.context(1, 5), slots.context(0, 5)),
-        (Some(NAME), None)
-    );
-    assert!(rt; slots.is_named(2));
+    let filled = fill_and_clone(&mut slots);
+    let parted = part_slot(&mut slots);
+    let cleared = clear_cloned(&mut slots);
     slots.copy_slot(2, 5, 1, 5);
-    slots.put(1, 1, Cell::Common(Name { job: 1, k: 1 }), Some(2));
-    assert_eq!(rt; slots.context(1, 1), None);
-    slots.clear_place(1);
-    assert!(rt; matches!(slots.cell(1, 63), Cell::Own(Lent::Empty)));
-    assert_eq!(rt; (slots.is_named(1), slots.is_named(2)), (true, true));
-    slots.copy_slot(2, 5, 1, 5);
-    assert_eq!(rt; (slots.is_named(1), slots.is_named(2)), (true, false));
-    assert_eq!(rt; (slots.filled(1), slots.common(1)), (0, 0));
+    let named = [slots.is_named(1), slots.is_named(2)];
+    let last = bits_of(&slots, 1);
+    let lowest = lowest_bits(filled.0, filled.1);
+    check_equal(&rt, lowest, [Some(5), Some(63), Some(6), None]);
+    let bits = (0x8000_0000_0000_0020, 0x8000_0000_0000_0000, 2);
+    check_equal(&rt, (filled, last, named), (bits, (0, 0, 0), [true, false]));
+    let contexts = ([true; 3], [Some(NAME), None]);
+    check_equal(&rt, (parted, cleared), (contexts, (None, [true; 3])));
     Ok(())
+}
+
+/// A capability of pages alone, which has this word of them.
+fn pages_of(word: u64) -> Cap {
+    let mut cap = empty();
+    cap.pages[200] = word;
+    cap
+}
+
+/// Puts the context into a slot of the first place, with these keys.
+fn put_keys(slots: &mut Slots, n: u8, keys: Grant<'_>)
+    requires place { 0 < length (seen slots.old) }
+    requires slot { n < SLOTS }
+    ensures { length (seen slots.new) ≡ length (seen slots.old) }
+{
+    slots.put(0, n, Cell::Own(link(keys)), Some(2));
+}
+
+/// Whether a slot of the first place has these keys.
+fn has_keys(slots: &Slots, n: u8, keys: &Cap) -> bool
+    requires place { 0 < length (seen slots.now) }
+    requires slot { n < SLOTS }
+{
+    keys_at(slots, 0, n) == Some(*keys)
+}
+
+/// Puts some keys, and all of 70 pages, beside each other: whether both are kept.
+fn put_both(slots: &mut Slots, some: &Cap) -> [bool; 2]
+    requires { 0 < length (seen slots.old) }
+    ensures { length (seen slots.new) ≡ length (seen slots.old) }
+{
+    put_keys(slots, 1, Grant::Of(some));
+    put_keys(slots, 2, Grant::All { pages: 70 });
+    [has_keys(slots, 1, some), has_keys(slots, 2, &full(70))]
+}
+
+/// Copies a slot with some keys, and empties it: whether the copy has them still, and the slot has none.
+fn outlive_one(slots: &mut Slots, some: &Cap) -> [bool; 2]
+    requires { 0 < length (seen slots.old) }
+    ensures { length (seen slots.new) ≡ length (seen slots.old) }
+{
+    slots.copy_slot(0, 9, 0, 1);
+    slots.put(0, 1, Cell::Own(Lent::Empty), None);
+    [has_keys(slots, 9, some), keys_at(slots, 0, 1).is_none()]
+}
+
+/// Takes an object again, with no key and then with one word of them: whether it has those.
+fn take_again(slots: &mut Slots) -> [bool; 2]
+    requires { 0 < length (seen slots.old) }
+{
+    let other = pages_of(6);
+    put_keys(slots, 9, Grant::None);
+    let has_none = has_keys(slots, 9, &empty());
+    put_keys(slots, 9, Grant::Of(&other));
+    [has_none, has_keys(slots, 9, &other)]
 }
 
 #[test]
 fn words_of_capabilities_are_kept_apart(rt: HostRuntime) -> Result<(), Fail> {
     let mut slots = Slots::open(rt.alloc(), 2)?;
-    let mut some = empty();
-    some.pages[200] = 5;
-    let keys = Grant::Of(&some);
-    slots.put(0, 1, Cell::Own(link(keys)), Some(2));
-    slots.put(0, 2, Cell::Own(link(Grant::All { pages: 70 })), Some(2));
-    assert!(rt; keys_at(&slots, 0, 1) == Some(some));
-    assert!(rt; keys_at(&slots, 0, 2) == Some(full(70)));
+    let some = pages_of(5);
+    let both = put_both(&mut slots, &some);
     // A descriptor in two slots of a place is one object, which outlives one of them.
-    slots.copy_slot(0, 9, 0, 1);
-    slots.put(0, 1, Cell::Own(Lent::Empty), None);
-    assert!(rt; keys_at(&slots, 0, 9) == Some(some));
-    assert!(rt; keys_at(&slots, 0, 1).is_none());
+    let copied = outlive_one(&mut slots, &some);
     // An object that is taken again has the new keys, whatever its words were.
-    slots.put(0, 9, Cell::Own(link(Grant::None)), Some(2));
-    assert!(rt; keys_at(&slots, 0, 9) == Some(empty()));
-    let mut other = empty();
-    other.pages[200] = 6;
-    let keys = Grant::Of(&other);
-    slots.put(0, 9, Cell::Own(link(keys)), Some(2));
-    assert!(rt; keys_at(&slots, 0, 9) == Some(other));
+    let again = take_again(&mut slots);
+    check_equal(&rt, [both, copied, again], [[true; 2]; 3]);
     Ok(())
 }

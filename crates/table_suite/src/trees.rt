@@ -5,6 +5,7 @@ ghost use Rattle.page_tree.specs.Pages.{entry_for};
 ghost use Rattle.page_tree.specs.Short.{link_short};
 ghost use Rattle.page_tree.specs.Sound.{IsSound, IsTree, trees_at};
 
+use crate::checks::check_equal;
 use lwc_base::Range;
 use node_pool::NodeNo;
 use page_tree::{PAGES, PageCell, PageTree, Store};
@@ -129,11 +130,11 @@ fn try_whole<L: Ledger>(rt: &impl Abort, alloc: Global, blank: Blank) -> Result<
     copy.share_range(&tree, &mut store, WHOLE, &mut steps);
     assert!(rt; before <= free_nodes(&store) + 1);
     compare(rt, &copy, &store, WHOLE, true);
-    assert_eq!(rt; copy.look(&store, 12513), (PageCell::Zero, false));
+    check_equal(rt, copy.look(&store, 12513), (PageCell::Zero, false));
     copy.unshare_path(&mut store, 12513, &mut steps);
     assert!(rt; copy.is_alone(&store, 12513));
     copy.set(&mut store, 12513, PageCell::Absent, &mut steps);
-    assert_eq!(rt; copy.get(&store, 12513), PageCell::Absent);
+    check_equal(rt, copy.get(&store, 12513), PageCell::Absent);
     compare(rt, &tree, &store, WHOLE, true);
     Ok(())
 }

@@ -1,3 +1,4 @@
+use crate::checks::check_equal;
 use lwc_base::{Channels, FileImage, Item, Kind, Mode, PageBytes, Sequence, Spec, may_open};
 use std::test::Fail;
 
@@ -8,10 +9,10 @@ fn what_is_written_is_read_back_in_order(rt: HostRuntime) -> Result<(), Fail> {
     io.append_console([1, 2].as_slice());
     io.append_console([3].as_slice());
     io.append_reply(0, [4].as_slice());
-    assert_eq!(rt; io.console(), [1, 2, 3].as_slice());
-    assert_eq!(rt; io.reply(0), [4].as_slice());
-    assert_eq!(rt; io.requests().get(0).as_slice(), [9].as_slice());
-    assert_eq!(rt; io.files().len(), 0);
+    check_equal(&rt, io.console(), [1, 2, 3].as_slice());
+    check_equal(&rt, io.reply(0), [4].as_slice());
+    let request = io.requests().get(0).as_slice();
+    check_equal(&rt, (request, io.files().len()), ([9].as_slice(), 0));
     Ok(())
 }
 
@@ -30,7 +31,7 @@ fn uid_0_the_owner_and_all_for_what_is_public(rt: HostRuntime) -> Result<(), Fai
             public,
             bytes,
         };
-        assert_eq!(rt; may_open(uid, &file), allowed);
+        check_equal(&rt, may_open(uid, &file), allowed);
     }
     Ok(())
 }
@@ -40,24 +41,23 @@ fn a_byte_is_put_into_a_copy(rt: HostRuntime) -> Result<(), Fail> {
     let zeros = PageBytes::zero(rt.alloc())?;
     let mut page = PageBytes::copy_of(rt.alloc(), &zeros)?;
     page.put(4095, 7);
-    assert_eq!(rt; zeros.as_slice()[4095], 0);
-    assert_eq!(rt; page.as_slice()[4094], 0);
-    assert_eq!(rt; page.as_slice()[4095], 7);
+    let bytes = page.as_slice();
+    let seen = [zeros.as_slice()[4095], bytes[4094], bytes[4095]];
+    check_equal(&rt, seen, [0, 0, 7]);
     Ok(())
 }
 
 #[test]
 fn a_vec_goes_in_and_comes_out(rt: HostRuntime) -> Result<(), Fail> {
     let sequence = Sequence::of(vec![in rt.alloc(); 5u8, 6, 7]?);
-    assert_eq!(rt; sequence.len(), 3);
-    assert!(rt; !sequence.is_empty());
-    assert_eq!(rt; sequence.as_slice(), [5, 6, 7].as_slice());
-    assert_eq!(rt; sequence.into_vec().as_slice(), [5, 6, 7].as_slice());
+    let seen = (sequence.len(), sequence.is_empty(), sequence.as_slice());
+    check_equal(&rt, seen, (3, false, [5, 6, 7].as_slice()));
+    check_equal(&rt, sequence.into_vec().as_slice(), [5, 6, 7].as_slice());
     Ok(())
 }
 
 #[test]
-fn items_are_kept_in_order(rt: HostRuntime) -> Result<(), Fail> {
+fn items_are_kept_in_order(rt: HostRuntime) {
     let pages = Item {
         kind: Kind::Page,
         mode: Mode::Share,
@@ -71,9 +71,8 @@ fn items_are_kept_in_order(rt: HostRuntime) -> Result<(), Fail> {
         to: 1,
     };
     let mut spec = Spec::empty();
-    assert_eq!(rt; spec.items().len(), 0);
+    check_equal(&rt, spec.items().len(), 0);
     spec.push(pages);
     spec.push(cred);
-    assert_eq!(rt; spec.items(), [pages, cred].as_slice());
-    Ok(())
+    check_equal(&rt, spec.items(), [pages, cred].as_slice());
 }

@@ -30,8 +30,8 @@ zeros-new n old new s tag begun changed some zeros = λ k q bytes is.
     by q true bytes none is = let value : cell.Own (Some Zero) ≡ cell.Own (Some (Data tag bytes)) = ap (λ origin. origin_cell old origin q) (sym zeros) ∙ is in cc
     by q false bytes none is = cc
 
-pub write-parted-requires-clause-new : goal.write-parted-requires-clause-new
-write-parted-requires-clause-new g c =
+pub write_end-is_parting-requires-clause-new : goal.write_end-is_parting-requires-clause-new
+write_end-is_parting-requires-clause-new g c =
     zeros-new 3 (cells c.in_ok-places.places) (cells c.change.new.places) c.page_run.result (record { job = 1; k = 0 }) c.in_ok-places.ensures.cells c.change.ensures
     (omega (arith, ap length c.in_ok-places.ensures.cells, length-replicate 3 no_pages))
     (ap (λ (s : PageRun). s.origin) c.page_run.ensures)
