@@ -1,5 +1,5 @@
 -- The generated server is an image.
-use Rattle.std.proofs.Common.{◌≡◌, ◌-◌, ◌<◌, ℕ, zero, suc, Bool, true, ◌&&◌, List, [], ◌∷◌, get_or, length, refl, sym, subst, ◌∙◌, arith, length-append}
+use Rattle.std.proofs.Common.{◌≡◌, ◌-◌, ◌<◌, ℕ, zero, suc, Bool, true, ◌&&◌, List, [], ◌∷◌, ◌++◌, ap, get_or, length, refl, replicate, sym, subst, take, ◌∙◌, arith, length-append}
 use lib.ListN.{length-replicate}
 use Rattle.std.specs.Prelude.{All}
 use Rattle.std.specs.Int.{to_le_bytes, w64}
@@ -39,6 +39,13 @@ handler_is_text = record {
 page_whole : (p : ℕ) → length (numbered_page p).bytes ≡ PAGE_BYTES
 unfolding zero_bytes
 page_whole p = length-append (to_le_bytes w64 p) (zero_bytes (PAGE_BYTES - 8)) ∙ omega (arith, length-replicate {A = ℕ} (PAGE_BYTES - 8) 0)
+
+-- the bytes of a page's number, filled up with zeros to a page
+pub page_filled : (p : ℕ) (bytes : List ℕ) (count : ℕ) → bytes ≡ to_le_bytes w64 p → count ≡ length bytes → take PAGE_BYTES bytes ++ replicate (PAGE_BYTES - count) 0 ≡ (numbered_page p).bytes
+unfolding zero_bytes
+page_filled p bytes count are many =
+    ap (λ (bs : List ℕ). take PAGE_BYTES bs ++ replicate (PAGE_BYTES - count) 0) are
+    ∙ ap (λ (n : ℕ). to_le_bytes w64 p ++ replicate (PAGE_BYTES - n) 0) (many ∙ ap length are)
 
 -- the pages are those of an image
 pages_are : ArePages One server.pages

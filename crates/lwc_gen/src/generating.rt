@@ -1,8 +1,7 @@
-ghost use Rattle.std.specs.Prelude.{◌≡◌, ◌<◌, ◌≤◌, ◌+◌, ◌*◌, ◌++◌, [], ◌∷◌, IfOk, length, map};
+ghost use Rattle.std.specs.Prelude.{◌≡◌, ◌<◌, ◌≤◌, ◌+◌, ◌*◌, IfOk, map};
 ghost use Rattle.std.specs.Int.{to_le_bytes, w64};
 ghost use Rattle.std.specs.List.{range_with_len};
 ghost use Rattle.guest_image.specs.Limits.{IsImage};
-ghost use Rattle.lwc_base.specs.Pages.{zero_bytes};
 ghost use Rattle.lwc_gen.specs.Generated as spec;
 
 use crate::handler::HANDLER;
@@ -32,16 +31,28 @@ pub fn generate(alloc: Global, number: u32) -> Result<(Image, Requests), OutOfMe
     ensures image { IfOk result (λ g. IsImage g.0) }
     ensures requests { IfOk result (λ g. g.1 ≡ spec.requests_of number) }
 {
-    let image = Image {
+    let requests = requests(alloc, u64::from(number))?;
+    let image = server(alloc)?;
+    Ok((image, requests))
+}
+
+/// The server. The only error is out of memory.
+fn server(alloc: Global) -> Result<Image, OutOfMemory>
+    ensures server { IfOk result (λ image. image ≡ spec.server) }
+    ensures image { IfOk result IsImage }
+{
+    let entries = vec![in alloc; 0]?;
+    let text = handler(alloc)?;
+    let pages = numbered_pages(alloc)?;
+    Ok(Image {
         form: Form::One,
-        text: handler(alloc)?,
+        text,
         uid: 0,
-        pages: numbered_pages(alloc)?,
+        pages,
         files: Sequence::of(Vec::new(alloc)),
         slots: Sequence::of(Vec::new(alloc)),
-        entries: Sequence::of(vec![in alloc; 0]?),
-    };
-    Ok((image, requests(alloc, u64::from(number))?))
+        entries: Sequence::of(entries),
+    })
 }
 
 /// The handler.
@@ -68,17 +79,8 @@ fn word_page(alloc: Global, word: u64) -> Result<PageBytes, OutOfMemory>
     ensures { IfOk result (λ page. page ≡ (spec.numbered_page word).bytes) }
 {
     let mut bytes = Vec::from_slice(alloc, &word.to_le_bytes())?;
-    bytes.extend_from_slice(zeros(alloc, PAGE_BYTES - 8)?.as_slice())?;
-    Ok(PageBytes::from_slice(alloc, bytes.as_slice())?)
-}
-
-/// This number of zero bytes.
-#[tactic(auto, unfolding(lwc_base::specs::Pages::zero_bytes))]
-fn zeros(alloc: Global, count: usize) -> Result<Vec<u8>, OutOfMemory>
-    ensures bytes { IfOk result (λ bytes. bytes.items ≡ zero_bytes count) }
-    ensures count { IfOk result (λ bytes. length bytes.items ≡ count) }
-{
-    Ok(vec![in alloc; 0; count]?)
+    bytes.resize(PAGE_BYTES, 0)?;
+    PageBytes::from_slice(alloc, bytes.as_slice())
 }
 
 /// The requests.
