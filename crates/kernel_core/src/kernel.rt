@@ -11,9 +11,10 @@ ghost use Rattle.kernel_core.specs.Machine.{steps_left, work};
 ghost use Rattle.kernel_core.specs.Machine as machines;
 ghost use Rattle.kernel_core.specs.Runs as runs;
 ghost use Rattle.kernel_core.specs.Settings.{IsSettings};
-ghost use Rattle.kernel_core.specs.Start.{start, thread_count};
+ghost use Rattle.kernel_core.specs.Start.{start, thread_count, threads_at, with_its_vault, world_for};
 ghost use Rattle.kernel_core.specs.declared.acting.Change.TheVariants as changes;
 ghost use Rattle.kernel_core.specs.Step.{contexts_of};
+ghost use Rattle.lwc_base.specs.Channels.{opened};
 ghost use Rattle.lwc_base.specs.Frames.{used};
 ghost use Rattle.lwc_base.specs.Life as life;
 ghost use Rattle.lwc_base.specs.Life.{IsReaped};
@@ -216,23 +217,20 @@ impl<W: World> Kernel<W> {
           settings = settings.now;
         }) steps) }
     {
-        let world: W = world_with_vault(alloc, image, vault, settings)?;
-        let serve = first_serve(alloc, settings, requests.len())?;
         let asked = Snapshot::of(&requests);
-        let channels = open_channels(alloc, image, requests)?;
-        let text = image.text.copy(alloc)?;
-        let threads = threads_at(alloc, image, settings.budget, settings.job)?;
+        let serve = first_serve(alloc, settings, requests.len())?;
         let schedule = Vec::with_capacity(alloc, steps as usize)?;
-        let peak = world.used();
+        let parts: Parts<W> = first_parts(alloc, image, vault, requests, settings)?;
+        let peak = parts.world.used();
         Ok(Kernel {
             image: Snapshot::of(image),
             vault: snapshot_of(vault),
             requests: asked,
             settings: *settings,
-            text,
-            world,
-            channels,
-            threads,
+            text: parts.text,
+            world: parts.world,
+            channels: parts.channels,
+            threads: parts.threads,
             serve,
             schedule,
             room: steps,
@@ -464,6 +462,40 @@ impl<W: World> Kernel<W> {
     {
         let _room = self.room;
     }
+}
+
+/// What a kernel is made of at the start of an image, with a vault if one is given. The only error is out of
+/// memory.
+fn first_parts<W: World>(
+    alloc: Global,
+    image: &Image,
+    vault: Option<&Vault>,
+    requests: Requests,
+    settings: &Settings,
+) -> Result<Parts<W>, OutOfMemory>
+    requires { CanOpen (record {
+      image = image.now;
+      vault = option_map (λ v. v.now) vault;
+      requests = requests;
+      settings = settings.now;
+    }) }
+    ensures world { IfOk result (λ parts. W.seen parts.world ≡ with_its_vault
+        (world_for image.now settings.now.frames settings.now.job) (option_map (λ v. v.now) vault.entry)) }
+    ensures channels { IfOk result (λ parts. parts.channels ≡ opened image.now.files requests) }
+    ensures text { IfOk result (λ parts. parts.text ≡ image.now.text) }
+    ensures threads { IfOk result (λ parts. parts.threads.items
+        ≡ threads_at image.now settings.now.budget settings.now.job) }
+{
+    let text = image.text.copy(alloc)?;
+    let threads = threads_at(alloc, image, settings.budget, settings.job)?;
+    let world = world_with_vault(alloc, image, vault, settings)?;
+    let channels = open_channels(alloc, image, requests)?;
+    Ok(Parts {
+        world,
+        channels,
+        text,
+        threads,
+    })
 }
 
 /// Drops the contexts that are reached neither from a thread's context nor from the homes of this number
