@@ -11,10 +11,10 @@ use Rattle.std.proofs.lemmas.Option.{get_or_from_slice_get, slice_get_within}
 use Rattle.std.proofs.Math.Seq.{drop-cons}
 use Rattle.kernel_core.specs.Kernel.{History, machine_of}
 use Rattle.kernel_core.specs.Machine.{Machine}
-use Rattle.kernel_core.specs.Runs.{kept, run}
+use Rattle.kernel_core.specs.Runs.{run}
 use Rattle.kernel_core.specs.Start.{Inputs, start}
 use Rattle.lwc_debug.specs.Telling.{Told, placed, told_by, told_here}
-use Rattle.lwc_debug.specs.Transcript.{answer, asked_place, moved_to, place_after, place_in, transcript, transcript_of_schedule}
+use Rattle.lwc_debug.specs.Transcript.{answer, asked_place, moved_to, place_after, place_in, transcript}
 use Rattle.lwc_debug.specs.declared.command.Command.{Command}
 use Rattle.lwc_debug.specs.declared.debugging.Answer.{Answer}
 
@@ -364,10 +364,3 @@ pub same_item : (xs : List Answer) (i : ℕ) (d e : Answer) → i < length xs �
 same_item [] i d e inside = absurd (omega (arith, inside))
 same_item (x ∷ xs) zero d e inside = refl
 same_item (x ∷ xs) (suc i) d e inside = same_item xs i d e (omega (arith, inside))
-
--- the answers in the run of the kept steps are those of the schedule
-pub of_schedule : (inputs first second : Inputs) (schedule steps text : List ℕ) (script : List Command) → first ≡ inputs → second ≡ inputs → steps ≡ kept (start first) schedule →
-    text ≡ transcript (start second) steps 0 script → text ≡ transcript_of_schedule inputs schedule script
-unfolding transcript_of_schedule
-of_schedule inputs first second schedule steps text script once twice is told =
-    told ∙ (λ j. transcript (start (twice j)) (is j) 0 script) ∙ ap (λ (x : Inputs). transcript (start inputs) (kept (start x) schedule) 0 script) once

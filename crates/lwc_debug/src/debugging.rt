@@ -46,6 +46,7 @@ pub(crate) struct Answer {
 ///
 /// `ImageTooLarge` exactly where the image has more pages than there are frames, which is tested before
 /// memory is taken; or `OutOfMemory`.
+#[tactic(auto, unfolding(crate::specs::Transcript::transcript_of_schedule))]
 pub fn debug<W: World>(
     alloc: Global,
     image: &Image,
@@ -64,12 +65,67 @@ pub fn debug<W: World>(
     ensures fits { length image.now.pages ≤ settings.now.frames →
         IfErr result (λ fault. fault ≡ OpenFault.OutOfMemory) }
 {
-    let kernel = opened::<W>(alloc, image, schedule.len(), settings)?;
-    let Ok(steps) = kept_steps(alloc, kernel, schedule) else {
-        return Err(OpenFault::OutOfMemory);
-    };
-    let kernel = opened::<W>(alloc, image, steps.len(), settings)?;
-    match answers(alloc, kernel, steps.as_slice(), script) {
+    let steps = steps_of_run::<W>(alloc, image, schedule, settings)?;
+    answers_of_run::<W>(alloc, image, steps.as_slice(), script, settings)
+}
+
+/// The steps that are kept of a schedule in a run of the image.
+fn steps_of_run<W: World>(
+    alloc: Global,
+    image: &Image,
+    schedule: &Schedule,
+    settings: &Settings,
+) -> Result<Vec<u8>, OpenFault>
+    requires image { IsImage image.now }
+    requires settings { IsSettings settings.now }
+    requires run { settings.now.job ≡ jobs.Run }
+    requires threads { All (λ t. t < length image.now.entries) schedule.now }
+    ensures kept { IfOk result (λ steps. steps.items
+        ≡ kept (start (inputs_of image.now settings.now)) schedule.now) }
+    ensures legal { IfOk result (λ steps. IsLegal (start (inputs_of image.now settings.now)) steps.items) }
+    ensures threads { IfOk result (λ steps. All (λ t. t < length image.now.entries) steps.items) }
+    ensures few { IfOk result (λ steps. length steps.items ≤ MOST_STEPS) }
+    ensures too_large { settings.now.frames < length image.now.pages →
+        result ≡ Err (OpenFault.ImageTooLarge (length image.now.pages) settings.now.frames) }
+    ensures fits { length image.now.pages ≤ settings.now.frames →
+        IfErr result (λ fault. fault ≡ OpenFault.OutOfMemory) }
+{
+    let mut kernel = opened::<W>(alloc, image, schedule.len(), settings)?;
+    let steps = kept_steps(alloc, &mut kernel, schedule);
+    // Let go here, once for both ways out.
+    drop(kernel);
+    match steps {
+        Ok(steps) => Ok(steps),
+        Err(_) => Err(OpenFault::OutOfMemory),
+    }
+}
+
+/// The answers to a script's commands in the run of the image that these steps make.
+fn answers_of_run<W: World>(
+    alloc: Global,
+    image: &Image,
+    steps: &[u8],
+    script: &Script,
+    settings: &Settings,
+) -> Result<Vec<u8>, OpenFault>
+    requires image { IsImage image.now }
+    requires settings { IsSettings settings.now }
+    requires run { settings.now.job ≡ jobs.Run }
+    requires few { length steps.now ≤ MOST_STEPS }
+    requires threads { All (λ t. t < length image.now.entries) steps.now }
+    requires legal { IsLegal (start (inputs_of image.now settings.now)) steps.now }
+    ensures text { IfOk result (λ text. text.items
+        ≡ transcript (start (inputs_of image.now settings.now)) steps.now 0 script.now) }
+    ensures too_large { settings.now.frames < length image.now.pages →
+        result ≡ Err (OpenFault.ImageTooLarge (length image.now.pages) settings.now.frames) }
+    ensures fits { length image.now.pages ≤ settings.now.frames →
+        IfErr result (λ fault. fault ≡ OpenFault.OutOfMemory) }
+{
+    let mut kernel = opened::<W>(alloc, image, steps.len(), settings)?;
+    let text = answers(alloc, &mut kernel, steps, script);
+    // Let go here, once for both ways out.
+    drop(kernel);
+    match text {
         Ok(text) => Ok(text),
         Err(_) => Err(OpenFault::OutOfMemory),
     }
@@ -98,22 +154,22 @@ fn opened<W: World>(
     Kernel::open(alloc, image, requests, steps as u32, settings)
 }
 
-/// The steps that are kept of a schedule.
+/// The steps that a kernel keeps of a schedule, which it makes.
 #[tactic(auto, using(crate::proofs::Legal::keeping))]
 fn kept_steps<W: World>(
     alloc: Global,
-    mut kernel: Kernel<W>,
+    kernel: &mut Kernel<W>,
     schedule: &Schedule,
 ) -> Result<Vec<u8>, OutOfMemory>
-    requires fresh { kernel.steps ≡ [] }
-    requires room { length schedule.now ≤ kernel.room }
-    requires threads { All (λ t. t < thread_count kernel.inputs) schedule.now }
-    ensures kept { IfOk result (λ steps. steps.items ≡ kept (start kernel.inputs) schedule.now) }
-    ensures legal { IfOk result (λ steps. IsLegal (start kernel.inputs) steps.items) }
-    ensures threads { IfOk result (λ steps. All (λ t. t < thread_count kernel.inputs) steps.items) }
+    requires fresh { kernel.old.steps ≡ [] }
+    requires room { length schedule.now ≤ kernel.old.room }
+    requires threads { All (λ t. t < thread_count kernel.old.inputs) schedule.now }
+    ensures kept { IfOk result (λ steps. steps.items ≡ kept (start kernel.old.inputs) schedule.now) }
+    ensures legal { IfOk result (λ steps. IsLegal (start kernel.old.inputs) steps.items) }
+    ensures threads { IfOk result (λ steps. All (λ t. t < thread_count kernel.old.inputs) steps.items) }
     ensures few { IfOk result (λ steps. length steps.items ≤ length schedule.now) }
 {
-    make_steps(&mut kernel, schedule)?;
+    make_steps(kernel, schedule)?;
     Ok(Vec::from_slice(alloc, kernel.schedule())?)
 }
 
@@ -121,21 +177,21 @@ fn kept_steps<W: World>(
 /// the last place of a command.
 fn answers<W: World>(
     alloc: Global,
-    mut kernel: Kernel<W>,
+    kernel: &mut Kernel<W>,
     steps: &[u8],
     script: &Script,
 ) -> Result<Vec<u8>, OutOfMemory>
-    requires fresh { kernel.steps ≡ [] }
-    requires room { kernel.room ≡ length steps.now }
-    requires threads { All (λ t. t < thread_count kernel.inputs) steps.now }
-    requires legal { IsLegal (start kernel.inputs) steps.now }
-    ensures { IfOk result (λ text. text.items ≡ transcript (start kernel.inputs) steps.now 0 script.now) }
+    requires fresh { kernel.old.steps ≡ [] }
+    requires room { kernel.old.room ≡ length steps.now }
+    requires threads { All (λ t. t < thread_count kernel.old.inputs) steps.now }
+    requires legal { IsLegal (start kernel.old.inputs) steps.now }
+    ensures { IfOk result (λ text. text.items ≡ transcript (start kernel.old.inputs) steps.now 0 script.now) }
 {
     let mut answers = placed(alloc, script, steps.len())?;
     let mut from = 0;
     'places: while let Some(place) = next_place(answers.as_slice(), from) {
-        go_on(&mut kernel, steps, place)?;
-        answer_here(&kernel, steps.len(), place, &mut answers)?;
+        go_on(kernel, steps, place)?;
+        answer_here(kernel, steps.len(), place, &mut answers)?;
         from = place + 1;
     }
     let text = joined(alloc, answers.as_slice())?;
