@@ -1,9 +1,11 @@
 //! Files to read and sinks to write to: those in memory, those of the system, and those that never fail.
 
+use crate::checks::check_equal;
 use lwc_io::{
     Failed, Files, MemoryFiles, MemorySink, NamedFile, RealFiles, RealSink, Sink, SureFiles,
     SureSink,
 };
+use std::alloc::Global;
 use std::process::Abort;
 use std::test::Fail;
 use std::{env, fs, process};
@@ -20,28 +22,35 @@ fn check_fetches<F: Files>(
         let mut buffer = [0u8; 2];
         let got = files.fetch(name, at, &mut buffer).map(|count| count.min(2));
         match (got, *piece) {
-            (Ok(count), Ok(bytes)) => assert_eq!(rt; &buffer[..count], bytes, "{name} at {at}"),
-            (got, piece) => {
-                assert_eq!(rt; got.is_err(), piece.is_err(), "{name} at {at}");
-            }
+            (Ok(count), Ok(bytes)) => check_equal(
+                rt,
+                (name, at, &buffer[..count]),
+                (name, at, bytes),
+            ),
+            (got, piece) => check_equal(rt, (name, at, got.is_err()), (name, at, piece.is_err())),
         }
         at = at.saturating_add(2);
     }
+}
+
+/// One file of five bytes, of which the fetch of this number fails.
+fn files_of_one(alloc: Global, failing: u64) -> Result<MemoryFiles, Fail> {
+    let image = NamedFile::new(alloc, "image", b"abcde")?;
+    let calls = vec![in alloc; failing]?;
+    Ok(MemoryFiles::new(alloc, vec![in alloc; image]?, calls)?)
 }
 
 #[test]
 fn memory_files_fail_at_the_calls_that_are_to_fail(rt: HostRuntime) -> Result<(), Fail> {
     let pieces: [Result<&[u8], Failed>; 4] = [Ok(b"ab"), Ok(b"cd"), Ok(b"e"), Ok(b"")];
     for failing in 0..4usize {
-        let image = NamedFile::new(rt.alloc(), "image", b"abcde")?;
-        let calls = vec![in rt.alloc(); failing as u64]?;
-        let mut files = MemoryFiles::new(rt.alloc(), vec![in rt.alloc(); image]?, calls)?;
+        let mut files = files_of_one(rt.alloc(), failing as u64)?;
         let mut wanted = pieces;
         wanted[failing] = Err(Failed);
         check_fetches(&rt, &mut files, "image", &wanted);
         check_fetches(&rt, &mut files, "absent", &[Err(Failed), Err(Failed)]);
-        assert_eq!(rt; files.fault_count("image"), 1);
-        assert_eq!(rt; files.fault_count("absent"), 2);
+        let faults = [files.fault_count("image"), files.fault_count("absent")];
+        check_equal(&rt, faults, [1, 2]);
     }
     Ok(())
 }
@@ -69,8 +78,15 @@ fn check_writes<S: Sink>(
     counts: &[Result<usize, Failed>],
 ) {
     for count in counts {
-        assert_eq!(rt; sink.write(piece), *count);
+        check_equal(rt, sink.write(piece), *count);
     }
+}
+
+/// A sink with room for two bytes that takes one a call, and of which the call of this number fails.
+fn sink_by_bytes(alloc: Global, failing: u64) -> Result<MemorySink, Fail> {
+    let mut sink = MemorySink::new(alloc, 1, vec![in alloc; failing]?);
+    sink.reserve(2)?;
+    Ok(sink)
 }
 
 #[test]
@@ -78,14 +94,12 @@ fn memory_sink_takes_a_byte_a_call_and_fails_at_the_calls_that_are_to_fail(
     rt: HostRuntime,
 ) -> Result<(), Fail> {
     for failing in 0..3usize {
-        let calls = vec![in rt.alloc(); failing as u64]?;
-        let mut sink = MemorySink::new(rt.alloc(), 1, calls);
-        sink.reserve(2)?;
+        let mut sink = sink_by_bytes(rt.alloc(), failing as u64)?;
         let mut wanted = [Ok(1), Ok(1), Ok(1)];
         wanted[failing] = Err(Failed);
         check_writes(&rt, &mut sink, b"xy", &wanted);
-        assert_eq!(rt; sink.bytes(), b"xx".as_slice());
-        assert_eq!(rt; sink.fault_count(), 1);
+        let seen = (sink.bytes(), sink.fault_count());
+        check_equal(&rt, seen, (b"xx".as_slice(), 1));
     }
     Ok(())
 }
@@ -107,7 +121,7 @@ fn real_sink_writes_to_its_writer(rt: HostRuntime) -> Result<(), Fail> {
     let mut sink = RealSink::new(Vec::new(rt.alloc()));
     check_writes(&rt, &mut sink, b"ab", &[Ok(2), Ok(2)]);
     check_writes(&rt, &mut sink, b"", &[Ok(0)]);
-    assert_eq!(rt; sink.into_inner().as_slice(), b"abab".as_slice());
+    check_equal(&rt, sink.into_inner().as_slice(), b"abab".as_slice());
     Ok(())
 }
 

@@ -1,5 +1,6 @@
 //! The handler of generated servers, the first of them, and the summary of the replies that it is to give.
 
+use crate::checks::check_equal;
 use guest_asm::assemble;
 use lwc_base::ThreadStatus;
 use lwc_gen::{HANDLER, Totals, generate};
@@ -54,19 +55,18 @@ fn first_totals() -> Totals {
 #[test]
 fn the_generated_handler_is_that_of_its_source(rt: HostRuntime) -> Result<(), Fail> {
     let image = assemble(rt.alloc(), GENERATED.as_bytes())?;
-    assert_eq!(rt; image.text.into_vec().as_slice(), HANDLER.as_slice());
+    check_equal(&rt, image.text.into_vec().as_slice(), HANDLER.as_slice());
     Ok(())
 }
 
 #[test]
 fn the_first_server(rt: HostRuntime) -> Result<(), Fail> {
     let (image, requests) = generate(rt.alloc(), 1)?;
-    assert_eq!(rt; image.pages.len(), 300);
-    assert_eq!(rt; image.text.len(), 21);
-    assert_eq!(rt; requests.len(), 10);
+    let counts = [image.pages.len(), image.text.len(), requests.len()];
+    check_equal(&rt, counts, [300, 21, 10]);
     for (r, request) in requests.as_slice().iter().enumerate() {
         let word = (r as u64).wrapping_add(1000);
-        assert_eq!(rt; request.as_slice(), word.to_le_bytes().as_slice());
+        check_equal(&rt, request.as_slice(), word.to_le_bytes().as_slice());
     }
     Ok(())
 }
@@ -76,9 +76,10 @@ fn the_first_summary(rt: HostRuntime) -> Result<(), Fail> {
     let mut totals = first_totals();
     add(&mut totals, None, &[7; 15]);
     let line = totals.line(rt.alloc(), 1)?;
-    assert_eq!(rt;
+    check_equal(
+        &rt,
         line.as_slice(),
-        b"gen 1 requests 11 done 10 sum 11170 count 10\n".as_slice()
+        b"gen 1 requests 11 done 10 sum 11170 count 10\n".as_slice(),
     );
     Ok(())
 }

@@ -1,5 +1,7 @@
+use crate::checks::check_equal;
 use guest_image::*;
 use std::alloc::{AllocError, Global};
+use std::process::Abort;
 use std::test::Fail;
 
 /// The image of a guest of four instructions and one page, up to the bytes of the page.
@@ -11,7 +13,7 @@ const STORE_LOAD: [u8; 64] = [
 
 fn store_load(alloc: Global) -> Result<Vec<u8>, AllocError> {
     let mut bytes = Vec::from_slice(alloc, &STORE_LOAD)?;
-    bytes.extend_from_slice(&vec![in alloc; 0; 4096]?)?;
+    bytes.extend_from_slice(&[0; 4096])?;
     bytes.extend_from_slice(&[0; 4])?;
     Ok(bytes)
 }
@@ -28,7 +30,7 @@ fn file_of(alloc: Global, form: Form, numbers: &[u32]) -> Result<Vec<u8>, AllocE
 /// An image of one instruction and one page, which has this number.
 fn one_page(alloc: Global, form: Form, number: u32) -> Result<Vec<u8>, AllocError> {
     let mut bytes = file_of(alloc, form, &[1, 1, 0, 0, 1, 0, 0x25, 0, number])?;
-    bytes.extend_from_slice(&vec![in alloc; 7; 4096]?)?;
+    bytes.extend_from_slice(&[7; 4096])?;
     bytes.extend_from_slice(&[0; 4])?;
     Ok(bytes)
 }
@@ -36,10 +38,9 @@ fn one_page(alloc: Global, form: Form, number: u32) -> Result<Vec<u8>, AllocErro
 /// An image of one instruction and some pages, with every second number.
 fn spaced_pages(alloc: Global, count: u32) -> Result<Vec<u8>, AllocError> {
     let mut bytes = file_of(alloc, Form::One, &[1, count, 0, 0, 1, 0, 0x25, 0])?;
-    let zeros = vec![in alloc; 0; 4096]?;
     for page in 0..count {
         bytes.extend_from_slice(&page.wrapping_mul(2).to_le_bytes())?;
-        bytes.extend_from_slice(&zeros)?;
+        bytes.extend_from_slice(&[0; 4096])?;
     }
     bytes.extend_from_slice(&[0; 4])?;
     Ok(bytes)
@@ -52,16 +53,32 @@ fn refusal(alloc: Global, bytes: &[u8]) -> Option<(ImageRule, u64)> {
     }
 }
 
+/// How many instructions, pages and entries an image has, and the first entry.
+fn shown(image: &Image) -> ([usize; 3], Option<u32>) {
+    let entries = image.entries.as_slice();
+    let counts = [image.text.len(), image.pages.len(), entries.len()];
+    (counts, entries.first().copied())
+}
+
+/// The form of an image that is read, how many instructions, pages and entries it has, the first entry, and whether it
+/// is written as it was read.
+fn read_again(alloc: Global, bytes: &[u8]) -> Result<(Form, [usize; 3], Option<u32>, bool), Fail> {
+    let image = read_image(alloc, bytes)?;
+    let (counts, first) = shown(&image);
+    let written = write_image(alloc, &image)?;
+    Ok((image.form, counts, first, written.as_slice() == bytes))
+}
+
 #[test]
 fn an_image_is_read_and_written_again(rt: HostRuntime) -> Result<(), Fail> {
     let bytes = store_load(rt.alloc())?;
-    assert_eq!(rt; bytes.len(), 4164);
-    let image = read_image(rt.alloc(), &bytes)?;
-    assert_eq!(rt; image.text.len(), 4);
-    assert_eq!(rt; image.pages.len(), 1);
-    assert_eq!(rt; image.entries.as_slice(), [0].as_slice());
-    let written = write_image(rt.alloc(), &image)?;
-    assert_eq!(rt; written.as_slice(), bytes.as_slice());
+    let len = bytes.len();
+    let read = read_again(rt.alloc(), &bytes)?;
+    check_equal(
+        &rt,
+        (len, read),
+        (4164, (Form::One, [4, 1, 1], Some(0), true)),
+    );
     Ok(())
 }
 
@@ -70,9 +87,10 @@ fn a_file_that_ends_too_early(rt: HostRuntime) -> Result<(), Fail> {
     let bytes = store_load(rt.alloc())?;
     for len in [0, 3, 20, 59, 61, 4163] {
         let front = &bytes[..bytes.len().min(len)];
-        assert_eq!(rt;
+        check_equal(
+            &rt,
             refusal(rt.alloc(), front),
-            Some((ImageRule::Truncated, len as u64))
+            Some((ImageRule::Truncated, len as u64)),
         );
     }
     Ok(())
@@ -90,87 +108,118 @@ fn a_byte_of_the_magic(rt: HostRuntime) {
         (b"MWC2".as_slice(), ImageRule::BadMagic, 0),
     ];
     for (bytes, rule, at) in rows {
-        assert_eq!(rt; refusal(rt.alloc(), bytes), Some((rule, at)));
+        check_equal(&rt, refusal(rt.alloc(), bytes), Some((rule, at)));
     }
+}
+
+/// Stops unless each file of form 1 is refused by its rule at its place. The numbers of a file are counts, uid, and
+/// 0x25, 0 for the one instruction; then files, slots and entries.
+fn check_rules(
+    rt: &impl Abort,
+    alloc: Global,
+    rows: &[(&[u32], ImageRule, u64)],
+) -> Result<(), AllocError> {
+    for (numbers, rule, at) in rows {
+        let bytes = file_of(alloc, Form::One, numbers)?;
+        check_equal(rt, refusal(alloc, &bytes), Some((*rule, *at)));
+    }
+    Ok(())
+}
+
+#[test]
+fn each_rule_at_its_count(rt: HostRuntime) -> Result<(), Fail> {
+    check_rules(
+        &rt,
+        rt.alloc(),
+        &[
+            (&[0], ImageRule::BadCount, 4),
+            (&[65537], ImageRule::BadCount, 4),
+            (&[1, 1025], ImageRule::BadCount, 8),
+            (&[1, 0, 65], ImageRule::BadCount, 12),
+            (&[1, 0, 0, 63], ImageRule::BadCount, 16),
+            (&[1, 0, 0, 0, 0], ImageRule::BadCount, 20),
+            (&[1, 0, 0, 0, 17], ImageRule::BadCount, 20),
+        ],
+    )?;
+    Ok(())
 }
 
 #[test]
 fn each_rule_at_its_field(rt: HostRuntime) -> Result<(), Fail> {
-    // Counts, uid, and 0x25, 0 for the one instruction; then files, slots and entries.
-    let rows = [
-        ([0].as_slice(), ImageRule::BadCount, 4),
-        ([65537].as_slice(), ImageRule::BadCount, 4),
-        ([1, 1025].as_slice(), ImageRule::BadCount, 8),
-        ([1, 0, 65].as_slice(), ImageRule::BadCount, 12),
-        ([1, 0, 0, 63].as_slice(), ImageRule::BadCount, 16),
-        ([1, 0, 0, 0, 0].as_slice(), ImageRule::BadCount, 20),
-        ([1, 0, 0, 0, 17].as_slice(), ImageRule::BadCount, 20),
+    check_rules(
+        &rt,
+        rt.alloc(),
+        &[
+            (&[1, 0, 0, 0, 1, 0, 0, 0], ImageRule::BadInstruction, 28),
+            (&[1, 0, 0, 0, 1, 0, 0x11, 1], ImageRule::BadTarget, 28),
+            (&[1, 1, 0, 0, 1, 0, 0x25, 0, 1024], ImageRule::BadPage, 36),
+            (&[1, 0, 0, 0, 1, 0, 0x25, 0, 1], ImageRule::BadEntry, 36),
+            (&[1, 0, 0, 0, 1, 0, 0x25, 0, 0, 0], ImageRule::Trailing, 40),
+        ],
+    )?;
+    Ok(())
+}
+
+#[test]
+fn each_rule_at_its_file_or_slot(rt: HostRuntime) -> Result<(), Fail> {
+    let files: [(&[u32], ImageRule, u64); 3] = [
+        (&[1, 0, 1, 0, 1, 0, 0x25, 0, 9, 2], ImageRule::BadFile, 40),
         (
-            [1, 0, 0, 0, 1, 0, 0, 0].as_slice(),
-            ImageRule::BadInstruction,
-            28,
-        ),
-        (
-            [1, 0, 0, 0, 1, 0, 0x11, 1].as_slice(),
-            ImageRule::BadTarget,
-            28,
-        ),
-        (
-            [1, 1, 0, 0, 1, 0, 0x25, 0, 1024].as_slice(),
-            ImageRule::BadPage,
-            36,
-        ),
-        (
-            [1, 0, 1, 0, 1, 0, 0x25, 0, 9, 2].as_slice(),
-            ImageRule::BadFile,
-            40,
-        ),
-        (
-            [1, 0, 1, 0, 1, 0, 0x25, 0, 9, 1, 1_048_577].as_slice(),
+            &[1, 0, 1, 0, 1, 0, 0x25, 0, 9, 1, 1_048_577],
             ImageRule::BadFile,
             44,
         ),
         (
-            [1, 0, 2, 0, 1, 0, 0x25, 0, 9, 1, 4, 7, 9, 0, 1_048_573].as_slice(),
+            &[1, 0, 2, 0, 1, 0, 0x25, 0, 9, 1, 4, 7, 9, 0, 1_048_573],
             ImageRule::BadFile,
             60,
         ),
+    ];
+    check_rules(&rt, rt.alloc(), &files)?;
+    let slots: [(&[u32], ImageRule, u64); 4] = [
         (
-            [1, 0, 1, 1, 1, 0, 0x25, 0, 9, 1, 0, 1].as_slice(),
+            &[1, 0, 1, 1, 1, 0, 0x25, 0, 9, 1, 0, 1],
             ImageRule::BadSlot,
             48,
         ),
         (
-            [1, 0, 1, 1, 1, 0, 0x25, 0, 9, 1, 0, 64].as_slice(),
+            &[1, 0, 1, 1, 1, 0, 0x25, 0, 9, 1, 0, 64],
             ImageRule::BadSlot,
             48,
         ),
         (
-            [1, 0, 1, 1, 1, 0, 0x25, 0, 9, 1, 0, 2, 1].as_slice(),
+            &[1, 0, 1, 1, 1, 0, 0x25, 0, 9, 1, 0, 2, 1],
             ImageRule::BadSlot,
             52,
         ),
         (
-            [1, 0, 1, 2, 1, 0, 0x25, 0, 9, 1, 0, 3, 0, 3].as_slice(),
+            &[1, 0, 1, 2, 1, 0, 0x25, 0, 9, 1, 0, 3, 0, 3],
             ImageRule::BadSlot,
             56,
         ),
-        (
-            [1, 0, 0, 0, 1, 0, 0x25, 0, 1].as_slice(),
-            ImageRule::BadEntry,
-            36,
-        ),
-        (
-            [1, 0, 0, 0, 1, 0, 0x25, 0, 0, 0].as_slice(),
-            ImageRule::Trailing,
-            40,
-        ),
     ];
-    for (numbers, rule, at) in rows {
-        let bytes = file_of(rt.alloc(), Form::One, numbers)?;
-        assert_eq!(rt; refusal(rt.alloc(), &bytes), Some((rule, at)));
-    }
+    check_rules(&rt, rt.alloc(), &slots)?;
     Ok(())
+}
+
+/// How an image of one page, which has this number, is refused.
+fn page_refusal(
+    alloc: Global,
+    form: Form,
+    number: u32,
+) -> Result<Option<(ImageRule, u64)>, AllocError> {
+    let bytes = one_page(alloc, form, number)?;
+    Ok(refusal(alloc, &bytes))
+}
+
+/// How an image with this number of pages is refused.
+fn count_refusal(
+    alloc: Global,
+    form: Form,
+    count: u32,
+) -> Result<Option<(ImageRule, u64)>, AllocError> {
+    let bytes = file_of(alloc, form, &[1, count])?;
+    Ok(refusal(alloc, &bytes))
 }
 
 #[test]
@@ -184,40 +233,40 @@ fn each_form_has_its_pages(rt: HostRuntime) -> Result<(), Fail> {
         (Form::Two, 65536, Some((ImageRule::BadPage, 36))),
     ];
     for (form, number, refused) in rows {
-        let bytes = one_page(rt.alloc(), form, number)?;
-        assert_eq!(rt; refusal(rt.alloc(), &bytes), refused);
+        check_equal(&rt, page_refusal(rt.alloc(), form, number)?, refused);
     }
-    let counts = [(Form::One, 1025), (Form::Two, 16385)];
-    for (form, count) in counts {
-        let bytes = file_of(rt.alloc(), form, &[1, count])?;
-        assert_eq!(rt; refusal(rt.alloc(), &bytes), Some((ImageRule::BadCount, 8)));
-    }
+    let one = count_refusal(rt.alloc(), Form::One, 1025)?;
+    let two = count_refusal(rt.alloc(), Form::Two, 16385)?;
+    let refused = Some((ImageRule::BadCount, 8));
+    check_equal(&rt, [one, two], [refused, refused]);
     Ok(())
 }
 
 #[test]
 fn an_image_of_form_2_is_read_and_written_again(rt: HostRuntime) -> Result<(), Fail> {
     let bytes = one_page(rt.alloc(), Form::Two, 16383)?;
-    let image = read_image(rt.alloc(), &bytes)?;
-    assert_eq!(rt; image.form, Form::Two);
-    let written = write_image(rt.alloc(), &image)?;
-    assert_eq!(rt; written.as_slice(), bytes.as_slice());
+    let read = read_again(rt.alloc(), &bytes)?;
+    check_equal(&rt, read, (Form::Two, [1, 1, 1], Some(0), true));
     Ok(())
 }
 
-#[test]
+/// The bytes of an image that is read and lifted.
 #[tactic(auto, using(guest_image::proofs::Lifted::lifting))]
+fn lifted(alloc: Global, bytes: &[u8]) -> Result<Vec<u8>, Fail> {
+    let image = lift(read_image(alloc, bytes)?);
+    Ok(write_image(alloc, &image)?)
+}
+
+#[test]
 fn an_image_is_lifted(rt: HostRuntime) -> Result<(), Fail> {
     let mut expected = store_load(rt.alloc())?;
+    let once = lifted(rt.alloc(), &expected)?;
+    let twice = lifted(rt.alloc(), &once)?;
     if let Some(digit) = expected.get_mut(3) {
         *digit = b'2';
     }
-    let mut bytes = store_load(rt.alloc())?;
-    for _ in 0..2 {
-        let image = lift(read_image(rt.alloc(), &bytes)?);
-        bytes = write_image(rt.alloc(), &image)?;
-        assert_eq!(rt; bytes.as_slice(), expected.as_slice());
-    }
+    let want = expected.as_slice();
+    assert!(rt; once.as_slice() == want && twice.as_slice() == want);
     Ok(())
 }
 
@@ -225,23 +274,51 @@ fn an_image_is_lifted(rt: HostRuntime) -> Result<(), Fail> {
 fn a_byte_too_many(rt: HostRuntime) -> Result<(), Fail> {
     let mut bytes = store_load(rt.alloc())?;
     bytes.push(0)?;
-    assert_eq!(rt;
+    check_equal(
+        &rt,
         refusal(rt.alloc(), &bytes),
-        Some((ImageRule::Trailing, 4164))
+        Some((ImageRule::Trailing, 4164)),
     );
     Ok(())
 }
 
+/// How many pages an image of form 1 has, every second one of which is present, or how it is refused.
+fn pages_or_refusal(alloc: Global, count: u32) -> Result<Result<usize, (ImageRule, u64)>, Fail> {
+    let bytes = spaced_pages(alloc, count)?;
+    match read_image(alloc, &bytes) {
+        Ok(image) => Ok(Ok(image.pages.len())),
+        Err(ImageFault::Refused { rule, at }) => Ok(Err((rule, at))),
+        Err(fault) => Err(fault)?,
+    }
+}
+
 #[test]
 fn a_range_too_many(rt: HostRuntime) -> Result<(), Fail> {
-    let image = read_image(rt.alloc(), &spaced_pages(rt.alloc(), 64)?)?;
-    assert_eq!(rt; image.pages.len(), 64);
-    let bytes = spaced_pages(rt.alloc(), 65)?;
-    assert_eq!(rt;
-        refusal(rt.alloc(), &bytes),
-        Some((ImageRule::BadPage, 36 + 64 * 4100))
-    );
+    let most = pages_or_refusal(rt.alloc(), 64)?;
+    let too_many = pages_or_refusal(rt.alloc(), 65)?;
+    let refused = Err((ImageRule::BadPage, 36 + 64 * 4100));
+    check_equal(&rt, [most, too_many], [Ok(64), refused]);
     Ok(())
+}
+
+/// Makes the first three bytes those of every magic.
+fn write_letters(bytes: &mut [u8]) {
+    for (place, letter) in bytes.iter_mut().zip(b"LWC") {
+        *place = *letter;
+    }
+}
+
+/// How the front of a file is refused, when its fourth byte is this one.
+fn front_refusal(
+    alloc: Global,
+    bytes: &mut [u8],
+    digit: u8,
+    length: usize,
+) -> Option<(ImageRule, u64)> {
+    if let Some(place) = bytes.get_mut(3) {
+        *place = digit;
+    }
+    refusal(alloc, &bytes[..bytes.len().min(length)])
 }
 
 /// The fourth byte of a file, its length, and how it is refused.
@@ -255,17 +332,12 @@ fn a_file_too_long(rt: HostRuntime) -> Result<(), Fail> {
         (b'2', 75_497_473, ImageRule::TooLong, 75_497_472),
         (b'3', 8_388_609, ImageRule::BadMagic, 3),
     ];
-    let mut bytes = vec![in rt.alloc(); 0; 75_497_473]?;
-    for (place, letter) in bytes.iter_mut().zip(b"LWC") {
-        *place = *letter;
-    }
+    let mut bytes = Vec::from_elem(rt.alloc(), 0, 75_497_473)?;
+    write_letters(&mut bytes);
     for (digit, length, rule, at) in rows {
-        if let Some(place) = bytes.get_mut(3) {
-            *place = digit;
-        }
-        let file = &bytes[..bytes.len().min(length)];
-        assert_eq!(rt; refusal(rt.alloc(), file), Some((rule, at)));
+        let refused = front_refusal(rt.alloc(), &mut bytes, digit, length);
+        check_equal(&rt, refused, Some((rule, at)));
     }
-    assert_eq!(rt; ImageRule::TooLong.name(), "TooLong");
+    check_equal(&rt, ImageRule::TooLong.name(), "TooLong");
     Ok(())
 }

@@ -1,24 +1,35 @@
 //! The files of requests and of schedules.
 
+use crate::checks::check_equal;
 use lwc_text::{InputFault, InputRule, read_requests, read_schedule, read_schedule_within};
+use std::alloc::Global;
 use std::test::Fail;
+
+/// How many requests a file has, and how long the last one is, if there is one.
+fn requests_of(alloc: Global, text: &[u8]) -> Result<(usize, Option<usize>), InputFault> {
+    let requests = read_requests(alloc, text)?;
+    let count = requests.len();
+    let last = if count > 0 {
+        Some(requests.get(count - 1).len())
+    } else {
+        None
+    };
+    Ok((count, last))
+}
 
 #[test]
 fn lines_are_requests(rt: HostRuntime) -> Result<(), Fail> {
     for (text, count, last) in [
-        ("", 0, 0),
-        ("00\n00\n01\n00\n", 4, 1),
-        ("00\r\n\n0aFf", 3, 2),
-        ("\n\n", 2, 0),
+        ("", 0, None),
+        ("00\n00\n01\n00\n", 4, Some(1)),
+        ("00\r\n\n0aFf", 3, Some(2)),
+        ("\n\n", 2, Some(0)),
     ] {
-        let requests = read_requests(rt.alloc(), text.as_bytes())?;
-        assert_eq!(rt; requests.len(), count, "in {text:?}");
-        if count > 0 {
-            assert_eq!(rt; requests.get(count - 1).len(), last, "in {text:?}");
-        }
+        let read = requests_of(rt.alloc(), text.as_bytes())?;
+        check_equal(&rt, (text, read), (text, (count, last)));
     }
     let mixed = read_requests(rt.alloc(), b"0aFf")?;
-    assert_eq!(rt; mixed.get(0).as_slice(), [0x0a, 0xff].as_slice());
+    check_equal(&rt, mixed.get(0).as_slice(), [0x0a, 0xff].as_slice());
     Ok(())
 }
 
@@ -33,11 +44,8 @@ fn other_lines_are_refused(rt: HostRuntime) {
         ("00\r\r\n", InputRule::BadHex, 2),
     ] {
         let fault = read_requests(rt.alloc(), text.as_bytes()).err();
-        assert_eq!(rt;
-            fault,
-            Some(InputFault::Refused { rule, at }),
-            "in {text:?}"
-        );
+        let refused = Some(InputFault::Refused { rule, at });
+        check_equal(&rt, (text, fault), (text, refused));
     }
 }
 
@@ -53,24 +61,34 @@ fn limits_of_requests_are_kept(rt: HostRuntime) -> Result<(), Fail> {
         let bytes = Vec::from_elem(rt.alloc(), byte, count)?;
         let fault = read_requests(rt.alloc(), bytes.as_slice()).err();
         let want = rule.map(|rule| InputFault::Refused { rule, at });
-        assert_eq!(rt; fault, want, "{count} of {byte}");
+        check_equal(&rt, (byte, count, fault), (byte, count, want));
     }
     Ok(())
+}
+
+/// How many steps a schedule of so many threads has, and the last one.
+fn steps_of(alloc: Global, text: &[u8], threads: u32) -> Result<(usize, Option<u8>), InputFault> {
+    let schedule = read_schedule(alloc, text, threads)?;
+    let count = schedule.len();
+    let last = if count > 0 {
+        Some(*schedule.get(count - 1))
+    } else {
+        None
+    };
+    Ok((count, last))
 }
 
 #[test]
 fn digits_are_steps(rt: HostRuntime) -> Result<(), Fail> {
     for (text, threads, count, last) in [
-        ("0 0\r\n0", 1, 3, 0),
-        ("f", 16, 1, 15),
-        ("9a", 11, 2, 10),
+        ("0 0\r\n0", 1, 3, Some(0)),
+        ("f", 16, 1, Some(15)),
+        ("9a", 11, 2, Some(10)),
+        ("", 1, 0, None),
     ] {
-        let schedule = read_schedule(rt.alloc(), text.as_bytes(), threads)?;
-        assert_eq!(rt; schedule.len(), count, "in {text:?}");
-        assert_eq!(rt; *schedule.get(count - 1), last, "in {text:?}");
+        let read = steps_of(rt.alloc(), text.as_bytes(), threads)?;
+        check_equal(&rt, (text, read), (text, (count, last)));
     }
-    let empty = read_schedule(rt.alloc(), b"", 1)?;
-    assert!(rt; empty.is_empty());
     Ok(())
 }
 
@@ -79,21 +97,18 @@ fn other_bytes_and_threads_are_refused(rt: HostRuntime) {
     for (text, threads, at) in [("0g", 1, 1), ("1", 1, 0), ("0\t", 1, 1), ("A", 16, 0)] {
         let rule = InputRule::BadThread;
         let fault = read_schedule(rt.alloc(), text.as_bytes(), threads).err();
-        assert_eq!(rt;
-            fault,
-            Some(InputFault::Refused { rule, at }),
-            "in {text:?}"
-        );
+        let refused = Some(InputFault::Refused { rule, at });
+        check_equal(&rt, (text, fault), (text, refused));
     }
 }
 
 #[test]
 fn fewer_steps_may_be_asked_for(rt: HostRuntime) -> Result<(), Fail> {
     let schedule = read_schedule_within(rt.alloc(), b"0 0", 1, 2)?;
-    assert_eq!(rt; schedule.len(), 2);
+    check_equal(&rt, schedule.len(), 2);
     let rule = InputRule::TooManySteps;
     let fault = read_schedule_within(rt.alloc(), b"0 00", 1, 2).err();
-    assert_eq!(rt; fault, Some(InputFault::Refused { rule, at: 3 }));
+    check_equal(&rt, fault, Some(InputFault::Refused { rule, at: 3 }));
     Ok(())
 }
 
@@ -105,7 +120,7 @@ fn limits_of_schedules_are_kept(rt: HostRuntime) -> Result<(), Fail> {
     ] {
         let bytes = Vec::from_elem(rt.alloc(), byte, count)?;
         let fault = read_schedule(rt.alloc(), bytes.as_slice(), 1).err();
-        assert_eq!(rt; fault, Some(InputFault::Refused { rule, at }));
+        check_equal(&rt, fault, Some(InputFault::Refused { rule, at }));
     }
     Ok(())
 }

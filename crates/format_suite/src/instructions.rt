@@ -1,4 +1,9 @@
+ghost use Rattle.std.specs.Prelude.{◌≡◌, length};
+
+use crate::checks::check_equal;
 use guest_isa::*;
+use std::alloc::{AllocError, Global};
+use std::process::Abort;
 use std::test::Fail;
 
 const NOTHING: Instr = Instr {
@@ -9,8 +14,15 @@ const NOTHING: Instr = Instr {
     imm: 0,
 };
 
+/// The bytes of an instruction, and the instruction of these bytes.
+fn coded(rt: &impl Abort, i: &Instr) -> ([u8; 8], Option<Instr>) {
+    assert!(rt; i.is_instruction());
+    let bytes = encode(i);
+    (bytes, decode(&bytes))
+}
+
 #[test]
-fn bytes_of_instructions(rt: HostRuntime) -> Result<(), Fail> {
+fn bytes_of_instructions(rt: HostRuntime) {
     let rows = [
         // LI r1, 7 / STW r1, r0, 0 / LDW r2, r0, 0 / HALT
         (
@@ -51,11 +63,8 @@ fn bytes_of_instructions(rt: HostRuntime) -> Result<(), Fail> {
         ),
     ];
     for (bytes, i) in rows {
-        assert!(rt; i.is_instruction());
-        assert_eq!(rt; encode(&i), bytes);
-        assert_eq!(rt; decode(&bytes), Some(i));
+        check_equal(&rt, coded(&rt, &i), (bytes, Some(i)));
     }
-    Ok(())
 }
 
 #[test]
@@ -71,8 +80,13 @@ fn bytes_of_no_instruction(rt: HostRuntime) {
         [37, 0, 0, 0, 0, 0, 0, 1],
     ];
     for bytes in rows {
-        assert_eq!(rt; decode(&bytes), None, "{bytes:?}");
+        check_equal(&rt, (bytes, decode(&bytes)), (bytes, None));
     }
+}
+
+/// Whether an operation is private, whether it is shared, and whether it has a target.
+fn kinds_of(op: Op) -> [bool; 3] {
+    [op.is_private(), op.is_shared(), op.has_target()]
 }
 
 #[test]
@@ -87,20 +101,19 @@ fn kinds_of_operations(rt: HostRuntime) {
         (Op::Halt, 37, false, false),
     ];
     for (op, number, private, target) in rows {
-        assert_eq!(rt; op.number(), number);
-        assert_eq!(rt; Op::from_number(number), Some(op));
-        assert_eq!(rt; op.is_private(), private);
-        assert_eq!(rt; op.is_shared(), !private);
-        assert_eq!(rt; op.has_target(), target);
+        let named = (op.number(), Op::from_number(number));
+        check_equal(&rt, named, (number, Some(op)));
+        check_equal(&rt, (op, kinds_of(op)), (op, [private, !private, target]));
     }
-    assert_eq!(rt;
+    check_equal(
+        &rt,
         Op::Stb.form(),
         Form {
             rd: false,
             ra: true,
             rb: true,
-            imm: true
-        }
+            imm: true,
+        },
     );
 }
 
@@ -113,8 +126,18 @@ fn signed_immediates(rt: HostRuntime) {
         (0xffff_ffff, u64::MAX),
     ];
     for (imm, number) in rows {
-        assert_eq!(rt; Instr { imm, ..NOTHING }.sx(), number);
+        check_equal(&rt, Instr { imm, ..NOTHING }.sx(), number);
     }
+}
+
+/// The length of a text, its first two instructions and that of its copy, and the length of its list.
+fn shown(alloc: Global, text: Text) -> Result<(usize, [Instr; 3], usize), AllocError>
+    requires { length text ≡ 2 }
+{
+    let len = text.len();
+    let copy = text.copy(alloc)?;
+    let instructions = [*text.get(0), *text.get(1), *copy.get(0)];
+    Ok((len, instructions, text.into_vec().len()))
 }
 
 #[test]
@@ -124,12 +147,9 @@ fn a_text_is_its_instructions(rt: HostRuntime) -> Result<(), Fail> {
         op: Op::Jmp,
         ..NOTHING
     };
-    let text = Text::of(vec![in rt.alloc(); jump, NOTHING]?);
-    assert_eq!(rt; text.len(), 2);
-    assert_eq!(rt; *text.get(0), jump);
-    assert_eq!(rt; *text.get(1), NOTHING);
-    assert_eq!(rt; *text.copy(rt.alloc())?.get(0), jump);
-    assert_eq!(rt; text.into_vec().len(), 2);
+    let text = Text::of(Vec::from_slice(rt.alloc(), &[jump, NOTHING])?);
+    let shown = shown(rt.alloc(), text)?;
     spelling_is_inverse();
+    check_equal(&rt, shown, (2, [jump, NOTHING, jump], 2));
     Ok(())
 }

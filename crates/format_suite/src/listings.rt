@@ -1,6 +1,14 @@
+use crate::checks::check_equal;
 use guest_asm::assemble;
 use guest_dis::*;
+use std::alloc::Global;
 use std::test::Fail;
+
+/// The listing of a source's image.
+fn listed(alloc: Global, source: &[u8]) -> Result<Vec<u8>, Fail> {
+    let image = assemble(alloc, source)?;
+    Ok(disassemble(alloc, &image)?)
+}
 
 #[test]
 fn listings(rt: HostRuntime) -> Result<(), Fail> {
@@ -22,9 +30,8 @@ fn listings(rt: HostRuntime) -> Result<(), Fail> {
         (b".form 1\nHALT\n.entry 0", b".uid 0\n.entry 0\nHALT\n"),
     ];
     for (source, expected) in rows {
-        let image = assemble(rt.alloc(), source)?;
-        let listing = disassemble(rt.alloc(), &image)?;
-        assert_eq!(rt; listing.as_slice(), expected);
+        let listing = listed(rt.alloc(), source)?;
+        check_equal(&rt, listing.as_slice(), expected);
     }
     Ok(())
 }

@@ -1,6 +1,11 @@
+ghost use Rattle.std.specs.Prelude.{◌≡◌, IfOk};
+ghost use Rattle.guest_isa.specs.Instructions.{IsText};
+
+use crate::checks::check_equal;
 use guest_isa::{Instr, Op, Text};
 use guest_machine::*;
 use lwc_base::Regs;
+use std::alloc::{AllocError, Global};
 use std::process::Abort;
 use std::test::Fail;
 
@@ -14,24 +19,31 @@ const HALT: Instr = Instr {
 
 const MINUS_ONE: u64 = u64::MAX;
 
-// What an instruction of r1, r2 and r3 puts into r1.
+/// An operation of these registers and this number.
+fn operation(op: Op, rd: u8, ra: u8, rb: u8, imm: u32) -> Instr
+    ensures { result ≡ record { op = op; rd = rd; ra = ra; rb = rb; imm = imm } }
+{
+    Instr {
+        op,
+        rd,
+        ra,
+        rb,
+        imm,
+    }
+}
+
+/// What an instruction of r1, r2 and r3 puts into r1.
 fn put_by(rt: &impl Abort, op: Op, imm: u32, [d, a, b]: [u64; 3]) -> u64 {
     let form = op.form();
-    let i = Instr {
-        op,
-        rd: u8::from(form.rd),
-        ra: 2 * u8::from(form.ra),
-        rb: 3 * u8::from(form.rb),
-        imm,
-    };
-    assert!(rt; i.is_instruction());
-    assert!(rt; op.is_private());
+    let (rd, ra, rb) = (u8::from(form.rd), u8::from(form.ra), u8::from(form.rb));
+    let i = operation(op, rd, 2 * ra, 3 * rb, imm);
+    assert!(rt; i.is_instruction() && op.is_private());
     let mut regs = Regs::fresh(7);
     regs.r[1] = d;
     regs.r[2] = a;
     regs.r[3] = b;
     let after = private(&i, &regs);
-    assert_eq!(rt; after.pc, 8);
+    assert!(rt; after.pc == 8);
     after.r[1]
 }
 
@@ -56,193 +68,127 @@ fn numbers_that_are_put(rt: HostRuntime) {
         (Op::Addi, 0xffff_fffe, [0, 5, 0], 3),
     ];
     for (op, imm, values, number) in rows {
-        assert_eq!(rt; put_by(&rt, op, imm, values), number, "{op:?}");
+        check_equal(&rt, (op, put_by(&rt, op, imm, values)), (op, number));
     }
+}
+
+/// pc and r1 after an instruction, from pc 7 with 9 in r2.
+fn jumped(rt: &impl Abort, i: &Instr) -> (u64, u64) {
+    assert!(rt; i.is_instruction() && i.op.is_private());
+    let mut regs = Regs::fresh(7);
+    regs.r[2] = 9;
+    let after = private(i, &regs);
+    (after.pc, after.r[1])
 }
 
 #[test]
 fn places_that_are_jumped_to(rt: HostRuntime) {
-    // The instruction, and pc and r1 after it, from pc 7 with 9 in r2.
+    // The operation, its registers and its target, and pc and r1 after it.
     let rows = [
-        (
-            Instr {
-                op: Op::Jmp,
-                imm: 3,
-                ..HALT
-            },
-            3,
-            0,
-        ),
-        (
-            Instr {
-                op: Op::Jz,
-                ra: 1,
-                imm: 3,
-                ..HALT
-            },
-            3,
-            0,
-        ),
-        (
-            Instr {
-                op: Op::Jz,
-                ra: 2,
-                imm: 3,
-                ..HALT
-            },
-            8,
-            0,
-        ),
-        (
-            Instr {
-                op: Op::Jnz,
-                ra: 1,
-                imm: 3,
-                ..HALT
-            },
-            8,
-            0,
-        ),
-        (
-            Instr {
-                op: Op::Jnz,
-                ra: 2,
-                imm: 3,
-                ..HALT
-            },
-            3,
-            0,
-        ),
-        (
-            Instr {
-                op: Op::Jal,
-                rd: 1,
-                imm: 3,
-                ..HALT
-            },
-            3,
-            8,
-        ),
-        (
-            Instr {
-                op: Op::Jr,
-                ra: 2,
-                ..HALT
-            },
-            9,
-            0,
-        ),
+        (Op::Jmp, 0, 0, 3, (3, 0)),
+        (Op::Jz, 0, 1, 3, (3, 0)),
+        (Op::Jz, 0, 2, 3, (8, 0)),
+        (Op::Jnz, 0, 1, 3, (8, 0)),
+        (Op::Jnz, 0, 2, 3, (3, 0)),
+        (Op::Jal, 1, 0, 3, (3, 8)),
+        (Op::Jr, 0, 2, 0, (9, 0)),
     ];
-    for (i, pc, link) in rows {
-        assert!(rt; i.is_instruction());
-        assert!(rt; i.op.is_private());
-        let mut regs = Regs::fresh(7);
-        regs.r[2] = 9;
-        let after = private(&i, &regs);
-        assert_eq!(rt; (after.pc, after.r[1]), (pc, link), "{i:?}");
+    for (op, rd, ra, imm, left) in rows {
+        let i = operation(op, rd, ra, 0, imm);
+        check_equal(&rt, (i, jumped(&rt, &i)), (i, left));
     }
 }
 
-#[test]
+/// The program text of these instructions.
+fn text_of(alloc: Global, instructions: &[Instr]) -> Result<Text, AllocError>
+    requires { IsText instructions.now }
+    ensures { IfOk result (λ text. text ≡ instructions.now) }
+{
+    Ok(Text::of(Vec::from_slice(alloc, instructions)?))
+}
+
+/// Arithmetic of registers 1 to 5, two of them with the zero of register 0, and a halt.
 #[tactic(auto, unfolding(guest_isa::specs::Instructions::is_instruction))]
-fn arithmetic_upto_a_halt(rt: HostRuntime) -> Result<(), Fail> {
-    let text = Text::of(vec![in rt.alloc();
-        Instr {
-            op: Op::Li,
-            rd: 1,
-            imm: 5,
-            ..HALT
-        },
-        Instr {
-            op: Op::Divu,
-            rd: 2,
-            ra: 1,
-            rb: 0,
-            ..HALT
-        },
-        Instr {
-            op: Op::Remu,
-            rd: 3,
-            ra: 1,
-            rb: 0,
-            ..HALT
-        },
-        Instr {
-            op: Op::Addi,
-            rd: 4,
-            ra: 0,
-            imm: u32::MAX,
-            ..HALT
-        },
-        Instr {
-            op: Op::Shl,
-            rd: 5,
-            ra: 1,
-            rb: 4,
-            ..HALT
-        },
+fn arithmetic(alloc: Global) -> Result<Text, AllocError> {
+    let instructions = [
+        operation(Op::Li, 1, 0, 0, 5),
+        operation(Op::Divu, 2, 1, 0, 0),
+        operation(Op::Remu, 3, 1, 0, 0),
+        operation(Op::Addi, 4, 0, 0, u32::MAX),
+        operation(Op::Shl, 5, 1, 4, 0),
         HALT,
-    ]?);
-    let advance = advance(&text, &Regs::fresh(0));
-    assert_eq!(rt; advance.before, Regs::fresh(0));
-    assert_eq!(rt; advance.next, Next::Shared(HALT));
-    assert_eq!(rt; advance.after.pc, 5);
-    assert_eq!(rt;
-        advance.after.r,
-        [
-            0,
-            5,
-            MINUS_ONE,
-            5,
-            MINUS_ONE,
-            9223372036854775808,
-            0,
-            0,
-            0,
-            0,
-            0,
-            0,
-            0,
-            0,
-            0,
-            0
-        ]
-    );
+    ];
+    text_of(alloc, &instructions)
+}
+
+/// An advance of a thread that has all registers 0: what it begins with, pc after it, and what comes next, and then the
+/// registers.
+fn advanced(text: &Text) -> ((Regs, u64, Next), [u64; 16]) {
+    let advance = advance(text, &Regs::fresh(0));
+    let registers = advance.after.r;
+    ((advance.before, advance.after.pc, advance.next), registers)
+}
+
+#[test]
+fn arithmetic_upto_a_halt(rt: HostRuntime) -> Result<(), Fail> {
+    let (left, registers) = advanced(&arithmetic(rt.alloc())?);
+    let mut expected = [0; 16];
+    expected[1] = 5;
+    expected[2] = MINUS_ONE;
+    expected[3] = 5;
+    expected[4] = MINUS_ONE;
+    expected[5] = 9223372036854775808;
+    check_equal(&rt, left, (Regs::fresh(0), 5, Next::Shared(HALT)));
+    check_equal(&rt, registers, expected);
     Ok(())
 }
 
-#[test]
+/// Counts down register 1, and goes on unless it is 0, with a halt behind or with nothing there.
 #[tactic(auto, unfolding(guest_isa::specs::Instructions::is_instruction))]
-fn what_comes_after_256_instructions(rt: HostRuntime) -> Result<(), Fail> {
-    let down = Instr {
-        op: Op::Addi,
-        rd: 1,
-        ra: 1,
-        imm: u32::MAX,
-        ..HALT
-    };
-    let again = Instr {
-        op: Op::Jnz,
-        ra: 1,
-        imm: 0,
-        ..HALT
-    };
-    let open = Text::of(vec![in rt.alloc(); down, again]?);
-    let closed = Text::of(vec![in rt.alloc(); down, again, HALT]?);
-    // r1 before and after, pc after, and what comes next without a halt at the end, and with one.
-    let rows = [
-        (127, 0, 2, Next::BadPc, Next::Shared(HALT)),
-        (128, 0, 2, Next::BadPc, Next::Shared(HALT)),
-        (129, 1, 0, Next::Pause, Next::Pause),
-    ];
-    for (first, last, pc, at_the_end, at_the_halt) in rows {
-        let mut regs = Regs::fresh(0);
-        regs.r[1] = first;
-        let without = advance(&open, &regs);
-        assert_eq!(rt; (without.after.r[1], without.after.pc), (last, pc));
-        assert_eq!(rt; without.next, at_the_end);
-        assert_eq!(rt; advance(&closed, &regs).next, at_the_halt);
+fn countdown(alloc: Global, halts: bool) -> Result<Text, AllocError> {
+    let down = operation(Op::Addi, 1, 1, 0, u32::MAX);
+    let again = operation(Op::Jnz, 0, 1, 0, 0);
+    if halts {
+        text_of(alloc, &[down, again, HALT])
+    } else {
+        text_of(alloc, &[down, again])
     }
+}
+
+/// Register 1 and pc after an advance that begins with this in register 1, and what comes next.
+fn counted(text: &Text, first: u64) -> (u64, u64, Next) {
+    let mut regs = Regs::fresh(0);
+    regs.r[1] = first;
+    let advance = advance(text, &regs);
     advance_is_determined();
+    (advance.after.r[1], advance.after.pc, advance.next)
+}
+
+/// The same from 127, 128 and 129, of which the last is not counted down in one advance.
+fn counted_from(text: &Text) -> [(u64, u64, Next); 3] {
+    [counted(text, 127), counted(text, 128), counted(text, 129)]
+}
+
+#[test]
+fn what_comes_after_256_instructions(rt: HostRuntime) -> Result<(), Fail> {
+    let open = countdown(rt.alloc(), false)?;
+    let closed = countdown(rt.alloc(), true)?;
+    let at_the_end = counted_from(&open);
+    let at_the_halt = counted_from(&closed);
+    let halt = Next::Shared(HALT);
+    check_equal(
+        &rt,
+        at_the_end,
+        [
+            (0, 2, Next::BadPc),
+            (0, 2, Next::BadPc),
+            (1, 0, Next::Pause),
+        ],
+    );
+    check_equal(
+        &rt,
+        at_the_halt,
+        [(0, 2, halt), (0, 2, halt), (1, 0, Next::Pause)],
+    );
     Ok(())
 }

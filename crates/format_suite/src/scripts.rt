@@ -1,3 +1,4 @@
+use crate::checks::check_equal;
 use lwc_base::Name;
 use lwc_debug::{Command, read_script};
 use lwc_text::{InputFault, InputRule};
@@ -9,6 +10,18 @@ fn refusal(alloc: Global, bytes: &[u8]) -> Option<(InputRule, u64)> {
         Err(InputFault::Refused { rule, at }) => Some((rule, at)),
         _ => None,
     }
+}
+
+/// How many commands a script has, and the last one.
+fn commands_of(alloc: Global, text: &[u8]) -> Result<(usize, Option<Command>), InputFault> {
+    let script = read_script(alloc, text)?;
+    let count = script.len();
+    let last = if count > 0 {
+        Some(script.get(count - 1))
+    } else {
+        None
+    };
+    Ok((count, last))
 }
 
 #[test]
@@ -28,12 +41,10 @@ fn each_command_is_a_line(rt: HostRuntime) -> Result<(), Fail> {
         ("slot 1.020 64", 1, Command::Slot { name, n: 64 }),
         ("used", 1, Command::Used),
     ] {
-        let script = read_script(rt.alloc(), text.as_bytes())?;
-        assert_eq!(rt; script.len(), count, "in {text:?}");
-        assert_eq!(rt; script.get(count - 1), last, "in {text:?}");
+        let read = commands_of(rt.alloc(), text.as_bytes())?;
+        check_equal(&rt, (text, read), (text, (count, Some(last))));
     }
-    let empty = read_script(rt.alloc(), b"\n\r\n")?;
-    assert!(rt; empty.is_empty());
+    check_equal(&rt, commands_of(rt.alloc(), b"\n\r\n")?, (0, None));
     Ok(())
 }
 
@@ -60,10 +71,11 @@ fn other_lines_are_no_commands(rt: HostRuntime) {
         ("page 0.0", 0),
         ("slot 0.0 1 2", 0),
     ] {
-        assert_eq!(rt;
-            refusal(rt.alloc(), text.as_bytes()),
-            Some((InputRule::BadCommand, at)),
-            "in {text:?}"
+        let refused = refusal(rt.alloc(), text.as_bytes());
+        check_equal(
+            &rt,
+            (text, refused),
+            (text, Some((InputRule::BadCommand, at))),
         );
     }
 }
@@ -87,7 +99,8 @@ fn scripts_have_limits(rt: HostRuntime) -> Result<(), Fail> {
             text.push_str(line)?;
         }
         text.push_str(rest)?;
-        assert_eq!(rt; refusal(rt.alloc(), text.as_bytes()), want, "{line:?}");
+        let refused = refusal(rt.alloc(), text.as_bytes());
+        check_equal(&rt, (line, refused), (line, want));
     }
     Ok(())
 }

@@ -1,21 +1,28 @@
+use crate::checks::check_equal;
 use guest_asm::*;
 use guest_image::{ImageRule, write_image};
 use lwc_base::ReadError;
 use std::alloc::{AllocError, Global};
+use std::process::Abort;
 use std::test::Fail;
+
+/// The bytes of the image of a source.
+fn assembled(alloc: Global, source: &[u8]) -> Result<Vec<u8>, Fail> {
+    let image = assemble(alloc, source)?;
+    Ok(write_image(alloc, &image)?)
+}
 
 #[test]
 fn bytes_of_store_load(rt: HostRuntime) -> Result<(), Fail> {
     let source = b".page 0 -\nLI r1, 7\nSTW r1, r0, 0\nLDW r2, r0, 0\nHALT\n.entry 0\n";
-    let image = assemble(rt.alloc(), source)?;
-    let bytes = write_image(rt.alloc(), &image)?;
+    let bytes = assembled(rt.alloc(), source)?;
     let mut expected = hex::decode(
         rt.alloc(),
         "4c57433104000000010000000000000000000000010000000000000001010000070000002300000100000000\
          210200000000000025000000000000000000000000000000",
     )?;
     expected.resize(4164, 0)?;
-    assert_eq!(rt; bytes.as_slice(), expected.as_slice());
+    check_equal(&rt, bytes.as_slice(), expected.as_slice());
     Ok(())
 }
 
@@ -98,21 +105,27 @@ fn labels_of_guests(rt: HostRuntime) -> Result<(), Fail> {
         ),
     ];
     for (source, place, instruction) in rows {
-        let image = assemble(rt.alloc(), source)?;
-        let bytes = write_image(rt.alloc(), &image)?;
+        let bytes = assembled(rt.alloc(), source)?;
         let at = 28 + 8 * place;
-        assert_eq!(rt;
-            bytes.as_slice().get(at..at + 8),
-            Some(instruction.as_slice())
-        );
+        let seen = bytes.as_slice().get(at..at + 8);
+        check_equal(&rt, (place, seen), (place, Some(instruction.as_slice())));
     }
     Ok(())
 }
 
+/// Stops unless each source is refused by its rule at its place.
+fn check_refusals(rt: &impl Abort, alloc: Global, rows: &[(&[u8], SourceRule, u64)]) {
+    for (source, rule, at) in rows {
+        let (rule, at) = (*rule, *at);
+        let refused = Some(ReadError::Refused { rule, at });
+        check_equal(rt, assemble(alloc, source).err(), refused);
+    }
+}
+
 #[test]
-fn refusals(rt: HostRuntime) -> Result<(), Fail> {
-    let rows = [
-        (b"HALT 1".as_slice(), SourceRule::BadLine, 0),
+fn refusals(rt: HostRuntime) {
+    let lines: [(&[u8], SourceRule, u64); 8] = [
+        (b"HALT 1", SourceRule::BadLine, 0),
         (b"HALT\n halt\n", SourceRule::BadLine, 5),
         (b"HALT\r\r\n", SourceRule::BadLine, 0),
         (b"HALT ; \r\n.uid 1\n.uid x", SourceRule::BadLine, 16),
@@ -120,9 +133,22 @@ fn refusals(rt: HostRuntime) -> Result<(), Fail> {
         (b"LI r1, 007", SourceRule::BadOperand, 0),
         (b"LI r1, -0", SourceRule::BadOperand, 0),
         (b"MOV r1, a", SourceRule::BadOperand, 0),
+    ];
+    check_refusals(&rt, rt.alloc(), &lines);
+    let bad_count = SourceRule::Image(ImageRule::BadCount);
+    let bad_target = SourceRule::Image(ImageRule::BadTarget);
+    let labels: [(&[u8], SourceRule, u64); 4] = [
         (b"a:\nb:\na: HALT\n.entry c", SourceRule::BadLabel, 6),
         (b"a: HALT\nJMP r1\n.entry b", SourceRule::BadLabel, 8),
-        (b"HALT\n", SourceRule::Image(ImageRule::BadCount), 20),
+        (b"HALT\n", bad_count, 20),
+        (b"JMP end\n.entry 0\nend:", bad_target, 28),
+    ];
+    check_refusals(&rt, rt.alloc(), &labels);
+}
+
+#[test]
+fn refusals_of_forms(rt: HostRuntime) {
+    let rows: [(&[u8], SourceRule, u64); 7] = [
         (b".form 2\n.form 2\nHALT\n.entry 0", SourceRule::BadLine, 8),
         (b".form 1\nHALT\n.form 2", SourceRule::BadLine, 13),
         (b".form\nHALT\n.entry 0", SourceRule::BadLine, 0),
@@ -134,21 +160,8 @@ fn refusals(rt: HostRuntime) -> Result<(), Fail> {
             SourceRule::BadOperand,
             10,
         ),
-        (
-            b"JMP end\n.entry 0\nend:",
-            SourceRule::Image(ImageRule::BadTarget),
-            28,
-        ),
     ];
-    for (source, rule, at) in rows {
-        let refused = ReadError::Refused { rule, at };
-        assert_eq!(rt;
-            assemble(rt.alloc(), source).err(),
-            Some(refused),
-            "{rule:?} {at}"
-        );
-    }
-    Ok(())
+    check_refusals(&rt, rt.alloc(), &rows);
 }
 
 /// A guest that stores to the last word of an address space of form 2, behind these lines.
@@ -176,7 +189,7 @@ fn forms_of_images(rt: HostRuntime) -> Result<(), Fail> {
             at,
         });
         let source = last_word(rt.alloc(), lines)?;
-        assert_eq!(rt; assemble(rt.alloc(), &source).err(), refused);
+        check_equal(&rt, assemble(rt.alloc(), &source).err(), refused);
     }
     Ok(())
 }
@@ -199,8 +212,8 @@ fn sources_and_images_that_are_too_long(rt: HostRuntime) -> Result<(), Fail> {
     ];
     for (source, rule, at) in rows {
         let refused = ReadError::Refused { rule, at };
-        assert_eq!(rt; assemble(rt.alloc(), source).err(), Some(refused));
-        assert_eq!(rt; rule.name(), "TooLong");
+        check_equal(&rt, assemble(rt.alloc(), source).err(), Some(refused));
+        check_equal(&rt, rule.name(), "TooLong");
     }
     Ok(())
 }
