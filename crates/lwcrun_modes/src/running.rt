@@ -197,8 +197,10 @@ fn summary_of<R: Threads + Wait + Sync, W: World, G: Gate>(
         (works.Generating number) text.items) }
 {
     let kernel = run_threads(rt, alloc, process, passes, gate, logs)?;
-    let text = summary(alloc, number, &kernel)?;
-    Ok(text)
+    let text = summary(alloc, number, &kernel);
+    // Let go here, once for both ways out.
+    drop(kernel);
+    Ok(text?)
 }
 
 /// The report of the steps that the threads make, each going on by itself to its end.
@@ -241,8 +243,10 @@ fn report_of<R: Threads + Wait + Sync, W: World, G: Gate>(
         (works.Running process.name) text.items) }
 {
     let kernel = run_threads(rt, alloc, process, passes, gate, logs)?;
-    let text = report(alloc, &kernel)?;
-    Ok(text)
+    let text = report(alloc, &kernel);
+    // Let go here, once for both ways out.
+    drop(kernel);
+    Ok(text?)
 }
 
 /// A process at the start of an image, with a pass for each of its threads, and with room for just the steps

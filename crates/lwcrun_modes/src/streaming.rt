@@ -159,9 +159,12 @@ fn stream_process<'a, R: Threads + Wait + Sync, W: World, O: Sink, G: Gate>(
         return Ending::NoMemory;
     };
     if failed {
+        drop(kernel);
         return Ending::Unwritten;
     }
-    let Ok(rest) = rest_of_report(alloc, &kernel) else {
+    let rest = rest_of_report(alloc, &kernel);
+    drop(kernel);
+    let Ok(rest) = rest else {
         return Ending::NoMemory;
     };
     match write_whole(out, rest.as_slice()) {

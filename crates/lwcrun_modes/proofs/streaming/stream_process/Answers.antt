@@ -29,7 +29,7 @@ returns-in-Ok-write_whole-clause-ended g c files =
     let steps = c.in-Ok.kernel.steps in
     let seen = g.O.Sink.seen in
     let replies = replies_text (run (start inputs) steps) in
-    let line : c.as_slice.result.now ≡ rest_after inputs steps = c.as_slice.ensures.value ∙ c.in-Ok-rest_of_report.ensures.exact ∙ ap (λ i. rest_after i steps) c.in-Ok.ensures.inputs in
+    let line : c.as_slice.result.now ≡ rest_after inputs steps = c.as_slice.ensures.value ∙ c.in-Ok-rest.ensures.exact ∙ ap (λ i. rest_after i steps) c.in-Ok.ensures.inputs in
     let all = line_written c.in-Ok.failed c.write_whole.result (seen c.args.out.now) (seen c.stream_replies.new.out) (seen c.write_whole.new.out) replies c.as_slice.result.now c.if-failed.false
     c.write_whole.ensures.whole c.write_whole.ensures.part c.write_whole.ensures.no_fault c.write_whole.ensures.cause c.in-Ok.ensures.written in
     let text = subst (λ l. IsWritten (is_err c.write_whole.result) (seen c.args.out.now) (seen c.write_whole.new.out) (replies ++ l)) line all in
@@ -43,7 +43,7 @@ returns-clause-ended g c files =
     let steps = c.in-Ok.kernel.steps in
     let seen = g.O.Sink.seen in
     let replies = replies_text (run (start inputs) steps) in
-    let line : c.as_slice.result.now ≡ rest_after inputs steps = c.as_slice.ensures.value ∙ c.in-Ok-rest_of_report.ensures.exact ∙ ap (λ i. rest_after i steps) c.in-Ok.ensures.inputs in
+    let line : c.as_slice.result.now ≡ rest_after inputs steps = c.as_slice.ensures.value ∙ c.in-Ok-rest.ensures.exact ∙ ap (λ i. rest_after i steps) c.in-Ok.ensures.inputs in
     let all = line_written c.in-Ok.failed c.write_whole.result (seen c.args.out.now) (seen c.stream_replies.new.out) (seen c.write_whole.new.out) replies c.as_slice.result.now c.if-failed.false
     c.write_whole.ensures.whole c.write_whole.ensures.part c.write_whole.ensures.no_fault c.write_whole.ensures.cause c.in-Ok.ensures.written in
     let text = subst (λ l. IsWritten (is_err c.write_whole.result) (seen c.args.out.now) (seen c.write_whole.new.out) (replies ++ l)) line all in
