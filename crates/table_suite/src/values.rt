@@ -1,18 +1,30 @@
+ghost use Rattle.std.specs.Prelude.{◌≡◌, ◌∷◌, [], IfOk};
+ghost use Rattle.lwc_base.specs.Channels.{opened};
+
 use crate::checks::check_equal;
 use lwc_base::{Channels, FileImage, Item, Kind, Mode, PageBytes, Sequence, Spec, may_open};
+use std::alloc::Global;
 use std::test::Fail;
+
+/// Channels with no file and one request, of the byte 9.
+fn channels_of_one(alloc: Global) -> Result<Channels, Fail>
+    ensures { IfOk result (λ io. io ≡ opened [] ((9 ∷ []) ∷ [])) }
+{
+    let request = Sequence::of(vec![in alloc; 9u8]?);
+    let requests = Sequence::of(vec![in alloc; request]?);
+    Ok(Channels::open(alloc, Sequence::of(Vec::new(alloc)), requests)?)
+}
 
 #[test]
 fn what_is_written_is_read_back_in_order(rt: HostRuntime) -> Result<(), Fail> {
-    let requests = Sequence::of(vec![in rt.alloc(); Sequence::of(vec![in rt.alloc(); 9u8]?)]?);
-    let mut io = Channels::open(rt.alloc(), Sequence::of(Vec::new(rt.alloc())), requests)?;
-    io.append_console([1, 2].as_slice());
-    io.append_console([3].as_slice());
-    io.append_reply(0, [4].as_slice());
-    check_equal(&rt, io.console(), [1, 2, 3].as_slice());
-    check_equal(&rt, io.reply(0), [4].as_slice());
+    let mut io = channels_of_one(rt.alloc())?;
+    io.append_console(&[1, 2]);
+    io.append_console(&[3]);
+    io.append_reply(0, &[4]);
     let request = io.requests().get(0).as_slice();
-    check_equal(&rt, (request, io.files().len()), ([9].as_slice(), 0));
+    let seen = [io.console(), io.reply(0), request];
+    let expected = [[1, 2, 3].as_slice(), [4].as_slice(), [9].as_slice()];
+    check_equal(&rt, (seen, io.files().len()), (expected, 0));
     Ok(())
 }
 
