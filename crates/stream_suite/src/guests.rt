@@ -1,16 +1,22 @@
 //! Small guests, and kernels that are to run them.
 
-ghost use Rattle.std.specs.Prelude.{◌≡◌, [], IfOk};
+ghost use Rattle.std.specs.Prelude.{◌≡◌, ◌≤◌, [], All, IfOk, length};
+ghost use Rattle.kernel_core.specs.Kernel.{MayHave, machine_of};
+ghost use Rattle.kernel_core.specs.Machine.{work};
+ghost use Rattle.kernel_core.specs.Settings.{IsSettings};
+ghost use Rattle.kernel_core.specs.Start.{thread_count};
+ghost use Rattle.lwc_base.specs.declared.limits.TheConstants.{MOST_STEPS};
 
 use guest_asm::assemble;
 use kernel_core::{Job, Kernel, Settings};
 use lazy_world::LazyWorld;
-use lwc_base::Sequence;
-use std::alloc::Global;
+use lwc_base::{Requests, Sequence};
+use std::alloc::{AllocError, Global};
+use std::process::Abort;
 use std::test::Fail;
 
 /// Stores 7, loads it again and halts.
-pub const STORE_LOAD: &str = ".entry 0
+const STORE_LOAD: &str = ".entry 0
 .page 0 -
 LI r1, 7
 STW r1, r0, 0
@@ -30,7 +36,7 @@ HALT
 ";
 
 /// Reads one byte, which has to be 0, raises a counter in its page, and replies with it.
-pub const COUNTER_HANDLER: &str = ".entry 0
+const COUNTER_HANDLER: &str = ".entry 0
 .page 0 -
 LI r2, 8
 LI r3, 1
@@ -48,33 +54,93 @@ HALT
 bad: LDW r6, r4, 1
 ";
 
-/// A kernel that is to run two threads, of which the second loads what the first stores.
-pub fn run_of_two(alloc: Global) -> Result<Kernel<LazyWorld>, Fail>
+/// A kernel of this guest, with room for this many steps, of which it has kept none.
+fn kernel_of(
+    alloc: Global,
+    guest: &str,
+    requests: Requests,
+    steps: u32,
+    settings: &Settings,
+) -> Result<Kernel<LazyWorld>, Fail>
+    requires settings { IsSettings settings.now }
+    requires requests { MayHave settings.now.job requests }
+    requires steps { steps ≤ MOST_STEPS }
     ensures { IfOk result (λ kernel. kernel.steps ≡ []) }
 {
-    let image = assemble(alloc, TWO_THREADS.as_bytes())?;
+    let image = assemble(alloc, guest.as_bytes())?;
+    Ok(Kernel::open(alloc, &image, requests, steps, settings)?)
+}
+
+/// A kernel that is to run this guest, with room for this many steps.
+fn run_of(alloc: Global, guest: &str, steps: u32) -> Result<Kernel<LazyWorld>, Fail>
+    requires { steps ≤ MOST_STEPS }
+    ensures { IfOk result (λ kernel. kernel.steps ≡ []) }
+{
     let settings = Settings {
         frames: 4096,
         budget: 10000,
         job: Job::Run,
     };
     let requests = Sequence::of(Vec::new(alloc));
-    Ok(Kernel::open(alloc, &image, requests, 20000, &settings)?)
+    kernel_of(alloc, guest, requests, steps, &settings)
 }
 
-/// A kernel of which two workers are to serve two requests of one byte each.
-pub fn serve_of_two(alloc: Global) -> Result<Kernel<LazyWorld>, Fail>
-    ensures { IfOk result (λ kernel. kernel.steps ≡ []) }
+/// A kernel with room for three steps of a guest that stores, loads and halts.
+pub fn run_of_three_steps(alloc: Global) -> Result<Kernel<LazyWorld>, Fail> {
+    run_of(alloc, STORE_LOAD, 3)
+}
+
+/// Sees that the kernel has room for just the steps that its threads may make.
+fn see_room<R: Abort>(rt: &R, kernel: &Kernel<LazyWorld>)
+    ensures { kernel.now.room ≡ work (machine_of kernel.now) }
 {
-    let image = assemble(alloc, COUNTER_HANDLER.as_bytes())?;
+    assert!(rt; kernel.work() == kernel.room());
+}
+
+/// A kernel that is to run two threads, of which the second loads what the first stores.
+pub fn run_of_two<R: AllocGlobal + Abort>(rt: &R) -> Result<Kernel<LazyWorld>, Fail>
+    ensures fresh { IfOk result (λ kernel. kernel.steps ≡ []) }
+    ensures room { IfOk result (λ kernel. kernel.room ≡ work (machine_of kernel)) }
+    ensures threads { IfOk result (λ kernel. thread_count kernel.inputs ≡ 2) }
+{
+    let kernel = run_of(rt.alloc(), TWO_THREADS, 20000)?;
+    assert!(rt; kernel.thread_count() == 2);
+    see_room(rt, &kernel);
+    Ok(kernel)
+}
+
+/// Requests of one byte each.
+fn requests_of(alloc: Global, bytes: &[u8]) -> Result<Requests, AllocError>
+    ensures count { IfOk result (λ requests. length requests ≡ length bytes.now) }
+    ensures short { IfOk result (All (λ request. length request ≤ 1)) }
+{
+    let mut requests = Vec::new(alloc);
+    'bytes: for byte in bytes {
+        requests.push(Sequence::of(vec![in alloc; *byte]?))?;
+    }
+    Ok(Sequence::of(requests))
+}
+
+/// A kernel of which workers are to serve requests of one byte each.
+pub fn serve_of<R: AllocGlobal + Abort>(
+    rt: &R,
+    bytes: &[u8],
+    workers: u32,
+) -> Result<Kernel<LazyWorld>, Fail>
+    requires few { length bytes.now ≤ 8 }
+    requires workers { (1 ≤ workers) × (workers ≤ 4) }
+    ensures fresh { IfOk result (λ kernel. kernel.steps ≡ []) }
+    ensures room { IfOk result (λ kernel. kernel.room ≡ work (machine_of kernel)) }
+{
     let settings = Settings {
         frames: 100,
         budget: 100,
-        job: Job::Serve { workers: 2 },
+        job: Job::Serve { workers },
     };
-    let first = Sequence::of(vec![in alloc; 0u8]?);
-    let second = Sequence::of(vec![in alloc; 0u8]?);
-    let requests = Sequence::of(vec![in alloc; first, second]?);
     // As many steps as `Kernel::work` counts: the budget and 1 for each request, and 1 for each worker.
-    Ok(Kernel::open(alloc, &image, requests, 204, &settings)?)
+    let steps = bytes.len() as u32 * 101 + workers;
+    let requests = requests_of(rt.alloc(), bytes)?;
+    let kernel = kernel_of(rt.alloc(), COUNTER_HANDLER, requests, steps, &settings)?;
+    see_room(rt, &kernel);
+    Ok(kernel)
 }

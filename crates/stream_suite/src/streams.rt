@@ -1,25 +1,22 @@
 //! Streams of a small server.
+
 ghost use Rattle.std.specs.Prelude.{◌≤◌, length};
 
-use crate::guests::COUNTER_HANDLER;
+use crate::guests::serve_of;
 use crate::outside::{CountingSink, HoldingGate, LineGate};
-use guest_asm::assemble;
-use kernel_core::{Job, Kernel, Settings};
-use lazy_world::LazyWorld;
-use lwc_base::Sequence;
 use lwc_io::{MemorySink, Sink};
-use lwc_stream::stream_all;
+use lwc_stream::{Streamed, stream_all};
 use process_core::Process;
 use std::alloc::Global;
+use std::process::Abort;
 use std::sync::Wait;
 use std::test::Fail;
 use std::thread::Threads;
 use thread_carrier::{Gate, OpenGate, VisitLog};
 
 /// Streams requests of one byte each, and says whether a write failed.
-fn stream<R: Threads + Wait + Sync, G: Gate<Log = VisitLog>, O: Sink>(
+fn stream<R: AllocGlobal + Abort + Threads + Wait + Sync, G: Gate<Log = VisitLog>, O: Sink>(
     rt: &R,
-    alloc: Global,
     bytes: &[u8],
     workers: u32,
     gate: &G,
@@ -29,25 +26,24 @@ fn stream<R: Threads + Wait + Sync, G: Gate<Log = VisitLog>, O: Sink>(
     requires few { length bytes.now ≤ 8 }
     requires workers { (1 ≤ workers) × (workers ≤ 4) }
 {
-    let image = assemble(alloc, COUNTER_HANDLER.as_bytes())?;
-    let mut requests = Vec::new(alloc);
-    'bytes: for byte in bytes {
-        requests.push(Sequence::of(vec![in alloc; *byte]?))?;
-    }
-    let count = requests.len() as u32;
-    let settings = Settings {
-        frames: 100,
-        budget: 100,
-        job: Job::Serve { workers },
-    };
-    let steps = count * 101 + workers;
-    let requests = Sequence::of(requests);
-    let kernel = Kernel::<LazyWorld>::open(alloc, &image, requests, steps, &settings)?;
-    let (process, passes) = Process::open(alloc, kernel)?;
-    let mut logs = VisitLog::for_threads(alloc, passes.len())?;
-    let streamed = stream_all(rt, alloc, &process, passes, gate, &mut logs, count, out)?;
-    process.close(streamed.passes);
-    Ok(streamed.failed)
+    let kernel = serve_of(rt, bytes, workers)?;
+    let count = kernel.request_count();
+    let (process, passes) = Process::open(rt.alloc(), kernel)?;
+    let mut logs = VisitLog::for_threads(rt.alloc(), passes.len()).expect(rt, "memory for logs");
+    let streamed = stream_all(
+        rt,
+        rt.alloc(),
+        &process,
+        passes,
+        gate,
+        &mut logs,
+        count,
+        out,
+    );
+    let Streamed { failed, passes } = streamed.expect(rt, "memory for a stream");
+    drop(process.close(passes));
+    drop(logs);
+    Ok(failed)
 }
 
 /// A sink in memory in which each write takes at most this many bytes, and of which those writes fail.
@@ -57,35 +53,67 @@ fn sink(alloc: Global, most: usize, failing: &[u64]) -> Result<MemorySink, Fail>
     Ok(sink)
 }
 
+/// What is written of two requests that are served well.
+const TWO_REPLIES: &[u8] = b"reply 0 done 0 01\nreply 1 done 0 01\n";
+
+/// Streams requests of one byte each to a sink. Says whether a write failed, how many of the sink's writes failed, and
+/// whether it has just these lines.
+fn written<R: AllocGlobal + Abort + Threads + Wait + Sync, G: Gate<Log = VisitLog>>(
+    rt: &R,
+    bytes: &[u8],
+    workers: u32,
+    gate: &G,
+    out: &mut MemorySink,
+    lines: &[u8],
+) -> Result<(bool, u64, bool), Fail>
+    requires leave { G.leave gate.now }
+    requires few { length bytes.now ≤ 8 }
+    requires workers { (1 ≤ workers) × (workers ≤ 4) }
+{
+    let failed = stream(rt, bytes, workers, gate, out)?;
+    Ok((failed, out.fault_count(), out.bytes() == lines))
+}
+
 #[test]
 fn replies_are_written_in_the_order_of_their_requests(rt: HostRuntime) -> Result<(), Fail> {
     let lines = b"reply 0 done 0 01\nreply 1 done 0 01\nreply 2 fault 2 -\nreply 3 done 0 01\n";
+    let bytes = [0, 0, 1, 0];
     for workers in 1..3 {
         let mut out = sink(rt.alloc(), 5, &[])?;
-        let failed = stream(&rt, rt.alloc(), &[0, 0, 1, 0], workers, &OpenGate, &mut out)?;
-        assert!(rt; !failed);
-        assert_eq!(rt; out.bytes(), lines.as_slice());
+        let left = written(&rt, &bytes, workers, &OpenGate, &mut out, lines)?;
+        assert!(rt; left == (false, 0, true), "with {workers} workers");
     }
     Ok(())
 }
 
+/// Streams two requests while all workers are held, the free one by the gate that it tells of request 0: nobody else
+/// calls the writer then. Says whether a write failed, whether the looks of the gate ran out, and whether the sink has
+/// the two replies.
+fn written_while_held<R: AllocGlobal + Abort + Threads + Wait + Sync>(
+    rt: &R,
+    workers: u32,
+    free: u32,
+) -> Result<(bool, bool, bool), Fail>
+    requires { (1 ≤ workers) × (workers ≤ 4) }
+{
+    let gate = LineGate::new(free);
+    let mut out = CountingSink {
+        sink: sink(rt.alloc(), 100, &[])?,
+        lines: &gate.lines,
+    };
+    let failed = stream(rt, &[0, 0], workers, &gate, &mut out)?;
+    let is_whole = out.sink.bytes() == TWO_REPLIES;
+    Ok((failed, gate.has_run_out(), is_whole))
+}
+
 #[test]
 fn a_line_is_written_while_workers_are_held(rt: HostRuntime) -> Result<(), Fail> {
-    // All workers are held, the free one by the gate that it tells of request 0: nobody else calls the writer then.
     for (workers, free) in [(1, 0), (2, 0), (2, 1), (4, 0), (4, 1), (4, 2), (4, 3)] {
-        let gate = LineGate::new(free);
-        let mut out = CountingSink {
-            sink: sink(rt.alloc(), 100, &[])?,
-            lines: &gate.lines,
-        };
-        let failed = stream(&rt, rt.alloc(), &[0, 0], workers, &gate, &mut out)?;
-        assert!(rt; !failed);
+        let left = written_while_held(&rt, workers, free)?;
         assert!(rt;
-            !gate.has_run_out(),
+            left == (false, false, true),
             "thread {free} of {workers} is not held"
         );
-        let lines = b"reply 0 done 0 01\nreply 1 done 0 01\n";
-        assert_eq!(rt; out.sink.bytes(), lines.as_slice());
     }
     Ok(())
 }
@@ -95,11 +123,11 @@ fn workers_go_on_side_by_side(rt: HostRuntime) -> Result<(), Fail> {
     for (held, awaited) in [(0, 1), (1, 0)] {
         let gate = HoldingGate::new(held, awaited);
         let mut out = sink(rt.alloc(), 100, &[])?;
-        let failed = stream(&rt, rt.alloc(), &[0, 0], 2, &gate, &mut out)?;
-        assert!(rt; !failed);
-        assert!(rt; !gate.has_run_out(), "thread {held} is held");
-        let lines = b"reply 0 done 0 01\nreply 1 done 0 01\n";
-        assert_eq!(rt; out.bytes(), lines.as_slice());
+        let left = written(&rt, &[0, 0], 2, &gate, &mut out, TWO_REPLIES)?;
+        assert!(rt;
+            left == (false, 0, true) && !gate.has_run_out(),
+            "thread {held} is held"
+        );
     }
     Ok(())
 }
@@ -107,9 +135,8 @@ fn workers_go_on_side_by_side(rt: HostRuntime) -> Result<(), Fail> {
 #[test]
 fn after_a_failed_write_no_more_is_written(rt: HostRuntime) -> Result<(), Fail> {
     let mut out = sink(rt.alloc(), 100, &[1])?;
-    let failed = stream(&rt, rt.alloc(), &[0, 0, 0], 2, &OpenGate, &mut out)?;
-    assert!(rt; failed);
-    assert_eq!(rt; out.bytes(), b"reply 0 done 0 01\n".as_slice());
-    assert_eq!(rt; out.fault_count(), 1);
+    let line = b"reply 0 done 0 01\n";
+    let left = written(&rt, &[0, 0, 0], 2, &OpenGate, &mut out, line)?;
+    assert!(rt; left == (true, 1, true));
     Ok(())
 }

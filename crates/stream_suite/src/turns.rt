@@ -1,3 +1,5 @@
+//! The turns that a lock gives to its passes.
+
 ghost use Rattle.std.specs.Prelude.{◌≡◌, ◌+◌, ◌*◌, ◌<◌, ◌≤◌, ◌^◌, ◌++◌, ℕ, [], ◌∷◌, length, sum, IfOk, Some};
 ghost use Rattle.std.specs.Prelude.{slice_get, All, Contains, vec_len, vec_capacity, slice_index, replicate};
 ghost use Rattle.turnstile.specs.Past.{times};
@@ -38,6 +40,7 @@ impl Turned for Log {
 }
 
 impl Log {
+    /// The log before the first turn, of this many seats.
     fn new(alloc: Global, seats: usize) -> Result<Log, AllocError>
         requires { seats ≤ 16 }
         ensures name { IfOk result (λ log. length log.left.items ≡ seats) }
@@ -163,6 +166,7 @@ fn both_ask<S: Turned, R: Threads + Sync>(
     )
 }
 
+/// The pass after it asked how many turns there were.
 fn asked<S: Turned>(gate: &Turnstile<S>, mut pass: Pass<S>) -> Pass<S>
     requires { IsPassOf gate.now pass }
     ensures ours { IsPassOf gate.now result }
@@ -213,20 +217,28 @@ fn log_of_both<R: AllocGlobal + Threads + Wait + Sync>(
     Ok(close_both(gate, rest, one, other)?)
 }
 
+/// The turns of each of the two in the log, and all turns, where two threads take this many turns each.
+fn counts_of_both<R: AllocGlobal + Threads + Wait + Sync>(
+    rt: &R,
+    turns: u64,
+    yields: u32,
+) -> Result<[usize; 3], Fail>
+    requires { turns ≤ 1000 }
+{
+    let log = log_of_both(rt, turns, yields)?;
+    Ok([turns_of(&log, 0), turns_of(&log, 1), log.turns.len()])
+}
+
 #[test]
 fn two_threads_have_their_turns(rt: HostRuntime) -> Result<(), Fail> {
-    let log = log_of_both(&rt, 1000, 0)?;
-    assert_eq!(rt; turns_of(&log, 0), 1000);
-    assert_eq!(rt; turns_of(&log, 1), 1000);
-    assert_eq!(rt; log.turns.len(), 2000);
+    assert_eq!(rt; counts_of_both(&rt, 1000, 0)?, [1000, 1000, 2000]);
     Ok(())
 }
 
 /// A turn takes longer than a waiting thread tries, so the other one sleeps, and has to be woken.
 #[test]
 fn a_thread_that_waits_long_is_woken(rt: HostRuntime) -> Result<(), Fail> {
-    let log = log_of_both(&rt, 20, 2000)?;
-    assert_eq!(rt; log.turns.len(), 40);
+    assert_eq!(rt; counts_of_both(&rt, 20, 2000)?, [20, 20, 40]);
     Ok(())
 }
 
@@ -246,15 +258,18 @@ fn one_turn_each<R: Wait>(rt: &R, gate: &Turnstile<Log>, passes: &mut Passes<Log
     sum
 }
 
+/// The log of sixteen seats of which each has taken one turn, and the sum of what their passes saw.
+fn one_turn_of_sixteen<R: Wait>(rt: &R, alloc: Global) -> Result<(u64, Log), Fail> {
+    let log = Log::new(alloc, 16)?;
+    let (gate, mut passes) = Turnstile::new(alloc, log, 16)?;
+    let seen = one_turn_each(rt, &gate, &mut passes);
+    Ok((seen, gate.close(passes)))
+}
+
 #[test]
 fn sixteen_seats(rt: HostRuntime) -> Result<(), Fail> {
-    let log = Log::new(rt.alloc(), 16)?;
-    let (gate, mut passes) = Turnstile::new(rt.alloc(), log, 16)?;
-    assert_eq!(rt; one_turn_each(&rt, &gate, &mut passes), 136);
-    let log = gate.close(passes);
-    assert_eq!(rt;
-        log.turns.as_slice(),
-        [0, 1, 2, 3, 4, 5, 6, 7, 8, 9, 10, 11, 12, 13, 14, 15].as_slice()
-    );
+    let (seen, log) = one_turn_of_sixteen(&rt, rt.alloc())?;
+    let seats = [0, 1, 2, 3, 4, 5, 6, 7, 8, 9, 10, 11, 12, 13, 14, 15];
+    assert!(rt; seen == 136 && log.turns.as_slice() == seats.as_slice());
     Ok(())
 }
