@@ -11,4 +11,6 @@ mod status;
 pub use call::lwcrun;
 pub use in_memory::lwcrun_in_memory;
 pub use limits::limits_are_as_documented;
+pub use lwcrun_line::{Line, LineFault, read_line};
+pub use lwcrun_modes::{Ending, open_process, replay};
 pub use status::ExitStatus;

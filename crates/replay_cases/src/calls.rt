@@ -3,9 +3,7 @@
 use crate::case::{Case, Outside, SURE};
 use lwc_base::MOST_THREADS;
 use lwc_io::{MemoryFiles, MemorySink, NamedFile, SureFiles};
-use lwcrun_core::{ExitStatus, lwcrun, lwcrun_in_memory};
-use lwcrun_line::{Line, read_line};
-use lwcrun_modes::replay;
+use lwcrun_core::{ExitStatus, Line, lwcrun, lwcrun_in_memory, read_line, replay};
 use std::alloc::{AllocError, Global};
 use std::sync::Wait;
 use std::thread::Threads;

@@ -14,7 +14,7 @@ use lwc_debug::{debug, read_script};
 use lwc_monitor::monitor_replay;
 use lwc_text::{read_requests, read_schedule, read_vault, report};
 use lwc_vault::{takes_vault_slot, vault_replay};
-use lwcrun_line::{Line, read_line};
+use lwcrun_core::{Line, read_line};
 use std::alloc::{AllocError, Global};
 use whole_world::WholeWorld;
 
