@@ -3,8 +3,8 @@
 use std::fmt::Debug;
 use std::process::Abort;
 
-/// Stops unless what was seen is what was expected. A test that asks once of all that it saw is proved sooner than one
-/// that asserts here and there.
+/// Stops unless what was seen is what was expected. An `assert_eq!` is proved anew at each place,
+/// beside all that is alive there.
 pub fn check_equal<T: Debug + PartialEq + Drop>(rt: &impl Abort, seen: T, expected: T) {
     assert_eq!(rt; seen, expected);
 }

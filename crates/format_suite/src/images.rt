@@ -11,6 +11,7 @@ const STORE_LOAD: [u8; 64] = [
     0, 0, 0, 0, 0, 0, 0, 0, 0, 0,
 ];
 
+/// The bytes of an image that stores 7, loads it again and halts.
 fn store_load(alloc: Global) -> Result<Vec<u8>, AllocError> {
     let mut bytes = Vec::from_slice(alloc, &STORE_LOAD)?;
     bytes.extend_from_slice(&[0; 4096])?;
@@ -46,6 +47,7 @@ fn spaced_pages(alloc: Global, count: u32) -> Result<Vec<u8>, AllocError> {
     Ok(bytes)
 }
 
+/// The rule that an image breaks first, and where, if it is refused.
 fn refusal(alloc: Global, bytes: &[u8]) -> Option<(ImageRule, u64)> {
     match read_image(alloc, bytes) {
         Err(ImageFault::Refused { rule, at }) => Some((rule, at)),
@@ -259,9 +261,9 @@ fn lifted(alloc: Global, bytes: &[u8]) -> Result<Vec<u8>, Fail> {
 
 #[test]
 fn an_image_is_lifted(rt: HostRuntime) -> Result<(), Fail> {
-    let mut expected = store_load(rt.alloc())?;
-    let once = lifted(rt.alloc(), &expected)?;
+    let once = lifted(rt.alloc(), &store_load(rt.alloc())?)?;
     let twice = lifted(rt.alloc(), &once)?;
+    let mut expected = store_load(rt.alloc())?;
     if let Some(digit) = expected.get_mut(3) {
         *digit = b'2';
     }

@@ -70,10 +70,10 @@ fn limits_of_requests_are_kept(rt: HostRuntime) -> Result<(), Fail> {
 fn steps_of(alloc: Global, text: &[u8], threads: u32) -> Result<(usize, Option<u8>), InputFault> {
     let schedule = read_schedule(alloc, text, threads)?;
     let count = schedule.len();
-    let last = if count > 0 {
-        Some(*schedule.get(count - 1))
-    } else {
+    let last = if schedule.is_empty() {
         None
+    } else {
+        Some(*schedule.get(count - 1))
     };
     Ok((count, last))
 }

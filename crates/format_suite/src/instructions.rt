@@ -130,7 +130,7 @@ fn signed_immediates(rt: HostRuntime) {
     }
 }
 
-/// The length of a text, its first two instructions and that of its copy, and the length of its list.
+/// The length of a text, its first two instructions and the first of its copy, and the length of its list.
 fn shown(alloc: Global, text: Text) -> Result<(usize, [Instr; 3], usize), AllocError>
     requires { length text ≡ 2 }
 {

@@ -19,8 +19,8 @@ const HALT: Instr = Instr {
 
 const MINUS_ONE: u64 = u64::MAX;
 
-/// An operation of these registers and this number.
-fn operation(op: Op, rd: u8, ra: u8, rb: u8, imm: u32) -> Instr
+/// An instruction of this operation, with these registers and this number.
+fn instruction(op: Op, rd: u8, ra: u8, rb: u8, imm: u32) -> Instr
     ensures { result ≡ record { op = op; rd = rd; ra = ra; rb = rb; imm = imm } }
 {
     Instr {
@@ -36,7 +36,7 @@ fn operation(op: Op, rd: u8, ra: u8, rb: u8, imm: u32) -> Instr
 fn put_by(rt: &impl Abort, op: Op, imm: u32, [d, a, b]: [u64; 3]) -> u64 {
     let form = op.form();
     let (rd, ra, rb) = (u8::from(form.rd), u8::from(form.ra), u8::from(form.rb));
-    let i = operation(op, rd, 2 * ra, 3 * rb, imm);
+    let i = instruction(op, rd, 2 * ra, 3 * rb, imm);
     assert!(rt; i.is_instruction() && op.is_private());
     let mut regs = Regs::fresh(7);
     regs.r[1] = d;
@@ -94,7 +94,7 @@ fn places_that_are_jumped_to(rt: HostRuntime) {
         (Op::Jr, 0, 2, 0, (9, 0)),
     ];
     for (op, rd, ra, imm, left) in rows {
-        let i = operation(op, rd, ra, 0, imm);
+        let i = instruction(op, rd, ra, 0, imm);
         check_equal(&rt, (i, jumped(&rt, &i)), (i, left));
     }
 }
@@ -111,11 +111,11 @@ fn text_of(alloc: Global, instructions: &[Instr]) -> Result<Text, AllocError>
 #[tactic(auto, unfolding(guest_isa::specs::Instructions::is_instruction))]
 fn arithmetic(alloc: Global) -> Result<Text, AllocError> {
     let instructions = [
-        operation(Op::Li, 1, 0, 0, 5),
-        operation(Op::Divu, 2, 1, 0, 0),
-        operation(Op::Remu, 3, 1, 0, 0),
-        operation(Op::Addi, 4, 0, 0, u32::MAX),
-        operation(Op::Shl, 5, 1, 4, 0),
+        instruction(Op::Li, 1, 0, 0, 5),
+        instruction(Op::Divu, 2, 1, 0, 0),
+        instruction(Op::Remu, 3, 1, 0, 0),
+        instruction(Op::Addi, 4, 0, 0, u32::MAX),
+        instruction(Op::Shl, 5, 1, 4, 0),
         HALT,
     ];
     text_of(alloc, &instructions)
@@ -146,8 +146,8 @@ fn arithmetic_upto_a_halt(rt: HostRuntime) -> Result<(), Fail> {
 /// Counts down register 1, and goes on unless it is 0, with a halt behind or with nothing there.
 #[tactic(auto, unfolding(guest_isa::specs::Instructions::is_instruction))]
 fn countdown(alloc: Global, halts: bool) -> Result<Text, AllocError> {
-    let down = operation(Op::Addi, 1, 1, 0, u32::MAX);
-    let again = operation(Op::Jnz, 0, 1, 0, 0);
+    let down = instruction(Op::Addi, 1, 1, 0, u32::MAX);
+    let again = instruction(Op::Jnz, 0, 1, 0, 0);
     if halts {
         text_of(alloc, &[down, again, HALT])
     } else {
@@ -160,7 +160,6 @@ fn counted(text: &Text, first: u64) -> (u64, u64, Next) {
     let mut regs = Regs::fresh(0);
     regs.r[1] = first;
     let advance = advance(text, &regs);
-    advance_is_determined();
     (advance.after.r[1], advance.after.pc, advance.next)
 }
 
@@ -176,6 +175,7 @@ fn what_comes_after_256_instructions(rt: HostRuntime) -> Result<(), Fail> {
     let at_the_end = counted_from(&open);
     let at_the_halt = counted_from(&closed);
     let halt = Next::Shared(HALT);
+    advance_is_determined();
     check_equal(
         &rt,
         at_the_end,

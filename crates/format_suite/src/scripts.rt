@@ -5,6 +5,7 @@ use lwc_text::{InputFault, InputRule};
 use std::alloc::Global;
 use std::test::Fail;
 
+/// The rule that a script breaks first, and where, if it is refused.
 fn refusal(alloc: Global, bytes: &[u8]) -> Option<(InputRule, u64)> {
     match read_script(alloc, bytes) {
         Err(InputFault::Refused { rule, at }) => Some((rule, at)),
@@ -16,10 +17,10 @@ fn refusal(alloc: Global, bytes: &[u8]) -> Option<(InputRule, u64)> {
 fn commands_of(alloc: Global, text: &[u8]) -> Result<(usize, Option<Command>), InputFault> {
     let script = read_script(alloc, text)?;
     let count = script.len();
-    let last = if count > 0 {
-        Some(script.get(count - 1))
-    } else {
+    let last = if script.is_empty() {
         None
+    } else {
+        Some(script.get(count - 1))
     };
     Ok((count, last))
 }

@@ -90,8 +90,8 @@ pub fn run_of_three_steps(alloc: Global) -> Result<Kernel<LazyWorld>, Fail> {
     run_of(alloc, STORE_LOAD, 3)
 }
 
-/// Sees that the kernel has room for just the steps that its threads may make.
-fn see_room<R: Abort>(rt: &R, kernel: &Kernel<LazyWorld>)
+/// Stops unless the kernel has room for just the steps that its threads may make.
+fn check_room<R: Abort>(rt: &R, kernel: &Kernel<LazyWorld>)
     ensures { kernel.now.room ≡ work (machine_of kernel.now) }
 {
     assert!(rt; kernel.work() == kernel.room());
@@ -105,7 +105,7 @@ pub fn run_of_two<R: AllocGlobal + Abort>(rt: &R) -> Result<Kernel<LazyWorld>, F
 {
     let kernel = run_of(rt.alloc(), TWO_THREADS, 20000)?;
     assert!(rt; kernel.thread_count() == 2);
-    see_room(rt, &kernel);
+    check_room(rt, &kernel);
     Ok(kernel)
 }
 
@@ -141,6 +141,6 @@ pub fn serve_of<R: AllocGlobal + Abort>(
     let steps = bytes.len() as u32 * 101 + workers;
     let requests = requests_of(rt.alloc(), bytes)?;
     let kernel = kernel_of(rt.alloc(), COUNTER_HANDLER, requests, steps, &settings)?;
-    see_room(rt, &kernel);
+    check_room(rt, &kernel);
     Ok(kernel)
 }

@@ -56,8 +56,25 @@ fn sink(alloc: Global, most: usize, failing: &[u64]) -> Result<MemorySink, Fail>
 /// What is written of two requests that are served well.
 const TWO_REPLIES: &[u8] = b"reply 0 done 0 01\nreply 1 done 0 01\n";
 
-/// Streams requests of one byte each to a sink. Says whether a write failed, how many of the sink's writes failed, and
-/// whether it has just these lines.
+/// What a stream left.
+#[derive(Clone, Copy, PartialEq, Eq)]
+struct Written {
+    /// Whether the stream says that a write failed.
+    failed: bool,
+    /// How many writes of the sink failed.
+    faults: u64,
+    /// Whether the sink has just the lines that it should have.
+    is_whole: bool,
+}
+
+/// What is left where all lines were written.
+const WHOLE: Written = Written {
+    failed: false,
+    faults: 0,
+    is_whole: true,
+};
+
+/// Streams requests of one byte each to a sink that should have these lines then.
 fn written<R: AllocGlobal + Abort + Threads + Wait + Sync, G: Gate<Log = VisitLog>>(
     rt: &R,
     bytes: &[u8],
@@ -65,13 +82,17 @@ fn written<R: AllocGlobal + Abort + Threads + Wait + Sync, G: Gate<Log = VisitLo
     gate: &G,
     out: &mut MemorySink,
     lines: &[u8],
-) -> Result<(bool, u64, bool), Fail>
+) -> Result<Written, Fail>
     requires leave { G.leave gate.now }
     requires few { length bytes.now ≤ 8 }
     requires workers { (1 ≤ workers) × (workers ≤ 4) }
 {
     let failed = stream(rt, bytes, workers, gate, out)?;
-    Ok((failed, out.fault_count(), out.bytes() == lines))
+    Ok(Written {
+        failed,
+        faults: out.fault_count(),
+        is_whole: out.bytes() == lines,
+    })
 }
 
 #[test]
@@ -81,19 +102,18 @@ fn replies_are_written_in_the_order_of_their_requests(rt: HostRuntime) -> Result
     for workers in 1..3 {
         let mut out = sink(rt.alloc(), 5, &[])?;
         let left = written(&rt, &bytes, workers, &OpenGate, &mut out, lines)?;
-        assert!(rt; left == (false, 0, true), "with {workers} workers");
+        assert!(rt; left == WHOLE, "with {workers} workers");
     }
     Ok(())
 }
 
 /// Streams two requests while all workers are held, the free one by the gate that it tells of request 0: nobody else
-/// calls the writer then. Says whether a write failed, whether the looks of the gate ran out, and whether the sink has
-/// the two replies.
+/// calls the writer then. What is left, and whether the looks of the gate ran out.
 fn written_while_held<R: AllocGlobal + Abort + Threads + Wait + Sync>(
     rt: &R,
     workers: u32,
     free: u32,
-) -> Result<(bool, bool, bool), Fail>
+) -> Result<(Written, bool), Fail>
     requires { (1 ≤ workers) × (workers ≤ 4) }
 {
     let gate = LineGate::new(free);
@@ -102,8 +122,12 @@ fn written_while_held<R: AllocGlobal + Abort + Threads + Wait + Sync>(
         lines: &gate.lines,
     };
     let failed = stream(rt, &[0, 0], workers, &gate, &mut out)?;
-    let is_whole = out.sink.bytes() == TWO_REPLIES;
-    Ok((failed, gate.has_run_out(), is_whole))
+    let left = Written {
+        failed,
+        faults: out.sink.fault_count(),
+        is_whole: out.sink.bytes() == TWO_REPLIES,
+    };
+    Ok((left, gate.has_run_out()))
 }
 
 #[test]
@@ -111,7 +135,7 @@ fn a_line_is_written_while_workers_are_held(rt: HostRuntime) -> Result<(), Fail>
     for (workers, free) in [(1, 0), (2, 0), (2, 1), (4, 0), (4, 1), (4, 2), (4, 3)] {
         let left = written_while_held(&rt, workers, free)?;
         assert!(rt;
-            left == (false, false, true),
+            left == (WHOLE, false),
             "thread {free} of {workers} is not held"
         );
     }
@@ -125,7 +149,7 @@ fn workers_go_on_side_by_side(rt: HostRuntime) -> Result<(), Fail> {
         let mut out = sink(rt.alloc(), 100, &[])?;
         let left = written(&rt, &[0, 0], 2, &gate, &mut out, TWO_REPLIES)?;
         assert!(rt;
-            left == (false, 0, true) && !gate.has_run_out(),
+            left == WHOLE && !gate.has_run_out(),
             "thread {held} is held"
         );
     }
@@ -137,6 +161,11 @@ fn after_a_failed_write_no_more_is_written(rt: HostRuntime) -> Result<(), Fail> 
     let mut out = sink(rt.alloc(), 100, &[1])?;
     let line = b"reply 0 done 0 01\n";
     let left = written(&rt, &[0, 0, 0], 2, &OpenGate, &mut out, line)?;
-    assert!(rt; left == (true, 1, true));
+    let cut = Written {
+        failed: true,
+        faults: 1,
+        is_whole: true,
+    };
+    assert!(rt; left == cut);
     Ok(())
 }

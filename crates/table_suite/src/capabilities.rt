@@ -9,6 +9,7 @@ use access_cap::whole::{empty, full};
 use bitflags::Flags;
 use lwc_base::{Cap, Grant, Item, Kind, MOST_PAGES, Mode, PAGES_OF_FORM_ONE, Spec};
 
+/// An item that copies what it names.
 fn item(kind: Kind, from: u32, to: u32) -> Item
     ensures { result ≡ record { kind = kind; mode = Copy; from = from; to = to } }
 {
@@ -111,7 +112,8 @@ fn pages_of_form_two_are_keys(rt: HostRuntime) {
 /// All keys of 70 pages, lent.
 const ALL: Grant<'static> = Grant::All { pages: 70 };
 
-/// Whether keys that are lent are those of 70 pages, no key, and those of a capability with a far page alone.
+/// Whether lent keys are those that they stand for: all of 70 pages, none, those of a capability, and those that all keys
+/// and an item of a far page have in common.
 fn are_owned(part: &Cap, far: &Spec) -> [bool; 4] {
     [
         owned_keys(ALL) == full(70),

@@ -81,10 +81,9 @@ fn items_are_tested_together(rt: HostRuntime) {
 
 /// The modes of pages 0 and 2 and of slot 2, and the mode of page 3 or else a copy.
 fn modes_of(spec: &Spec) -> ([Option<Mode>; 3], Mode) {
-    let page = mode_of(spec, Key::Page(2));
     let modes = [
         mode_of(spec, Key::Page(0)),
-        page,
+        mode_of(spec, Key::Page(2)),
         mode_of(spec, Key::Slot(2)),
     ];
     (modes, mode_or_copy(spec, Key::Page(3)))

@@ -79,8 +79,8 @@ fn written<L: Ledger>(
 /// The group whose pages are common.
 const GROUP: Name = Name { job: 1, k: 2 };
 
-/// Copies the first place into the second, and makes some pages of the first common and the others absent: the ranges of
-/// the second, and the frames in use.
+/// Copies the first place into the second, and answers the ranges of the second and the frames in use. Then it makes
+/// some pages of the first common and the others absent.
 fn copy_first<L: Ledger>(
     rt: &impl Abort,
     places: &mut PageCells,

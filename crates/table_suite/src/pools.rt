@@ -85,7 +85,9 @@ fn given_back(
     requires apart { held.n ≢ dropped.n }
 {
     pool.hold(held);
-    let [first, second, used] = [pool.count(held), pool.count(dropped), pool.used()];
+    let first = pool.count(held);
+    let second = pool.count(dropped);
+    let used = pool.used();
     pool.drop_hold(dropped);
     let counts = [first, second, used, pool.used()];
     let taken = pool.take(Tag { job: 1, k: 3 }).expect(rt, "one is held");

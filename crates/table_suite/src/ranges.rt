@@ -13,13 +13,13 @@ fn change(from: u16, to: u16, kind: Option<SegmentKind>) -> Change {
     }
 }
 
-/// What pages are that are the context's own.
+/// The kind of a page that is the context's own.
 const OWN: Option<SegmentKind> = Some(SegmentKind::Own);
 
-/// What pages are that are common with one group.
+/// The kind of a page that is common with one group.
 const ONE: Option<SegmentKind> = Some(SegmentKind::Common(Name { job: 1, k: 0 }));
 
-/// What pages are that are common with another group.
+/// The kind of a page that is common with another group.
 const OTHER: Option<SegmentKind> = Some(SegmentKind::Common(Name { job: 1, k: 1 }));
 
 /// Makes two changes: the number of ranges that was foretold, whether there were few enough, and the numbers of ranges

@@ -37,7 +37,7 @@ fn keys_at(slots: &Slots, i: usize, n: u8) -> Option<Cap>
     }
 }
 
-/// What a place has in common and of its own: its filled slots and its common ones as bits, and how many are filled.
+/// The filled slots of a place and its common ones, as bits, and how many are filled.
 fn bits_of(slots: &Slots, i: usize) -> (u64, u64, u32)
     requires { i < length (seen slots.now) }
 {
@@ -67,7 +67,8 @@ fn fill_and_clone(slots: &mut Slots) -> (u64, u64, u32)
     bits
 }
 
-/// Puts another cell into slot 5 of the first place: whether both have their own, the contexts there, and whether 2 is named.
+/// Puts another cell into slot 5 of the first place: whether each of the two has one of its own there, whether context 2
+/// is named, and the contexts that the second and the first name.
 fn part_slot(slots: &mut Slots) -> ([bool; 3], [Option<Name>; 2])
     requires { length (seen slots.old) ≡ 3 }
     ensures { length (seen slots.new) ≡ 3 }
