@@ -9,6 +9,8 @@ use Rattle.lwc_base.specs.Mapping.{map_pages}
 use Rattle.lwc_base.specs.Names.{name_cmp}
 use Rattle.lwc_base.specs.World.{World, Context, Counters, Group, is_live, next_context, add_context, empty_world}
 use Rattle.lwc_base.proofs.Facts.{changes, counts, stays_fresh}
+use Rattle.world_face.specs.Calls.{IsLive}
+use Rattle.world_suite.specs.Begun.{IsBegun}
 
 pub counts-empty : (size : WorldSize) (job : ℕ) → (empty_world size).next job ≡ record { contexts = 0; groups = 0; tags = 0 }
 unfolding empty_world
@@ -65,3 +67,8 @@ module _ (size : WorldSize) (opened made mapped : World) (c : Name) (x : Context
   no_group-begun =
       (counts.same_groups made mapped 0 kept.groups).1 ∙ ap (fm.len {R = name_cmp}) added.groups
       ∙ ap (λ (w : World). fm.len w.groups) is_opened ∙ no_group-empty size
+
+-- the context is live still after a change that keeps it, and it may have four pages
+pub stays : (frames : ℕ) (w v u : World) (c : Name) → u ≡ v → is_live v c ≡ is_live w c → v.size ≡ w.size → IsBegun frames w c → IsLive u c × (u.size.pages ≡ 4)
+stays frames w v u c same live size begun =
+    (ap (λ (x : World). is_live x c) same ∙ live ∙ begun.live, ap (λ (x : World). x.size.pages) same ∙ ap (λ (s : WorldSize). s.pages) (size ∙ begun.size))

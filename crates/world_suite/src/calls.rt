@@ -1,30 +1,26 @@
 //! Each call of `World` once, over both worlds. What is expected is said by the definitions of the calls.
 
-ghost use Rattle.std.specs.Prelude.{◌≡◌, ◌≤◌, IfOk};
+ghost use Rattle.std.specs.Prelude.{◌≡◌, ◌≤◌, ◌+◌, ◌*◌, IfOk, OnOk, length};
 ghost use Rattle.lwc_base.specs.Modes.{IsSpec};
-ghost use Rattle.world_face.specs.Calls.{HasGroupPlace, HasPlace, IsLive};
+ghost use Rattle.world_face.specs.Calls.{IsLive, MayName};
+ghost use Rattle.world_suite.specs.Begun.{IsBegun};
 
 use access_cap::owned;
 use lazy_world::LazyWorld;
 use lwc_base::{
-    Cap, Descriptor, Grant, Item, Kind, Lent, Mode, Name, Range, Regs, Spec, StoreFault, Summary,
-    WorldSize,
+    Cap, Descriptor, Grant, Item, Kind, Lent, Mode, Name, Range, Regs, SlotNumber, Spec,
+    StoreFault, Summary, WorldSize,
 };
-use std::process::Abort;
+use std::alloc::Global;
 use std::test::Fail;
 use whole_world::WholeWorld;
 use world_face::World;
 
 /// A world of four pages with one context, which has the first two.
-fn begun<R: AllocGlobal + Abort, W: World>(rt: &R, frames: u32) -> Result<(W, Name), Fail>
+fn begun<W: World>(alloc: Global, frames: u32) -> Result<(W, Name), Fail>
     requires some { 1 ≤ frames }
     requires few { frames ≤ 65536 }
-    ensures live { IfOk result (λ r. IsLive (W.seen r.0) r.1) }
-    ensures size { IfOk result (λ r. (W.seen r.0).size
-        ≡ record { frames = frames; contexts = 2; groups = 1; jobs = 2; pages = 4 }) }
-    ensures place { IfOk result (λ r. HasPlace (W.seen r.0)) }
-    ensures group_place { IfOk result (λ r. HasGroupPlace (W.seen r.0)) }
-    ensures next { IfOk result (λ r. (W.seen r.0).next 1 ≡ record { contexts = 0; groups = 0; tags = 0 }) }
+    ensures { IfOk result (λ r. IsBegun frames (W.seen r.0) r.1) }
 {
     let size = WorldSize {
         frames,
@@ -34,108 +30,187 @@ fn begun<R: AllocGlobal + Abort, W: World>(rt: &R, frames: u32) -> Result<(W, Na
         pages: 4,
     };
     let range = Range { from: 0, to: 2 };
-    let mut world = W::open(rt.alloc(), &size)?;
+    let mut world = W::open(alloc, &size)?;
     let c = world.first(7, &Regs::fresh(3))?;
-    assert_eq!(rt; world.ranges_after_map(c, range, true), 1);
+    if world.ranges_after_map(c, range, true) != 1 {
+        return Err(Fail::new("the first two pages are no range"));
+    }
     world.map(c, range)?;
     Ok((world, c))
 }
 
-/// A store over the border of two pages parts both, and its bytes are read back.
-fn stores_over_a_border<R: AllocGlobal + Abort, W: World>(rt: &R) -> Result<(), Fail> {
-    let (mut world, c) = begun::<R, W>(rt, 2)?;
-    assert_eq!(rt; world.used(), 0);
+/// Whether two bytes of the context are there, and what `World::bytes` leaves of a buffer of 9s.
+fn two_bytes<W: World>(world: &W, c: Name, at: u32) -> (bool, [u8; 2])
+    requires live { IsLive (W.seen world.now) c }
+    requires within { at + 2 ≤ (W.seen world.now).size.pages * 4096 }
+{
+    let mut out = [9; 2];
+    (world.bytes(c, at, &mut out), out)
+}
+
+/// Why a store for job 1 is refused.
+fn refused<W: World>(world: &mut W, c: Name, at: u32, piece: &[u8]) -> Result<StoreFault, Fail>
+    requires live { IsLive (W.seen world.old) c }
+    requires within { at + length piece.now ≤ (W.seen world.old).size.pages * 4096 }
+    requires short { length piece.now ≤ 4096 }
+    requires may { MayName (W.seen world.old) 1 }
+    ensures { OnOk result (W.seen world.new ≡ W.seen world.old) }
+{
+    match world.store(c, at, piece, 1) {
+        Ok(()) => Err(Fail::new("the store is done")),
+        Err(fault) => Ok(fault),
+    }
+}
+
+/// The frames in use before and after a store over the border of two pages, and the bytes round it.
+type Stored = (u32, u32, (bool, [u8; 10]));
+
+/// Stores over the border of two pages.
+fn store_over_a_border<W: World>(world: &mut W, c: Name) -> Result<Stored, Fail>
+    requires { IsBegun 2 (W.seen world.old) c }
+{
+    let before = world.used();
     world.store(c, 4092, &[1, 2, 3, 4, 5, 6, 7, 8], 1)?;
-    assert_eq!(rt; world.used(), 2);
     let mut out = [9; 10];
-    assert!(rt; world.bytes(c, 4091, &mut out));
-    assert_eq!(rt; out, [0, 1, 2, 3, 4, 5, 6, 7, 8, 0]);
-    Ok(())
+    let are_there = world.bytes(c, 4091, &mut out);
+    Ok((before, world.used(), (are_there, out)))
+}
+
+/// A store over the border of two pages parts both, and its bytes are read back.
+fn stores_over_a_border<W: World>(alloc: Global) -> Result<Stored, Fail> {
+    let (mut world, c) = begun::<W>(alloc, 2)?;
+    store_over_a_border(&mut world, c)
+}
+
+/// Why two stores are refused, the frames in use after them, and the bytes where they were to be and before.
+type Refused = ([StoreFault; 2], u32, [(bool, [u8; 2]); 2]);
+
+/// Tries two stores that are refused.
+fn refuse_stores<W: World>(world: &mut W, c: Name) -> Result<Refused, Fail>
+    requires { IsBegun 1 (W.seen world.old) c }
+{
+    let large = refused(world, c, 4092, &[1, 2, 3, 4, 5, 6, 7, 8])?;
+    let absent = refused(world, c, 8191, &[1, 2])?;
+    let bytes = [two_bytes(world, c, 8191), two_bytes(world, c, 4095)];
+    Ok(([large, absent], world.used(), bytes))
 }
 
 /// A store that wants more frames than there are, or a page that is absent, changes nothing.
-fn refuses_stores<R: AllocGlobal + Abort, W: World>(rt: &R) -> Result<(), Fail> {
-    let (mut world, c) = begun::<R, W>(rt, 1)?;
-    assert_eq!(rt;
-        world.store(c, 4092, &[1, 2, 3, 4, 5, 6, 7, 8], 1),
-        Err(StoreFault::NoFrame)
-    );
-    assert_eq!(rt;
-        world.store(c, 8191, &[1, 2], 1),
-        Err(StoreFault::BadAddress)
-    );
-    assert_eq!(rt; world.used(), 0);
-    let mut out = [9; 2];
-    assert!(rt; !world.bytes(c, 8191, &mut out));
-    assert_eq!(rt; out, [9, 9]);
-    assert!(rt; world.bytes(c, 4095, &mut out));
-    assert_eq!(rt; out, [0, 0]);
-    Ok(())
+fn refuses_stores<W: World>(alloc: Global) -> Result<Refused, Fail> {
+    let (mut world, c) = begun::<W>(alloc, 1)?;
+    refuse_stores(&mut world, c)
+}
+
+/// Whether the context is the first of the world, and there is no second one.
+fn is_only<W: World>(world: &W, c: Name) -> bool {
+    world.nth_context(0) == Some(c) && world.nth_context(1) == None
+}
+
+/// The live contexts and groups of job 0, the live contexts, and the pages of a context.
+fn counts<W: World>(world: &W) -> (u32, u32, u32, u16) {
+    (
+        world.live_of(0),
+        world.groups_of(0),
+        world.context_count(),
+        world.pages(),
+    )
+}
+
+/// Where the context begins, its credential, whether its last slot is empty, and its summary.
+fn shown<W: World>(world: &W, c: Name) -> (u64, u32, bool, Summary)
+    requires { IsLive (W.seen world.now) c }
+{
+    let is_empty = matches!(world.slot(c, 63), Lent::Empty);
+    (world.entry(c).pc, world.uid(c), is_empty, world.summary(c))
 }
 
 /// What a new context has.
-fn shows_a_context<R: AllocGlobal + Abort, W: World>(rt: &R) -> Result<(), Fail> {
-    let (world, c) = begun::<R, W>(rt, 2)?;
-    assert_eq!(rt;
-        (world.nth_context(0), world.nth_context(1)),
-        (Some(c), None)
-    );
-    assert_eq!(rt;
-        (
-            world.live_of(0),
-            world.groups_of(0),
-            world.context_count(),
-            world.pages()
-        ),
-        (1, 0, 1, 4)
-    );
-    assert_eq!(rt; (world.entry(c).pc, world.uid(c)), (3, 7));
-    assert!(rt; matches!(world.slot(c, 63), Lent::Empty));
-    let summary = Summary {
-        pages: 2,
-        slots: 0,
-        uid: 7,
-    };
-    assert_eq!(rt; world.summary(c), summary);
-    Ok(())
+fn shows_a_context<W: World>(
+    alloc: Global,
+) -> Result<(bool, (u32, u32, u32, u16), (u64, u32, bool, Summary)), Fail> {
+    let (world, c) = begun::<W>(alloc, 2)?;
+    Ok((is_only(&world, c), counts(&world), shown(&world, c)))
+}
+
+/// The lowest empty slot before and after the console is put into slot 0, and whether it is there.
+#[tactic(auto, using(lwc_base::proofs::Facts::changes))]
+fn put_console<W: World>(world: &mut W, c: Name) -> ([Option<SlotNumber>; 2], bool)
+    requires { IsLive (W.seen world.old) c }
+    ensures { IsLive (W.seen world.new) c }
+{
+    let before = world.lowest_empty(c);
+    world.set_slot(c, 0, Lent::Console);
+    let after = world.lowest_empty(c);
+    ([before, after], matches!(world.slot(c, 0), Lent::Console))
+}
+
+/// The credential, and what is saved of threads 15 and 14, after both have been put for thread 15.
+#[tactic(auto, using(lwc_base::proofs::Facts::changes))]
+fn put_registers<W: World>(world: &mut W, c: Name) -> (u32, [Option<Regs>; 2])
+    requires { IsLive (W.seen world.old) c }
+{
+    world.set_uid(c, 9);
+    world.save(c, 15, &Regs::fresh(6));
+    (world.uid(c), [world.saved(c, 15), world.saved(c, 14)])
 }
 
 /// What is put into slots, into the credential and among the saved registers is there.
-#[tactic(auto, using(lwc_base::proofs::Facts::changes))]
-fn puts_values<R: AllocGlobal + Abort, W: World>(rt: &R) -> Result<(), Fail> {
-    let (mut world, c) = begun::<R, W>(rt, 2)?;
-    assert_eq!(rt; world.lowest_empty(c), Some(0));
-    world.set_slot(c, 0, Lent::Console);
-    assert!(rt; matches!(world.slot(c, 0), Lent::Console));
-    assert_eq!(rt; world.lowest_empty(c), Some(1));
-    world.set_uid(c, 9);
-    assert_eq!(rt; world.uid(c), 9);
-    world.save(c, 15, &Regs::fresh(6));
-    assert_eq!(rt;
-        (world.saved(c, 15), world.saved(c, 14)),
-        (Some(Regs::fresh(6)), None)
-    );
-    Ok(())
+fn puts_values<W: World>(
+    alloc: Global,
+) -> Result<(([Option<SlotNumber>; 2], bool), (u32, [Option<Regs>; 2])), Fail> {
+    let (mut world, c) = begun::<W>(alloc, 2)?;
+    Ok((put_console(&mut world, c), put_registers(&mut world, c)))
 }
 
-/// A descriptor that is in two slots stays in one when the other changes, with its keys.
+/// Puts a link to the context into slot 1, and from there into slot 1 and slot 5.
 #[tactic(auto, using(lwc_base::proofs::Facts::changes))]
-fn dups_a_descriptor<R: AllocGlobal + Abort, W: World>(rt: &R) -> Result<(), Fail> {
-    let (mut world, c) = begun::<R, W>(rt, 2)?;
-    let cap = far_page();
-    let keys = Grant::Of(&cap);
+fn dup_link<W: World>(world: &mut W, c: Name, cap: &Cap)
+    requires { IsLive (W.seen world.old) c }
+    ensures { IsLive (W.seen world.new) c }
+{
+    let keys = Grant::Of(cap);
     world.set_slot(c, 1, Lent::Ctx { name: c, keys });
     world.dup_slot(c, 1, 1);
     world.dup_slot(c, 1, 5);
-    let link = Descriptor::Ctx { name: c, cap };
-    assert!(rt; owned(world.slot(c, 1)) == link);
-    assert_eq!(rt; world.summary(c).slots, 2);
+}
+
+/// Whether a slot of the context has a link to it with these keys.
+fn is_link<W: World>(world: &W, c: Name, slot: SlotNumber, cap: &Cap) -> bool
+    requires live { IsLive (W.seen world.now) c }
+    requires within { slot ≤ 63 }
+{
+    owned(world.slot(c, slot)) == Descriptor::Ctx { name: c, cap: *cap }
+}
+
+/// Puts the console into slot 1: whether slot 5 has its link still, and whether the console is there.
+#[tactic(auto, using(lwc_base::proofs::Facts::changes))]
+fn change_one<W: World>(world: &mut W, c: Name, cap: &Cap) -> [bool; 2]
+    requires { IsLive (W.seen world.old) c }
+    ensures { IsLive (W.seen world.new) c }
+{
     world.set_slot(c, 1, Lent::Console);
-    assert!(rt; owned(world.slot(c, 5)) == link);
-    assert!(rt; matches!(world.slot(c, 1), Lent::Console));
+    let stays = is_link(world, c, 5, cap);
+    [stays, matches!(world.slot(c, 1), Lent::Console)]
+}
+
+/// Puts an empty slot into slot 5: whether slot 5 is empty then.
+#[tactic(auto, using(lwc_base::proofs::Facts::changes))]
+fn empty_other<W: World>(world: &mut W, c: Name) -> bool
+    requires { IsLive (W.seen world.old) c }
+{
     world.dup_slot(c, 0, 5);
-    assert!(rt; matches!(world.slot(c, 5), Lent::Empty));
-    Ok(())
+    matches!(world.slot(c, 5), Lent::Empty)
+}
+
+/// A descriptor that is in two slots stays in one when the other changes, with its keys.
+fn dups_a_descriptor<W: World>(alloc: Global) -> Result<(bool, u32, [bool; 2], bool), Fail> {
+    let (mut world, c) = begun::<W>(alloc, 2)?;
+    let cap = far_page();
+    dup_link(&mut world, c, &cap);
+    let is_first = is_link(&world, c, 1, &cap);
+    let slots = world.summary(c).slots;
+    let changed = change_one(&mut world, c, &cap);
+    Ok((is_first, slots, changed, empty_other(&mut world, c)))
 }
 
 /// The capability of page 1500 alone.
@@ -149,27 +224,40 @@ fn far_page() -> Cap {
     }
 }
 
-/// Pages are mapped and unmapped, and ranges are counted before.
-#[tactic(auto, using(lwc_base::proofs::Facts::changes))]
-fn maps_pages<R: AllocGlobal + Abort, W: World>(rt: &R) -> Result<(), Fail> {
-    let (mut world, c) = begun::<R, W>(rt, 2)?;
-    assert_eq!(rt;
+/// The ranges that the context would have with its fourth page, and without its first two.
+fn would_have<W: World>(world: &W, c: Name) -> [u32; 2]
+    requires { IsBegun 2 (W.seen world.now) c }
+{
+    [
         world.ranges_after_map(c, Range { from: 3, to: 4 }, true),
-        2
-    );
-    assert_eq!(rt;
         world.ranges_after_map(c, Range { from: 0, to: 2 }, false),
-        0
-    );
+    ]
+}
+
+/// The bytes over the end of the first page of four, and those behind it.
+fn bytes_at_end<W: World>(world: &W, c: Name) -> [(bool, [u8; 2]); 2]
+    requires live { IsLive (W.seen world.now) c }
+    requires pages { (W.seen world.now).size.pages ≡ 4 }
+{
+    [two_bytes(world, c, 4095), two_bytes(world, c, 4096)]
+}
+
+/// Unmaps the first page, which leaves one range: the bytes over its end, and those behind it.
+fn unmap_first<W: World>(world: &mut W, c: Name) -> Result<[(bool, [u8; 2]); 2], Fail>
+    requires { IsBegun 2 (W.seen world.old) c }
+{
     let first = Range { from: 0, to: 1 };
-    assert_eq!(rt; world.ranges_after_map(c, first, false), 1);
+    if world.ranges_after_map(c, first, false) != 1 {
+        return Err(Fail::new("the second page is no range"));
+    }
     world.unmap(c, first)?;
-    let mut out = [9; 2];
-    assert!(rt; !world.bytes(c, 4095, &mut out));
-    assert_eq!(rt; out, [9, 9]);
-    assert!(rt; world.bytes(c, 4096, &mut out));
-    assert_eq!(rt; out, [0, 0]);
-    Ok(())
+    Ok(bytes_at_end(world, c))
+}
+
+/// Pages are mapped and unmapped, and ranges are counted before.
+fn maps_pages<W: World>(alloc: Global) -> Result<([u32; 2], [(bool, [u8; 2]); 2]), Fail> {
+    let (mut world, c) = begun::<W>(alloc, 2)?;
+    Ok((would_have(&world, c), unmap_first(&mut world, c)?))
 }
 
 /// The specifier of one item, which gives the second page a mode.
@@ -186,114 +274,183 @@ fn second_page(mode: Mode) -> Spec
     spec
 }
 
-/// A clone that shares a page makes a group.
-fn clones_a_context<R: AllocGlobal + Abort, W: World>(rt: &R) -> Result<(), Fail> {
-    let (mut world, c) = begun::<R, W>(rt, 2)?;
-    let spec = second_page(Mode::Share);
-    let counts = world.ranges_after_clone(c, &spec);
-    assert!(rt; counts.0 == 2 && counts.1 == 2);
-    assert!(rt; world.needs_group(c, &spec));
+/// Clones the context with a mode for its second page, which leaves few ranges: whether it needs a group, and the
+/// name of the clone.
+#[tactic(auto, using(lwc_base::proofs::Facts::changes))]
+fn clone_with<W: World>(
+    world: &mut W,
+    c: Name,
+    mode: Mode,
+    ranges: (u32, u32),
+) -> Result<(bool, Name), Fail>
+    requires begun { IsBegun 2 (W.seen world.old) c }
+    requires few { (ranges.0 ≤ 64) × (ranges.1 ≤ 64) }
+    ensures old { OnOk result (IsLive (W.seen world.new) c) }
+    ensures made { IfOk result (λ r. IsLive (W.seen world.new) r.1) }
+    ensures may { OnOk result (MayName (W.seen world.new) 1) }
+    ensures size { OnOk result ((W.seen world.new).size ≡ (W.seen world.old).size) }
+{
+    let spec = second_page(mode);
+    if world.ranges_after_clone(c, &spec) != ranges {
+        return Err(Fail::new("other numbers of ranges"));
+    }
+    let needs_group = world.needs_group(c, &spec);
     let made = world.clone_context(c, &spec, 1, &Regs::fresh(5))?;
-    assert_eq!(rt; world.nth_context(1), Some(made));
-    assert_eq!(rt;
-        (world.live_of(1), world.groups_of(1), world.group_count()),
-        (1, 1, 1)
-    );
-    Ok(())
+    Ok((needs_group, made))
+}
+
+/// A clone that shares a page makes a group.
+fn clones_a_context<W: World>(alloc: Global) -> Result<(bool, bool, [u32; 3]), Fail> {
+    let (mut world, c) = begun::<W>(alloc, 2)?;
+    let (needs_group, made) = clone_with(&mut world, c, Mode::Share, (2, 2))?;
+    let is_second = world.nth_context(1) == Some(made);
+    let counts = [world.live_of(1), world.groups_of(1), world.group_count()];
+    Ok((needs_group, is_second, counts))
+}
+
+/// What a copy of the second page shows that may only be read: whether a group is needed, why stores over the borders
+/// of the page are refused, and the frames in use after those, and after a store where it was.
+type Copied = (bool, [StoreFault; 2], [u32; 2]);
+
+/// Stores over the borders of the second page of a context, where it may only be read, and into it in another one.
+fn store_to_both<W: World>(
+    world: &mut W,
+    c: Name,
+    made: Name,
+) -> Result<([StoreFault; 2], [u32; 2]), Fail>
+    requires old { IsLive (W.seen world.old) c }
+    requires made { IsLive (W.seen world.old) made }
+    requires may { MayName (W.seen world.old) 1 }
+    requires size { (W.seen world.old).size.pages ≡ 4 }
+{
+    let faults = [
+        refused(world, made, 4094, &[1, 2, 3, 4])?,
+        refused(world, made, 8191, &[1, 2])?,
+    ];
+    let before = world.used();
+    world.store(c, 4096, &[1], 1)?;
+    Ok((faults, [before, world.used()]))
 }
 
 /// A page that is copied read-only may be stored to where it was, and not in the copy. A store over it and a
 /// page that may be stored to changes neither.
-#[tactic(auto, using(lwc_base::proofs::Facts::changes))]
-fn copies_read_only<R: AllocGlobal + Abort, W: World>(rt: &R) -> Result<(), Fail> {
-    let (mut world, c) = begun::<R, W>(rt, 2)?;
-    let spec = second_page(Mode::CopyRead);
-    let counts = world.ranges_after_clone(c, &spec);
-    assert!(rt; counts.0 == 1 && counts.1 == 2);
-    assert!(rt; !world.needs_group(c, &spec));
-    let made = world.clone_context(c, &spec, 1, &Regs::fresh(5))?;
-    assert_eq!(rt;
-        world.store(made, 4094, &[1, 2, 3, 4], 1),
-        Err(StoreFault::ReadOnly)
-    );
-    assert_eq!(rt; world.used(), 0);
-    assert_eq!(rt;
-        world.store(made, 8191, &[1, 2], 1),
-        Err(StoreFault::BadAddress)
-    );
-    world.store(c, 4096, &[1], 1)?;
-    assert_eq!(rt; world.used(), 1);
-    Ok(())
+fn copies_read_only<W: World>(alloc: Global) -> Result<Copied, Fail> {
+    let (mut world, c) = begun::<W>(alloc, 2)?;
+    let (needs_group, made) = clone_with(&mut world, c, Mode::CopyRead, (1, 2))?;
+    let (faults, frames) = store_to_both(&mut world, c, made)?;
+    Ok((needs_group, faults, frames))
+}
+
+/// An overlay of the second page onto the context itself, which shares it: the live contexts, the groups, and the bytes
+/// of the page.
+fn overlay_itself<W: World>(world: &mut W, c: Name) -> Result<(u32, u32, (bool, [u8; 2])), Fail>
+    requires { IsBegun 2 (W.seen world.old) c }
+{
+    let spec = second_page(Mode::Share);
+    if world.ranges_after_overlay(c, c, &spec) != (2, 2) {
+        return Err(Fail::new("other numbers of ranges"));
+    }
+    world.overlay(c, c, &spec, 1)?;
+    let bytes = two_bytes(world, c, 4096);
+    Ok((world.context_count(), world.groups_of(1), bytes))
 }
 
 /// An overlay onto the context itself shares a page that stays.
-#[tactic(auto, using(lwc_base::proofs::Facts::changes))]
-fn overlays_itself<R: AllocGlobal + Abort, W: World>(rt: &R) -> Result<(), Fail> {
-    let (mut world, c) = begun::<R, W>(rt, 2)?;
-    let spec = second_page(Mode::Share);
-    let counts = world.ranges_after_overlay(c, c, &spec);
-    assert!(rt; counts.0 == 2 && counts.1 == 2);
-    world.overlay(c, c, &spec, 1)?;
-    assert_eq!(rt; (world.context_count(), world.groups_of(1)), (1, 1));
-    let mut out = [9; 2];
-    assert!(rt; world.bytes(c, 4096, &mut out));
-    assert_eq!(rt; out, [0, 0]);
-    Ok(())
+fn overlays_itself<W: World>(alloc: Global) -> Result<(u32, u32, (bool, [u8; 2])), Fail> {
+    let (mut world, c) = begun::<W>(alloc, 2)?;
+    overlay_itself(&mut world, c)
 }
 
-/// A context that only its own slot names is dropped once it is no root.
+/// Whether the context is the only one where it is the one root, and how many there are where there is none.
 #[tactic(auto, using(lwc_base::proofs::Facts::changes))]
-fn reaps_a_context<R: AllocGlobal + Abort, W: World>(rt: &R) -> Result<(), Fail> {
-    let (mut world, c) = begun::<R, W>(rt, 2)?;
+fn reap<W: World>(world: &mut W, c: Name) -> (u32, bool, u32)
+    requires { IsLive (W.seen world.old) c }
+{
     let keys = Grant::None;
     world.set_slot(c, 2, Lent::Ctx { name: c, keys });
     world.reap(&[c]);
-    assert_eq!(rt; (world.context_count(), world.nth_context(0)), (1, Some(c)));
+    let kept = world.context_count();
+    let is_first = world.nth_context(0) == Some(c);
     world.reap(&[]);
-    assert_eq!(rt; world.context_count(), 0);
-    Ok(())
+    (kept, is_first, world.context_count())
+}
+
+/// A context that only its own slot names is dropped once it is no root.
+fn reaps_a_context<W: World>(alloc: Global) -> Result<(u32, bool, u32), Fail> {
+    let (mut world, c) = begun::<W>(alloc, 2)?;
+    Ok(reap(&mut world, c))
 }
 
 #[test]
 fn bytes_are_stored_and_loaded(rt: HostRuntime) -> Result<(), Fail> {
-    stores_over_a_border::<HostRuntime, WholeWorld>(&rt)?;
-    stores_over_a_border::<HostRuntime, LazyWorld>(&rt)?;
-    refuses_stores::<HostRuntime, WholeWorld>(&rt)?;
-    refuses_stores::<HostRuntime, LazyWorld>(&rt)
+    let stored = (0, 2, (true, [0, 1, 2, 3, 4, 5, 6, 7, 8, 0]));
+    assert!(rt; stores_over_a_border::<WholeWorld>(rt.alloc())? == stored);
+    assert!(rt; stores_over_a_border::<LazyWorld>(rt.alloc())? == stored);
+    let faults = [StoreFault::NoFrame, StoreFault::BadAddress];
+    let refused = (faults, 0, [(false, [9, 9]), (true, [0, 0])]);
+    assert!(rt; refuses_stores::<WholeWorld>(rt.alloc())? == refused);
+    assert!(rt; refuses_stores::<LazyWorld>(rt.alloc())? == refused);
+    Ok(())
 }
 
 #[test]
 fn a_context_shows_what_it_has(rt: HostRuntime) -> Result<(), Fail> {
-    shows_a_context::<HostRuntime, WholeWorld>(&rt)?;
-    shows_a_context::<HostRuntime, LazyWorld>(&rt)?;
-    puts_values::<HostRuntime, WholeWorld>(&rt)?;
-    puts_values::<HostRuntime, LazyWorld>(&rt)?;
-    dups_a_descriptor::<HostRuntime, WholeWorld>(&rt)?;
-    dups_a_descriptor::<HostRuntime, LazyWorld>(&rt)
+    let summary = Summary {
+        pages: 2,
+        slots: 0,
+        uid: 7,
+    };
+    let shown = (true, (1, 0, 1, 4), (3, 7, true, summary));
+    assert!(rt; shows_a_context::<WholeWorld>(rt.alloc())? == shown);
+    assert!(rt; shows_a_context::<LazyWorld>(rt.alloc())? == shown);
+    Ok(())
+}
+
+#[test]
+fn what_is_put_into_a_context_is_there(rt: HostRuntime) -> Result<(), Fail> {
+    let put = (
+        ([Some(0), Some(1)], true),
+        (9, [Some(Regs::fresh(6)), None]),
+    );
+    assert!(rt; puts_values::<WholeWorld>(rt.alloc())? == put);
+    assert!(rt; puts_values::<LazyWorld>(rt.alloc())? == put);
+    let dupped = (true, 2, [true; 2], true);
+    assert!(rt; dups_a_descriptor::<WholeWorld>(rt.alloc())? == dupped);
+    assert!(rt; dups_a_descriptor::<LazyWorld>(rt.alloc())? == dupped);
+    Ok(())
 }
 
 #[test]
 fn pages_are_mapped_and_unmapped(rt: HostRuntime) -> Result<(), Fail> {
-    maps_pages::<HostRuntime, WholeWorld>(&rt)?;
-    maps_pages::<HostRuntime, LazyWorld>(&rt)
+    let mapped = ([2, 0], [(false, [9, 9]), (true, [0, 0])]);
+    assert!(rt; maps_pages::<WholeWorld>(rt.alloc())? == mapped);
+    assert!(rt; maps_pages::<LazyWorld>(rt.alloc())? == mapped);
+    Ok(())
 }
 
 #[test]
 fn values_are_shared(rt: HostRuntime) -> Result<(), Fail> {
-    clones_a_context::<HostRuntime, WholeWorld>(&rt)?;
-    clones_a_context::<HostRuntime, LazyWorld>(&rt)?;
-    overlays_itself::<HostRuntime, WholeWorld>(&rt)?;
-    overlays_itself::<HostRuntime, LazyWorld>(&rt)
+    let cloned = (true, true, [1; 3]);
+    assert!(rt; clones_a_context::<WholeWorld>(rt.alloc())? == cloned);
+    assert!(rt; clones_a_context::<LazyWorld>(rt.alloc())? == cloned);
+    let overlaid = (1, 1, (true, [0, 0]));
+    assert!(rt; overlays_itself::<WholeWorld>(rt.alloc())? == overlaid);
+    assert!(rt; overlays_itself::<LazyWorld>(rt.alloc())? == overlaid);
+    Ok(())
 }
 
 #[test]
 fn pages_are_copied_read_only(rt: HostRuntime) -> Result<(), Fail> {
-    copies_read_only::<HostRuntime, WholeWorld>(&rt)?;
-    copies_read_only::<HostRuntime, LazyWorld>(&rt)
+    let faults = [StoreFault::ReadOnly, StoreFault::BadAddress];
+    let copied = (false, faults, [0, 1]);
+    assert!(rt; copies_read_only::<WholeWorld>(rt.alloc())? == copied);
+    assert!(rt; copies_read_only::<LazyWorld>(rt.alloc())? == copied);
+    Ok(())
 }
 
 #[test]
 fn what_nothing_reaches_is_dropped(rt: HostRuntime) -> Result<(), Fail> {
-    reaps_a_context::<HostRuntime, WholeWorld>(&rt)?;
-    reaps_a_context::<HostRuntime, LazyWorld>(&rt)
+    assert!(rt; reaps_a_context::<WholeWorld>(rt.alloc())? == (1, true, 0));
+    assert!(rt; reaps_a_context::<LazyWorld>(rt.alloc())? == (1, true, 0));
+    Ok(())
 }

@@ -28,9 +28,6 @@ ranges_after_map-requires-clause-live g c = live-made _ _ _ _ _ _ 0 2 c.in_ok-wo
 pub map-requires-clause-live : goal.map-requires-clause-live
 map-requires-clause-live g c = live-made _ _ _ _ _ _ 0 2 c.in_ok-world.ensures.opened c.in_ok-c.ensures.made c.in_ok-c.ensures.name refl
 
-pub returns-clause-live : goal.returns-clause-live
-returns-clause-live g c = live-begun _ _ _ _ _ _ 0 2 c.in_ok-world.ensures.opened c.in_ok-c.ensures.made c.in_ok-c.ensures.name c.in_ok-map.ensures.mapped
-
 pub ranges_after_map-requires-clause-within : goal.ranges_after_map-requires-clause-within
 ranges_after_map-requires-clause-within g c =
     let many = ap (λ (s : WorldSize). s.pages) (size-made _ _ _ _ _ _ 0 2 c.in_ok-world.ensures.opened c.in_ok-c.ensures.made c.in_ok-c.ensures.name refl) in
@@ -41,18 +38,14 @@ map-requires-clause-within g c =
     let many = ap (λ (s : WorldSize). s.pages) (size-made _ _ _ _ _ _ 0 2 c.in_ok-world.ensures.opened c.in_ok-c.ensures.made c.in_ok-c.ensures.name refl) in
     omega (arith, many)
 
-pub returns-clause-size : goal.returns-clause-size
-returns-clause-size g c = size-begun _ _ _ _ _ _ 0 2 c.in_ok-world.ensures.opened c.in_ok-c.ensures.made c.in_ok-c.ensures.name c.in_ok-map.ensures.mapped
-
-pub returns-clause-next : goal.returns-clause-next
-returns-clause-next g c = next-begun _ _ _ _ _ _ 0 2 c.in_ok-world.ensures.opened c.in_ok-c.ensures.made c.in_ok-c.ensures.name c.in_ok-map.ensures.mapped
-
-pub returns-clause-place : goal.returns-clause-place
-returns-clause-place g c =
+pub returns : goal.returns
+returns g c =
+    let size = size-begun _ _ _ _ _ _ 0 2 c.in_ok-world.ensures.opened c.in_ok-c.ensures.made c.in_ok-c.ensures.name c.in_ok-map.ensures.mapped in
     let one = one-begun _ _ _ _ _ _ 0 2 c.in_ok-world.ensures.opened c.in_ok-c.ensures.made c.in_ok-c.ensures.name c.in_ok-map.ensures.mapped in
-    omega (arith, one, ap (λ (s : WorldSize). s.contexts) (size-begun _ _ _ _ _ _ 0 2 c.in_ok-world.ensures.opened c.in_ok-c.ensures.made c.in_ok-c.ensures.name c.in_ok-map.ensures.mapped))
-
-pub returns-clause-group_place : goal.returns-clause-group_place
-returns-clause-group_place g c =
-    let none = no_group-begun _ _ _ _ _ _ 0 2 c.in_ok-world.ensures.opened c.in_ok-c.ensures.made c.in_ok-c.ensures.name c.in_ok-map.ensures.mapped in
-    omega (arith, none, ap (λ (s : WorldSize). s.groups) (size-begun _ _ _ _ _ _ 0 2 c.in_ok-world.ensures.opened c.in_ok-c.ensures.made c.in_ok-c.ensures.name c.in_ok-map.ensures.mapped))
+    let none = no_group-begun _ _ _ _ _ _ 0 2 c.in_ok-world.ensures.opened c.in_ok-c.ensures.made c.in_ok-c.ensures.name c.in_ok-map.ensures.mapped in record {
+      live = live-begun _ _ _ _ _ _ 0 2 c.in_ok-world.ensures.opened c.in_ok-c.ensures.made c.in_ok-c.ensures.name c.in_ok-map.ensures.mapped;
+      size = size;
+      place = omega (arith, one, ap (λ (s : WorldSize). s.contexts) size);
+      group_place = omega (arith, none, ap (λ (s : WorldSize). s.groups) size);
+      next = next-begun _ _ _ _ _ _ 0 2 c.in_ok-world.ensures.opened c.in_ok-c.ensures.made c.in_ok-c.ensures.name c.in_ok-map.ensures.mapped;
+    }
