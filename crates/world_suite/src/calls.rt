@@ -77,9 +77,11 @@ fn store_over_a_border<W: World>(world: &mut W, c: Name) -> Result<Stored, Fail>
 }
 
 /// A store over the border of two pages parts both, and its bytes are read back.
-fn stores_over_a_border<W: World>(alloc: Global) -> Result<Stored, Fail> {
+fn stores_over_a_border<W: World>(alloc: Global) -> Result<bool, Fail> {
     let (mut world, c) = begun::<W>(alloc, 2)?;
-    store_over_a_border(&mut world, c)
+    let left = store_over_a_border(&mut world, c);
+    drop(world);
+    Ok(left? == (0, 2, (true, [0, 1, 2, 3, 4, 5, 6, 7, 8, 0])))
 }
 
 /// Why two stores are refused, the frames in use after them, and the bytes where they were to be and before.
@@ -96,9 +98,12 @@ fn refuse_stores<W: World>(world: &mut W, c: Name) -> Result<Refused, Fail>
 }
 
 /// A store that wants more frames than there are, or a page that is absent, changes nothing.
-fn refuses_stores<W: World>(alloc: Global) -> Result<Refused, Fail> {
+fn refuses_stores<W: World>(alloc: Global) -> Result<bool, Fail> {
     let (mut world, c) = begun::<W>(alloc, 1)?;
-    refuse_stores(&mut world, c)
+    let left = refuse_stores(&mut world, c);
+    drop(world);
+    let faults = [StoreFault::NoFrame, StoreFault::BadAddress];
+    Ok(left? == (faults, 0, [(false, [9, 9]), (true, [0, 0])]))
 }
 
 /// Whether the context is the first of the world, and there is no second one.
@@ -125,11 +130,18 @@ fn shown<W: World>(world: &W, c: Name) -> (u64, u32, bool, Summary)
 }
 
 /// What a new context has.
-fn shows_a_context<W: World>(
-    alloc: Global,
-) -> Result<(bool, (u32, u32, u32, u16), (u64, u32, bool, Summary)), Fail> {
+fn shows_a_context<W: World>(alloc: Global) -> Result<bool, Fail> {
     let (world, c) = begun::<W>(alloc, 2)?;
-    Ok((is_only(&world, c), counts(&world), shown(&world, c)))
+    let is_only = is_only(&world, c);
+    let counts = counts(&world);
+    let shown = shown(&world, c);
+    drop(world);
+    let summary = Summary {
+        pages: 2,
+        slots: 0,
+        uid: 7,
+    };
+    Ok(is_only && counts == (1, 0, 1, 4) && shown == (3, 7, true, summary))
 }
 
 /// The lowest empty slot before and after the console is put into slot 0, and whether it is there.
@@ -155,11 +167,13 @@ fn put_registers<W: World>(world: &mut W, c: Name) -> (u32, [Option<Regs>; 2])
 }
 
 /// What is put into slots, into the credential and among the saved registers is there.
-fn puts_values<W: World>(
-    alloc: Global,
-) -> Result<(([Option<SlotNumber>; 2], bool), (u32, [Option<Regs>; 2])), Fail> {
+fn puts_values<W: World>(alloc: Global) -> Result<bool, Fail> {
     let (mut world, c) = begun::<W>(alloc, 2)?;
-    Ok((put_console(&mut world, c), put_registers(&mut world, c)))
+    let slots = put_console(&mut world, c);
+    let registers = put_registers(&mut world, c);
+    drop(world);
+    let saved = [Some(Regs::fresh(6)), None];
+    Ok(slots == ([Some(0), Some(1)], true) && registers == (9, saved))
 }
 
 /// Puts a link to the context into slot 1, and from there into slot 1 and slot 5.
@@ -202,15 +216,25 @@ fn empty_other<W: World>(world: &mut W, c: Name) -> bool
     matches!(world.slot(c, 5), Lent::Empty)
 }
 
-/// A descriptor that is in two slots stays in one when the other changes, with its keys.
-fn dups_a_descriptor<W: World>(alloc: Global) -> Result<(bool, u32, [bool; 2], bool), Fail> {
-    let (mut world, c) = begun::<W>(alloc, 2)?;
+/// Puts a descriptor into two slots and changes both: whether it was in the first, how many slots were in use, whether
+/// it stayed in the second one and the first changed, and whether the second one is empty at the end.
+fn dup_slots<W: World>(world: &mut W, c: Name) -> (bool, u32, [bool; 2], bool)
+    requires { IsLive (W.seen world.old) c }
+{
     let cap = far_page();
-    dup_link(&mut world, c, &cap);
-    let is_first = is_link(&world, c, 1, &cap);
+    dup_link(world, c, &cap);
+    let is_first = is_link(world, c, 1, &cap);
     let slots = world.summary(c).slots;
-    let changed = change_one(&mut world, c, &cap);
-    Ok((is_first, slots, changed, empty_other(&mut world, c)))
+    let changed = change_one(world, c, &cap);
+    (is_first, slots, changed, empty_other(world, c))
+}
+
+/// A descriptor that is in two slots stays in one when the other changes, with its keys.
+fn dups_a_descriptor<W: World>(alloc: Global) -> Result<bool, Fail> {
+    let (mut world, c) = begun::<W>(alloc, 2)?;
+    let left = dup_slots(&mut world, c);
+    drop(world);
+    Ok(left == (true, 2, [true; 2], true))
 }
 
 /// The capability of page 1500 alone.
@@ -255,9 +279,12 @@ fn unmap_first<W: World>(world: &mut W, c: Name) -> Result<[(bool, [u8; 2]); 2],
 }
 
 /// Pages are mapped and unmapped, and ranges are counted before.
-fn maps_pages<W: World>(alloc: Global) -> Result<([u32; 2], [(bool, [u8; 2]); 2]), Fail> {
+fn maps_pages<W: World>(alloc: Global) -> Result<bool, Fail> {
     let (mut world, c) = begun::<W>(alloc, 2)?;
-    Ok((would_have(&world, c), unmap_first(&mut world, c)?))
+    let ranges = would_have(&world, c);
+    let bytes = unmap_first(&mut world, c);
+    drop(world);
+    Ok(bytes? == [(false, [9, 9]), (true, [0, 0])] && ranges == [2, 0])
 }
 
 /// The specifier of one item, which gives the second page a mode.
@@ -299,13 +326,23 @@ fn clone_with<W: World>(
     Ok((needs_group, made))
 }
 
-/// A clone that shares a page makes a group.
-fn clones_a_context<W: World>(alloc: Global) -> Result<(bool, bool, [u32; 3]), Fail> {
-    let (mut world, c) = begun::<W>(alloc, 2)?;
-    let (needs_group, made) = clone_with(&mut world, c, Mode::Share, (2, 2))?;
+/// Clones the context and shares its second page: whether it needs a group, whether the clone is the second context,
+/// the clones and the groups of job 1, and all groups.
+fn clone_sharing<W: World>(world: &mut W, c: Name) -> Result<(bool, bool, [u32; 3]), Fail>
+    requires { IsBegun 2 (W.seen world.old) c }
+{
+    let (needs_group, made) = clone_with(world, c, Mode::Share, (2, 2))?;
     let is_second = world.nth_context(1) == Some(made);
     let counts = [world.live_of(1), world.groups_of(1), world.group_count()];
     Ok((needs_group, is_second, counts))
+}
+
+/// A clone that shares a page makes a group.
+fn clones_a_context<W: World>(alloc: Global) -> Result<bool, Fail> {
+    let (mut world, c) = begun::<W>(alloc, 2)?;
+    let left = clone_sharing(&mut world, c);
+    drop(world);
+    Ok(left? == (true, true, [1; 3]))
 }
 
 /// What a copy of the second page shows that may only be read: whether a group is needed, why stores over the borders
@@ -332,13 +369,23 @@ fn store_to_both<W: World>(
     Ok((faults, [before, world.used()]))
 }
 
+/// Clones the context, where its second page may only be read in the clone, and stores to both.
+fn copy_read_only<W: World>(world: &mut W, c: Name) -> Result<Copied, Fail>
+    requires { IsBegun 2 (W.seen world.old) c }
+{
+    let (needs_group, made) = clone_with(world, c, Mode::CopyRead, (1, 2))?;
+    let (faults, frames) = store_to_both(world, c, made)?;
+    Ok((needs_group, faults, frames))
+}
+
 /// A page that is copied read-only may be stored to where it was, and not in the copy. A store over it and a
 /// page that may be stored to changes neither.
-fn copies_read_only<W: World>(alloc: Global) -> Result<Copied, Fail> {
+fn copies_read_only<W: World>(alloc: Global) -> Result<bool, Fail> {
     let (mut world, c) = begun::<W>(alloc, 2)?;
-    let (needs_group, made) = clone_with(&mut world, c, Mode::CopyRead, (1, 2))?;
-    let (faults, frames) = store_to_both(&mut world, c, made)?;
-    Ok((needs_group, faults, frames))
+    let left = copy_read_only(&mut world, c);
+    drop(world);
+    let faults = [StoreFault::ReadOnly, StoreFault::BadAddress];
+    Ok(left? == (false, faults, [0, 1]))
 }
 
 /// An overlay of the second page onto the context itself, which shares it: the live contexts, the groups, and the bytes
@@ -356,9 +403,11 @@ fn overlay_itself<W: World>(world: &mut W, c: Name) -> Result<(u32, u32, (bool, 
 }
 
 /// An overlay onto the context itself shares a page that stays.
-fn overlays_itself<W: World>(alloc: Global) -> Result<(u32, u32, (bool, [u8; 2])), Fail> {
+fn overlays_itself<W: World>(alloc: Global) -> Result<bool, Fail> {
     let (mut world, c) = begun::<W>(alloc, 2)?;
-    overlay_itself(&mut world, c)
+    let left = overlay_itself(&mut world, c);
+    drop(world);
+    Ok(left? == (1, 1, (true, [0, 0])))
 }
 
 /// Whether the context is the only one where it is the one root, and how many there are where there is none.
@@ -376,81 +425,59 @@ fn reap<W: World>(world: &mut W, c: Name) -> (u32, bool, u32)
 }
 
 /// A context that only its own slot names is dropped once it is no root.
-fn reaps_a_context<W: World>(alloc: Global) -> Result<(u32, bool, u32), Fail> {
+fn reaps_a_context<W: World>(alloc: Global) -> Result<bool, Fail> {
     let (mut world, c) = begun::<W>(alloc, 2)?;
-    Ok(reap(&mut world, c))
+    let left = reap(&mut world, c);
+    drop(world);
+    Ok(left == (1, true, 0))
 }
 
 #[test]
 fn bytes_are_stored_and_loaded(rt: HostRuntime) -> Result<(), Fail> {
-    let stored = (0, 2, (true, [0, 1, 2, 3, 4, 5, 6, 7, 8, 0]));
-    assert!(rt; stores_over_a_border::<WholeWorld>(rt.alloc())? == stored);
-    assert!(rt; stores_over_a_border::<LazyWorld>(rt.alloc())? == stored);
-    let faults = [StoreFault::NoFrame, StoreFault::BadAddress];
-    let refused = (faults, 0, [(false, [9, 9]), (true, [0, 0])]);
-    assert!(rt; refuses_stores::<WholeWorld>(rt.alloc())? == refused);
-    assert!(rt; refuses_stores::<LazyWorld>(rt.alloc())? == refused);
+    assert!(rt; stores_over_a_border::<WholeWorld>(rt.alloc())?);
+    assert!(rt; stores_over_a_border::<LazyWorld>(rt.alloc())?);
+    assert!(rt; refuses_stores::<WholeWorld>(rt.alloc())?);
+    assert!(rt; refuses_stores::<LazyWorld>(rt.alloc())?);
     Ok(())
 }
 
 #[test]
 fn a_context_shows_what_it_has(rt: HostRuntime) -> Result<(), Fail> {
-    let summary = Summary {
-        pages: 2,
-        slots: 0,
-        uid: 7,
-    };
-    let shown = (true, (1, 0, 1, 4), (3, 7, true, summary));
-    assert!(rt; shows_a_context::<WholeWorld>(rt.alloc())? == shown);
-    assert!(rt; shows_a_context::<LazyWorld>(rt.alloc())? == shown);
-    Ok(())
-}
-
-#[test]
-fn what_is_put_into_a_context_is_there(rt: HostRuntime) -> Result<(), Fail> {
-    let put = (
-        ([Some(0), Some(1)], true),
-        (9, [Some(Regs::fresh(6)), None]),
-    );
-    assert!(rt; puts_values::<WholeWorld>(rt.alloc())? == put);
-    assert!(rt; puts_values::<LazyWorld>(rt.alloc())? == put);
-    let dupped = (true, 2, [true; 2], true);
-    assert!(rt; dups_a_descriptor::<WholeWorld>(rt.alloc())? == dupped);
-    assert!(rt; dups_a_descriptor::<LazyWorld>(rt.alloc())? == dupped);
+    assert!(rt; shows_a_context::<WholeWorld>(rt.alloc())?);
+    assert!(rt; shows_a_context::<LazyWorld>(rt.alloc())?);
+    assert!(rt; puts_values::<WholeWorld>(rt.alloc())?);
+    assert!(rt; puts_values::<LazyWorld>(rt.alloc())?);
+    assert!(rt; dups_a_descriptor::<WholeWorld>(rt.alloc())?);
+    assert!(rt; dups_a_descriptor::<LazyWorld>(rt.alloc())?);
     Ok(())
 }
 
 #[test]
 fn pages_are_mapped_and_unmapped(rt: HostRuntime) -> Result<(), Fail> {
-    let mapped = ([2, 0], [(false, [9, 9]), (true, [0, 0])]);
-    assert!(rt; maps_pages::<WholeWorld>(rt.alloc())? == mapped);
-    assert!(rt; maps_pages::<LazyWorld>(rt.alloc())? == mapped);
+    assert!(rt; maps_pages::<WholeWorld>(rt.alloc())?);
+    assert!(rt; maps_pages::<LazyWorld>(rt.alloc())?);
     Ok(())
 }
 
 #[test]
 fn values_are_shared(rt: HostRuntime) -> Result<(), Fail> {
-    let cloned = (true, true, [1; 3]);
-    assert!(rt; clones_a_context::<WholeWorld>(rt.alloc())? == cloned);
-    assert!(rt; clones_a_context::<LazyWorld>(rt.alloc())? == cloned);
-    let overlaid = (1, 1, (true, [0, 0]));
-    assert!(rt; overlays_itself::<WholeWorld>(rt.alloc())? == overlaid);
-    assert!(rt; overlays_itself::<LazyWorld>(rt.alloc())? == overlaid);
+    assert!(rt; clones_a_context::<WholeWorld>(rt.alloc())?);
+    assert!(rt; clones_a_context::<LazyWorld>(rt.alloc())?);
+    assert!(rt; overlays_itself::<WholeWorld>(rt.alloc())?);
+    assert!(rt; overlays_itself::<LazyWorld>(rt.alloc())?);
     Ok(())
 }
 
 #[test]
 fn pages_are_copied_read_only(rt: HostRuntime) -> Result<(), Fail> {
-    let faults = [StoreFault::ReadOnly, StoreFault::BadAddress];
-    let copied = (false, faults, [0, 1]);
-    assert!(rt; copies_read_only::<WholeWorld>(rt.alloc())? == copied);
-    assert!(rt; copies_read_only::<LazyWorld>(rt.alloc())? == copied);
+    assert!(rt; copies_read_only::<WholeWorld>(rt.alloc())?);
+    assert!(rt; copies_read_only::<LazyWorld>(rt.alloc())?);
     Ok(())
 }
 
 #[test]
 fn what_nothing_reaches_is_dropped(rt: HostRuntime) -> Result<(), Fail> {
-    assert!(rt; reaps_a_context::<WholeWorld>(rt.alloc())? == (1, true, 0));
-    assert!(rt; reaps_a_context::<LazyWorld>(rt.alloc())? == (1, true, 0));
+    assert!(rt; reaps_a_context::<WholeWorld>(rt.alloc())?);
+    assert!(rt; reaps_a_context::<LazyWorld>(rt.alloc())?);
     Ok(())
 }
