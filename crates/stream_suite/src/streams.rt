@@ -58,7 +58,7 @@ const TWO_REPLIES: &[u8] = b"reply 0 done 0 01\nreply 1 done 0 01\n";
 
 /// What a stream left.
 #[derive(Clone, Copy, PartialEq, Eq)]
-struct Written {
+struct Left {
     /// Whether the stream says that a write failed.
     failed: bool,
     /// How many writes of the sink failed.
@@ -68,7 +68,7 @@ struct Written {
 }
 
 /// What is left where all lines were written.
-const WHOLE: Written = Written {
+const WHOLE: Left = Left {
     failed: false,
     faults: 0,
     is_whole: true,
@@ -82,13 +82,13 @@ fn written<R: AllocGlobal + Abort + Threads + Wait + Sync, G: Gate<Log = VisitLo
     gate: &G,
     out: &mut MemorySink,
     lines: &[u8],
-) -> Result<Written, Fail>
+) -> Result<Left, Fail>
     requires leave { G.leave gate.now }
     requires few { length bytes.now ≤ 8 }
     requires workers { (1 ≤ workers) × (workers ≤ 4) }
 {
     let failed = stream(rt, bytes, workers, gate, out)?;
-    Ok(Written {
+    Ok(Left {
         failed,
         faults: out.fault_count(),
         is_whole: out.bytes() == lines,
@@ -113,7 +113,7 @@ fn written_while_held<R: AllocGlobal + Abort + Threads + Wait + Sync>(
     rt: &R,
     workers: u32,
     free: u32,
-) -> Result<(Written, bool), Fail>
+) -> Result<(Left, bool), Fail>
     requires { (1 ≤ workers) × (workers ≤ 4) }
 {
     let gate = LineGate::new(free);
@@ -122,7 +122,7 @@ fn written_while_held<R: AllocGlobal + Abort + Threads + Wait + Sync>(
         lines: &gate.lines,
     };
     let failed = stream(rt, &[0, 0], workers, &gate, &mut out)?;
-    let left = Written {
+    let left = Left {
         failed,
         faults: out.sink.fault_count(),
         is_whole: out.sink.bytes() == TWO_REPLIES,
@@ -161,7 +161,7 @@ fn after_a_failed_write_no_more_is_written(rt: HostRuntime) -> Result<(), Fail> 
     let mut out = sink(rt.alloc(), 100, &[1])?;
     let line = b"reply 0 done 0 01\n";
     let left = written(&rt, &[0, 0, 0], 2, &OpenGate, &mut out, line)?;
-    let cut = Written {
+    let cut = Left {
         failed: true,
         faults: 1,
         is_whole: true,
