@@ -77,6 +77,8 @@ fn history_of_two<R: AllocGlobal + Abort + Wait>(
 ) -> Result<((u64, [Left; 4]), bool), Fail> {
     let (process, mut passes) = Process::open(rt.alloc(), run_of_two(rt)?)?;
     let turns = turns_of_both(rt, &process, &mut passes);
+    // Not as they were opened: `close` takes them in any order.
+    passes.reverse();
     let kernel = process.close(passes);
     let is_kept = has_kept(&kernel, steps);
     drop(kernel);

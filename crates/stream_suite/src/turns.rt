@@ -1,9 +1,9 @@
 //! The turns that a lock gives to its passes.
 
 ghost use Rattle.std.specs.Prelude.{◌≡◌, ◌+◌, ◌*◌, ◌<◌, ◌≤◌, ◌^◌, ◌++◌, ℕ, [], ◌∷◌, length, sum, IfOk, Some};
-ghost use Rattle.std.specs.Prelude.{slice_get, All, Contains, vec_len, vec_capacity, slice_index, replicate};
+ghost use Rattle.std.specs.Prelude.{slice_get, All, vec_len, vec_capacity, slice_index};
 ghost use Rattle.turnstile.specs.Past.{times};
-ghost use Rattle.turnstile.specs.Passes.{Held, IsPassOf, IsNewPass, AreAllOf};
+ghost use Rattle.turnstile.specs.Passes.{IsPassOf, IsNewPass, AreAllOf};
 
 use std::alloc::{AllocError, Global};
 use std::sync::Wait;
@@ -89,7 +89,7 @@ fn take_turns<R: Wait>(
     pass
 }
 
-/// The turns passed on, in a function that has no means to wait.
+/// The number of turns so far, asked in a function that has no means to wait.
 fn turns_so_far(gate: &Turnstile<Log>, pass: &mut Pass<Log>) -> u64
     requires { IsPassOf gate.now pass.old }
     ensures ours { IsPassOf gate.now pass.new }
@@ -242,7 +242,7 @@ fn a_thread_that_waits_long_is_woken(rt: HostRuntime) -> Result<(), Fail> {
     Ok(())
 }
 
-/// Each pass takes one turn, and looks before and after it.
+/// Each pass takes one turn, and then asks how many turns there were. Returns the sum of the answers.
 fn one_turn_each<R: Wait>(rt: &R, gate: &Turnstile<Log>, passes: &mut Passes<Log>) -> u64
     requires all { AreAllOf gate.now passes.old.items }
     requires new { All (λ p. (p.seen ≡ []) × (p.number < gate.now.name)) passes.old.items }
