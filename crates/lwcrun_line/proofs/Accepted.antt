@@ -10,7 +10,7 @@ use Rattle.kernel_core.specs.declared.settings.Job.TheVariants as jobs
 use Rattle.kernel_core.specs.declared.settings.Settings.{Settings}
 use Rattle.lwc_base.specs.declared.limits.TheConstants.{MOST_BUDGET, MOST_FRAMES, MOST_THREADS}
 use Rattle.lwcrun_line.specs.Arguments.{Arguments, arguments_of}
-use Rattle.lwcrun_line.specs.Lines.{AreRunSettings, AreServeSettings, Command, IsWithinLimits, asked_in, budget_of, command_of, debug_of, frames_of, gen_of, monitor_of, number_or, only_word, replay_with, run_of, serve_of, serve_settings_of, settings_for, settings_of, stream_of, two_words, vault_of, workers_of}
+use Rattle.lwcrun_line.specs.Lines.{AreRunSettings, AreServeSettings, Command, IsWithinLimits, asked_in, budget_of, command_of, debug_of, frames_of, gen_of, monitor_of, number_or, only_word, replay_with, run_of, run_settings_of, serve_of, serve_settings_of, settings_for, settings_of, stream_of, two_words, vault_of, workers_of}
 use Rattle.lwcrun_line.specs.Lines as commands
 use Rattle.lwc_text.specs.Numbers.{number_of}
 use Rattle.lwcrun_line.specs.Numbers.{kept_within, number_within}
@@ -56,8 +56,10 @@ settings_within job a settings is e =
     let made : IsSettings (settings_for job frames budget.0) = record { frames = frames_in; budget = budget_in; job = is } in
     (subst IsSettings budget.2 made, sym (ap (λ (s : Settings). s.job) budget.2)))
 
-run_within : (a : Arguments) (settings : Settings) → settings_of jobs.Run a ≡ Some settings → AreRunSettings settings
-run_within a settings e = let h = settings_within jobs.Run a settings tt e in record { limits = h.0; job = h.1 }
+run_within : (a : Arguments) (settings : Settings) → run_settings_of a ≡ Some settings → AreRunSettings settings
+run_within a settings e =
+    by_branch (is_some a.workers) None _ settings (not_none settings) (λ rest.
+    let h = settings_within jobs.Run a settings tt rest in record { limits = h.0; job = h.1 }) e
 
 serve_within : (a : Arguments) (settings : Settings) → serve_settings_of a ≡ Some settings → AreServeSettings settings
 serve_within a settings e =
@@ -77,18 +79,17 @@ asked_with a make settings command P e with_it =
 
 replay_within : (a : Arguments) (requests : Option (List ℕ)) (command : Command) → replay_with a requests ≡ Some command → IsWithinLimits command
 replay_within a None command e =
-    by_branch (is_some a.workers) None _ command (not_none command) (λ rest.
-    asked_with a (λ image schedule. commands.Replay image schedule None) (settings_of jobs.Run a) command _ rest
-    (λ image schedule s is made. subst IsWithinLimits made (run_within a s is))) e
+    asked_with a (λ image schedule. commands.Replay image schedule None) (run_settings_of a) command _ e
+    (λ image schedule s is made. subst IsWithinLimits made (run_within a s is))
 replay_within a (Some requests) command e =
     asked_with a (λ image schedule. commands.Replay image schedule (Some requests)) (serve_settings_of a) command _ e
     (λ image schedule s is made. subst IsWithinLimits made (serve_within a s is))
 
 run_is_within : (a : Arguments) (command : Command) → run_of a ≡ Some command → IsWithinLimits command
 run_is_within a command e =
-    by_branch (is_some a.second || is_some a.third || is_some a.workers) None _ command (not_none command) (λ rest.
-    option_and_then_some (λ image. option_map (commands.Run image) (settings_of jobs.Run a)) a.first command rest (λ image here more.
-    let made = mapped_some (commands.Run image) (settings_of jobs.Run a) command more in
+    by_branch (is_some a.second || is_some a.third) None _ command (not_none command) (λ rest.
+    option_and_then_some (λ image. option_map (commands.Run image) (run_settings_of a)) a.first command rest (λ image here more.
+    let made = mapped_some (commands.Run image) (run_settings_of a) command more in
     subst IsWithinLimits made.2 (run_within a made.0 made.1))) e
 
 serve_is_within : (a : Arguments) (command : Command) → serve_of a ≡ Some command → IsWithinLimits command
@@ -114,23 +115,21 @@ lift_is_within a command e = let made = mapped_some commands.Lift (only_word a) 
 
 monitor_is_within : (a : Arguments) (command : Command) → monitor_of a ≡ Some command → IsWithinLimits command
 monitor_is_within a command e =
-    by_branch (is_some a.third || is_some a.workers) None _ command (not_none command) (λ rest.
-    asked_with a commands.Monitor (settings_of jobs.Run a) command _ rest
+    by_branch (is_some a.third) None _ command (not_none command) (λ rest.
+    asked_with a commands.Monitor (run_settings_of a) command _ rest
     (λ image schedule s is made. subst IsWithinLimits made (run_within a s is))) e
 
 vault_is_within : (a : Arguments) (command : Command) → vault_of a ≡ Some command → IsWithinLimits command
 vault_is_within a command e =
-    by_branch (is_some a.workers) None _ command (not_none command) (λ rest.
-    option_and_then_some (λ schedule. two_words a (λ image vault. option_map (commands.Vault image vault schedule) (settings_of jobs.Run a))) a.third command rest (λ schedule here more.
-    asked_with a (λ image vault. commands.Vault image vault schedule) (settings_of jobs.Run a) command _ more
-    (λ image vault s is made. subst IsWithinLimits made (run_within a s is)))) e
+    option_and_then_some (λ schedule. two_words a (λ image vault. option_map (commands.Vault image vault schedule) (run_settings_of a))) a.third command e (λ schedule here more.
+    asked_with a (λ image vault. commands.Vault image vault schedule) (run_settings_of a) command _ more
+    (λ image vault s is made. subst IsWithinLimits made (run_within a s is)))
 
 debug_is_within : (a : Arguments) (command : Command) → debug_of a ≡ Some command → IsWithinLimits command
 debug_is_within a command e =
-    by_branch (is_some a.workers) None _ command (not_none command) (λ rest.
-    option_and_then_some (λ script. two_words a (λ image schedule. option_map (commands.Debug image schedule script) (settings_of jobs.Run a))) a.third command rest (λ script here more.
-    asked_with a (λ image schedule. commands.Debug image schedule script) (settings_of jobs.Run a) command _ more
-    (λ image schedule s is made. subst IsWithinLimits made (run_within a s is)))) e
+    option_and_then_some (λ script. two_words a (λ image schedule. option_map (commands.Debug image schedule script) (run_settings_of a))) a.third command e (λ script here more.
+    asked_with a (λ image schedule. commands.Debug image schedule script) (run_settings_of a) command _ more
+    (λ image schedule s is made. subst IsWithinLimits made (run_within a s is)))
 
 stream_is_within : (a : Arguments) (command : Command) → stream_of a ≡ Some command → IsWithinLimits command
 stream_is_within a command e =

@@ -65,6 +65,10 @@ settings_for job frames budget = record { frames = frames; budget = budget; job 
 abbrev pub settings_of : Job → Arguments → Option Settings
 settings_of job a = option_and_then (λ frames. option_map (settings_for job frames) (budget_of a)) (frames_of a)
 
+-- the settings of a run, which takes no workers, where no number is refused
+abbrev pub run_settings_of : Arguments → Option Settings
+run_settings_of a = if is_some a.workers then None else settings_of jobs.Run a
+
 -- the settings of a serve, where no number is refused
 abbrev pub serve_settings_of : Arguments → Option Settings
 serve_settings_of a = option_and_then (λ workers. settings_of (jobs.Serve workers) a) (workers_of a)
@@ -83,16 +87,15 @@ two_words a command =
 -- `replay` wants an image and a schedule, and takes frames and a budget; with requests it takes workers too
 abbrev pub replay_with : Arguments → Option (List ℕ) → Option Command
 replay_with a None =
-    if is_some a.workers then None
-    else two_words a (λ image schedule. option_map (Replay image schedule None) (settings_of jobs.Run a))
+    two_words a (λ image schedule. option_map (Replay image schedule None) (run_settings_of a))
 replay_with a (Some requests) =
     two_words a (λ image schedule. option_map (Replay image schedule (Some requests)) (serve_settings_of a))
 
 -- `run` wants an image, and takes frames and a budget
 abbrev pub run_of : Arguments → Option Command
 run_of a =
-    if is_some a.second || is_some a.third || is_some a.workers then None
-    else option_and_then (λ image. option_map (Run image) (settings_of jobs.Run a)) a.first
+    if is_some a.second || is_some a.third then None
+    else option_and_then (λ image. option_map (Run image) (run_settings_of a)) a.first
 
 -- `serve` wants an image and requests, and takes frames, a budget and workers
 abbrev pub serve_of : Arguments → Option Command
@@ -113,22 +116,20 @@ gen_of a = option_map Gen (option_and_then (number_within 1 100) (only_word a))
 -- `monitor` wants an image and a schedule, and takes frames and a budget
 abbrev pub monitor_of : Arguments → Option Command
 monitor_of a =
-    if is_some a.third || is_some a.workers then None
-    else two_words a (λ image schedule. option_map (Monitor image schedule) (settings_of jobs.Run a))
+    if is_some a.third then None
+    else two_words a (λ image schedule. option_map (Monitor image schedule) (run_settings_of a))
 
 -- `vault` wants an image, a vault and a schedule, and takes frames and a budget
 abbrev pub vault_of : Arguments → Option Command
 vault_of a =
-    if is_some a.workers then None
-    else option_and_then (λ schedule. two_words a (λ image vault.
-    option_map (Vault image vault schedule) (settings_of jobs.Run a))) a.third
+    option_and_then (λ schedule. two_words a (λ image vault.
+    option_map (Vault image vault schedule) (run_settings_of a))) a.third
 
 -- `debug` wants an image, a schedule and a script, and takes frames and a budget
 abbrev pub debug_of : Arguments → Option Command
 debug_of a =
-    if is_some a.workers then None
-    else option_and_then (λ script. two_words a (λ image schedule.
-    option_map (Debug image schedule script) (settings_of jobs.Run a))) a.third
+    option_and_then (λ script. two_words a (λ image schedule.
+    option_map (Debug image schedule script) (run_settings_of a))) a.third
 
 -- the table of modes: what each asks for, if it takes the other arguments
 abbrev pub asked_in : List ℕ → Arguments → Option Command

@@ -42,7 +42,7 @@ pub fn parse_words<'a>(alloc: Global, words: &'a [String]) -> Result<Arguments<'
     }
 }
 
-/// The command that the line is for.
+/// The command as `clap` takes it: a mode, one to three words behind it, and three options.
 #[tactic(auto, unfolding(crate::specs::Arguments::command))]
 fn command<'a>(alloc: Global) -> Result<Command<'a>, AllocError>
     ensures { IfOk result (λ command. app_of command ≡ spec.command) }

@@ -4,7 +4,7 @@ ghost use Rattle.kernel_core.specs.Settings.{IsJob, IsSettings};
 ghost use Rattle.lwc_base.specs.declared.limits.TheConstants.{MOST_BUDGET, MOST_FRAMES, MOST_THREADS};
 ghost use Rattle.lwcrun_line.specs.Arguments.{arguments_in};
 ghost use Rattle.lwcrun_line.specs.Lines as spec;
-ghost use Rattle.lwcrun_line.specs.Lines.{AreServeSettings, IsWithinLimits, asked_by, command_of};
+ghost use Rattle.lwcrun_line.specs.Lines.{AreRunSettings, AreServeSettings, IsWithinLimits, asked_by, command_of};
 
 use crate::arguments::{Arguments, parse_words};
 use crate::numbers::number_within;
@@ -159,12 +159,7 @@ fn replay_of_run(alloc: Global, arguments: &Arguments<'_>) -> Result<Line, LineF
     ensures limits { IfOk result (λ line. IsWithinLimits (asked_by line)) }
     ensures usage { result ≡ Err LineFault.Usage → spec.replay_with (arguments_in arguments.now) None ≡ None }
 {
-    if arguments.workers.is_some() {
-        return Err(LineFault::Usage);
-    }
-    let Some(settings) = settings_of(arguments, Job::Run) else {
-        return Err(LineFault::Usage);
-    };
+    let settings = run_settings_of(arguments)?;
     Ok(Line::Replay {
         image: name_of(alloc, arguments.first)?,
         schedule: name_of(alloc, arguments.second)?,
@@ -185,9 +180,7 @@ fn replay_of_serve(
     ensures usage { result ≡ Err LineFault.Usage →
         spec.replay_with (arguments_in arguments.now) (Some requests.now) ≡ None }
 {
-    let Some(settings) = serve_settings_of(arguments) else {
-        return Err(LineFault::Usage);
-    };
+    let settings = serve_settings_of(arguments)?;
     Ok(Line::Replay {
         image: name_of(alloc, arguments.first)?,
         schedule: name_of(alloc, arguments.second)?,
@@ -202,12 +195,10 @@ fn run_line(alloc: Global, arguments: &Arguments<'_>) -> Result<Line, LineFault>
     ensures limits { IfOk result (λ line. IsWithinLimits (asked_by line)) }
     ensures usage { result ≡ Err LineFault.Usage → spec.run_of (arguments_in arguments.now) ≡ None }
 {
-    if arguments.second.is_some() || arguments.third.is_some() || arguments.workers.is_some() {
+    if arguments.second.is_some() || arguments.third.is_some() {
         return Err(LineFault::Usage);
     }
-    let Some(settings) = settings_of(arguments, Job::Run) else {
-        return Err(LineFault::Usage);
-    };
+    let settings = run_settings_of(arguments)?;
     Ok(Line::Run {
         image: name_of(alloc, arguments.first)?,
         settings,
@@ -224,9 +215,7 @@ fn serve_line(alloc: Global, arguments: &Arguments<'_>) -> Result<Line, LineFaul
     if arguments.third.is_some() {
         return Err(LineFault::Usage);
     }
-    let Some(settings) = serve_settings_of(arguments) else {
-        return Err(LineFault::Usage);
-    };
+    let settings = serve_settings_of(arguments)?;
     Ok(Line::Serve {
         image: name_of(alloc, arguments.first)?,
         requests: name_of(alloc, arguments.second)?,
@@ -266,13 +255,9 @@ fn gen_line(arguments: &Arguments<'_>) -> Result<Line, LineFault>
     ensures limits { IfOk result (λ line. IsWithinLimits (asked_by line)) }
     ensures usage { result ≡ Err LineFault.Usage → spec.gen_of (arguments_in arguments.now) ≡ None }
 {
-    let Some(word) = only_word(arguments) else {
-        return Err(LineFault::Usage);
-    };
-    match number_within(1, 100, word) {
-        Some(number) => Ok(Line::Gen { number }),
-        None => Err(LineFault::Usage),
-    }
+    let word = only_word(arguments).ok_or(LineFault::Usage)?;
+    let number = number_within(1, 100, word).ok_or(LineFault::Usage)?;
+    Ok(Line::Gen { number })
 }
 
 /// The line of a lifting: an image, without options.
@@ -295,12 +280,10 @@ fn monitor_line(alloc: Global, arguments: &Arguments<'_>) -> Result<Line, LineFa
     ensures limits { IfOk result (λ line. IsWithinLimits (asked_by line)) }
     ensures usage { result ≡ Err LineFault.Usage → spec.monitor_of (arguments_in arguments.now) ≡ None }
 {
-    if arguments.third.is_some() || arguments.workers.is_some() {
+    if arguments.third.is_some() {
         return Err(LineFault::Usage);
     }
-    let Some(settings) = settings_of(arguments, Job::Run) else {
-        return Err(LineFault::Usage);
-    };
+    let settings = run_settings_of(arguments)?;
     Ok(Line::Monitor {
         image: name_of(alloc, arguments.first)?,
         schedule: name_of(alloc, arguments.second)?,
@@ -314,12 +297,7 @@ fn vault_line(alloc: Global, arguments: &Arguments<'_>) -> Result<Line, LineFaul
     ensures limits { IfOk result (λ line. IsWithinLimits (asked_by line)) }
     ensures usage { result ≡ Err LineFault.Usage → spec.vault_of (arguments_in arguments.now) ≡ None }
 {
-    if arguments.workers.is_some() {
-        return Err(LineFault::Usage);
-    }
-    let Some(settings) = settings_of(arguments, Job::Run) else {
-        return Err(LineFault::Usage);
-    };
+    let settings = run_settings_of(arguments)?;
     Ok(Line::Vault {
         image: name_of(alloc, arguments.first)?,
         vault: name_of(alloc, arguments.second)?,
@@ -334,12 +312,7 @@ fn debug_line(alloc: Global, arguments: &Arguments<'_>) -> Result<Line, LineFaul
     ensures limits { IfOk result (λ line. IsWithinLimits (asked_by line)) }
     ensures usage { result ≡ Err LineFault.Usage → spec.debug_of (arguments_in arguments.now) ≡ None }
 {
-    if arguments.workers.is_some() {
-        return Err(LineFault::Usage);
-    }
-    let Some(settings) = settings_of(arguments, Job::Run) else {
-        return Err(LineFault::Usage);
-    };
+    let settings = run_settings_of(arguments)?;
     Ok(Line::Debug {
         image: name_of(alloc, arguments.first)?,
         schedule: name_of(alloc, arguments.second)?,
@@ -358,9 +331,7 @@ fn stream_line(alloc: Global, arguments: &Arguments<'_>) -> Result<Line, LineFau
     if arguments.third.is_some() {
         return Err(LineFault::Usage);
     }
-    let Some(settings) = serve_settings_of(arguments) else {
-        return Err(LineFault::Usage);
-    };
+    let settings = serve_settings_of(arguments)?;
     Ok(Line::Stream {
         image: name_of(alloc, arguments.first)?,
         requests: name_of(alloc, arguments.second)?,
@@ -397,13 +368,39 @@ fn only_word<'a>(arguments: &Arguments<'a>) -> Option<&'a str>
     }
 }
 
-/// The settings of a serve, if no number is refused.
-fn serve_settings_of(arguments: &Arguments<'_>) -> Option<Settings>
-    ensures value { result ≡ spec.serve_settings_of (arguments_in arguments.now) }
-    ensures limits { IfSome result AreServeSettings }
+/// The settings of a run, which takes no workers.
+///
+/// # Errors
+///
+/// `Usage` where workers are given or a number is refused.
+fn run_settings_of(arguments: &Arguments<'_>) -> Result<Settings, LineFault>
+    ensures accepted { IfOk result (λ settings.
+        spec.run_settings_of (arguments_in arguments.now) ≡ Some settings) }
+    ensures limits { IfOk result AreRunSettings }
+    ensures usage { IfErr result (λ fault. (fault ≡ LineFault.Usage)
+        × (spec.run_settings_of (arguments_in arguments.now) ≡ None)) }
 {
-    let workers = number_or(DEFAULT_WORKERS, MOST_THREADS, arguments.workers)?;
-    settings_of(arguments, Job::Serve { workers })
+    if arguments.workers.is_some() {
+        return Err(LineFault::Usage);
+    }
+    settings_of(arguments, Job::Run).ok_or(LineFault::Usage)
+}
+
+/// The settings of a serve.
+///
+/// # Errors
+///
+/// `Usage` where a number is refused.
+fn serve_settings_of(arguments: &Arguments<'_>) -> Result<Settings, LineFault>
+    ensures accepted { IfOk result (λ settings.
+        spec.serve_settings_of (arguments_in arguments.now) ≡ Some settings) }
+    ensures limits { IfOk result AreServeSettings }
+    ensures usage { IfErr result (λ fault. (fault ≡ LineFault.Usage)
+        × (spec.serve_settings_of (arguments_in arguments.now) ≡ None)) }
+{
+    let workers = number_or(DEFAULT_WORKERS, MOST_THREADS, arguments.workers);
+    let workers = workers.ok_or(LineFault::Usage)?;
+    settings_of(arguments, Job::Serve { workers }).ok_or(LineFault::Usage)
 }
 
 /// The settings of a line for a job, if neither number is refused.
