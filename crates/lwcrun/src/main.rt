@@ -1,4 +1,5 @@
-//! `lwcrun`: runs a guest image under a schedule, and prints what it did.
+//! `lwcrun`: takes the words of the line, the system's files and outputs, and a gate that counts, and makes the
+//! program's one call.
 #![tactic(auto)]
 
 ghost use Rattle.std.specs.Prelude.{◌≡◌, ◌≢◌, [], Err, IfErr, IfOk, IsOkAnd, Ok};

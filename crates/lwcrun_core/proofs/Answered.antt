@@ -7,7 +7,7 @@ use Rattle.lwcrun_line.specs.declared.line.LineFault.TheVariants as line_faults
 use Rattle.lwcrun_core.specs.Calls.{CallEnded, CommandEnded, FetchesPlan}
 use Rattle.lwcrun_modes.specs.Ends.{End, Outside, Ended, IsUnwritten}
 use Rattle.lwcrun_modes.specs.Ends as ends
-use Rattle.lwcrun_modes.specs.Headline.{IsText, plan_of}
+use Rattle.lwcrun_modes.specs.Works.{IsText, plan_of}
 use Rattle.lwcrun_line.specs.Lines.{Command}
 use Rattle.lwcrun_modes.specs.Plans.{AreFetchesOf}
 use Rattle.lwcrun_modes.specs.Reading.{Fetched}

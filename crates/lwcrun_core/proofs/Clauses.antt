@@ -61,19 +61,19 @@ use Rattle.lwcrun_modes.specs.declared.ending.Rejection.TheVariants as rejection
 use Rattle.lwcrun_core.specs.declared.status.ExitStatus.{ExitStatus}
 use Rattle.lwcrun_core.specs.declared.status.ExitStatus.TheVariants as statuses
 use Rattle.lwcrun_core.specs.Calls.{AreContents, AreRequestsIn, CallEnded, CommandEnded, FetchesNamed, FetchesPlan, FileFailed, Headline, IsFitting, IsNameIn, IsOrNoMemory, IsRejected, IsRunnable, IsServe, IsUndisturbed, IsVaultReplay, Names, NoFault, WroteOnlyReplies, WroteServe, status_by}
-use Rattle.lwcrun_modes.specs.Ends.{End, Outside, Ended, FetchFailed, IsUnhindered, IsUnwritten, NothingFailed, WriteFailed, end_by}
+use Rattle.lwcrun_modes.specs.Ends.{End, Outside, Ended, FetchFailed, IsUnwritten, NothingFailed, WriteFailed}
 use Rattle.lwcrun_modes.specs.Ends as ends
 use Rattle.lwc_text.specs.Report.{report_of_schedule, stream_text}
-use Rattle.lwcrun_modes.specs.Headline.{IsText, Work, after_image, after_monitored, after_schedule, after_server, after_streamer, after_debugged, after_debugged_image, after_vault, after_vault_image, asm_plan, debug_plan, dis_plan, gen_plan, inputs_of, lift_plan, monitor_plan, plan_of, read_by, replay_plan, run_plan, serve_plan, stream_plan, vault_plan}
-use Rattle.lwcrun_modes.specs.Headline as works
-use Rattle.lwcrun_modes.specs.Images.{bounded, bounded_requests_of, fitted, fitted_beside, fitting_image_of, fitting_vault_for, image_of, or_rejected, requests_of, schedule_of, script_of, serve_steps, source_of, then_tested, vault_for}
+use Rattle.lwcrun_modes.specs.Works.{IsText, Work, after_replay_image, after_monitor_image, after_replay_schedule, after_server, after_debug_schedule, after_debug_image, after_vault, after_vault_image, asm_plan, debug_plan, dis_plan, gen_plan, inputs_of, lift_plan, monitor_plan, plan_of, read_by, replay_plan, run_plan, serve_plan, stream_plan, vault_plan}
+use Rattle.lwcrun_modes.specs.Works as works
+use Rattle.lwcrun_modes.specs.Inputs.{bounded, bounded_requests_of, fitted, fitted_beside, fitting_image_of, fitting_vault_for, image_of, or_rejected, requests_of, schedule_of, script_of, serve_steps, source_of, then_tested, vault_for}
 use Rattle.lwcrun_line.specs.Lines.{AreReplaySettings, AreRunSettings, AreServeSettings, Command, IsWithinLimits}
 use Rattle.lwcrun_line.specs.Lines as commands
-use Rattle.lwcrun_modes.specs.Plans.{Plan, AreFetchesOf, FileContents, LeadsTo, Reads, AreKnown, accepted, outcome}
+use Rattle.lwcrun_modes.specs.Plans.{Plan, AreFetchesOf, FileContents, LeadsTo, Reads, accepted, outcome}
 use Rattle.lwcrun_modes.specs.Plans as plans
 use Rattle.lwcrun_core.specs.Statuses.{exit_number, status_of, status_of_rejection}
 use Rattle.lwcrun_modes.proofs.Readers.{beside_found, bounded_found, fits_beside, fitted_found, image_fits, image_read, requests_bounded, requests_read, schedule_read, script_read, source_read, tested, vault_read}
-use Rattle.lwcrun_core.proofs.Promises.{known_bytes, leads_known, settled}
+use Rattle.lwcrun_core.proofs.Promises.{AreKnown, IsUnhindered, end_by, known_bytes, leads_known, settled}
 
 -- what follows the last input of each command
 
@@ -83,8 +83,8 @@ replayed settings image steps asked = plans.Write (works.Replaying (inputs_of im
 abbrev ran : Settings → Image → Plan Rejection Work
 ran settings image = plans.Write (works.Running (inputs_of image [] settings))
 
-abbrev served : Settings → Image → List (List ℕ) → Plan Rejection Work
-served settings image asked = plans.Write (works.Running (inputs_of image asked settings))
+abbrev served : (Inputs → Work) → Settings → Image → List (List ℕ) → Plan Rejection Work
+served work settings image asked = plans.Write (work (inputs_of image asked settings))
 
 abbrev made : Image → Plan Rejection Work
 made image = plans.Write (works.Spelling image)
@@ -104,9 +104,6 @@ kept_beside settings image v steps = plans.Write (works.Replaying (beside (input
 abbrev answered : Settings → Image → List ℕ → List debug.Command → Plan Rejection Work
 answered settings image steps script = plans.Write (works.Debugging (inputs_of image [] settings) steps script)
 
-abbrev streamed : Settings → Image → List (List ℕ) → Plan Rejection Work
-streamed settings image asked = plans.Write (works.Streaming (inputs_of image asked settings))
-
 -- the files that a plan reads are those that its command names
 
 reads_accepted : {A : Type 0} (files : FileContents) (r : Result A Rejection) (next : A → Plan Rejection Work) (q : List ℕ) (P : Type 0) → ((x : A) → Reads files (next x) q → P) → Reads files (accepted r next) q → P
@@ -118,27 +115,23 @@ reads_by : {A : Type 0} (files : FileContents) (grammar : List ℕ → Result A 
 reads_by files grammar limit name next q P here there (inl is) = here is
 reads_by files grammar limit name next q P here there (inr h) = reads_accepted files (grammar h.0) next q P there h.2
 
-reads_after_schedule : (files : FileContents) (requests : Option (List ℕ)) (settings : Settings) (image : Image) (steps q : List ℕ) → Reads files (after_schedule requests settings image steps) q → IsNameIn requests q
-unfolding after_schedule
-reads_after_schedule files None settings image steps q h = h
-reads_after_schedule files (Some requests) settings image steps q h = reads_by files requests_of MOST_REQUEST_FILE_BYTES requests (replayed settings image steps) q _ (λ is. is) (λ asked after. absurd after) h
+reads_after_replay_schedule : (files : FileContents) (requests : Option (List ℕ)) (settings : Settings) (image : Image) (steps q : List ℕ) → Reads files (after_replay_schedule requests settings image steps) q → IsNameIn requests q
+unfolding after_replay_schedule
+reads_after_replay_schedule files None settings image steps q h = h
+reads_after_replay_schedule files (Some requests) settings image steps q h = reads_by files requests_of MOST_REQUEST_FILE_BYTES requests (replayed settings image steps) q _ (λ is. is) (λ asked after. absurd after) h
 
-reads_after_image : (files : FileContents) (schedule : List ℕ) (requests : Option (List ℕ)) (settings : Settings) (image : Image) (q : List ℕ) → Reads files (after_image schedule requests settings image) q → (q ≡ schedule) ⊎ IsNameIn requests q
-unfolding after_image
-reads_after_image files schedule requests settings image q h =
-    reads_by files (schedule_of (threads_for image settings.job) MOST_STEPS) MOST_SCHEDULE_BYTES schedule (after_schedule requests settings image) q _ (λ is. inl is) (λ steps after. inr (reads_after_schedule files requests settings image steps q after)) h
+reads_after_replay_image : (files : FileContents) (schedule : List ℕ) (requests : Option (List ℕ)) (settings : Settings) (image : Image) (q : List ℕ) → Reads files (after_replay_image schedule requests settings image) q → (q ≡ schedule) ⊎ IsNameIn requests q
+unfolding after_replay_image
+reads_after_replay_image files schedule requests settings image q h =
+    reads_by files (schedule_of (threads_for image settings.job) MOST_STEPS) MOST_SCHEDULE_BYTES schedule (after_replay_schedule requests settings image) q _ (λ is. inl is) (λ steps after. inr (reads_after_replay_schedule files requests settings image steps q after)) h
 
-reads_after_server : (files : FileContents) (requests : List ℕ) (settings : Settings) (image : Image) (q : List ℕ) → Reads files (after_server requests settings image) q → q ≡ requests
+reads_after_server : (work : Inputs → Work) (files : FileContents) (requests : List ℕ) (settings : Settings) (image : Image) (q : List ℕ) → Reads files (after_server work requests settings image) q → q ≡ requests
 unfolding after_server
-reads_after_server files requests settings image q h = reads_by files (bounded_requests_of settings) MOST_REQUEST_FILE_BYTES requests (served settings image) q _ (λ is. is) (λ asked after. absurd after) h
+reads_after_server work files requests settings image q h = reads_by files (bounded_requests_of settings) MOST_REQUEST_FILE_BYTES requests (served work settings image) q _ (λ is. is) (λ asked after. absurd after) h
 
-reads_after_streamer : (files : FileContents) (requests : List ℕ) (settings : Settings) (image : Image) (q : List ℕ) → Reads files (after_streamer requests settings image) q → q ≡ requests
-unfolding after_streamer
-reads_after_streamer files requests settings image q h = reads_by files (bounded_requests_of settings) MOST_REQUEST_FILE_BYTES requests (streamed settings image) q _ (λ is. is) (λ asked after. absurd after) h
-
-reads_after_monitored : (files : FileContents) (schedule : List ℕ) (settings : Settings) (image : Image) (q : List ℕ) → Reads files (after_monitored schedule settings image) q → q ≡ schedule
-unfolding after_monitored
-reads_after_monitored files schedule settings image q h =
+reads_after_monitor_image : (files : FileContents) (schedule : List ℕ) (settings : Settings) (image : Image) (q : List ℕ) → Reads files (after_monitor_image schedule settings image) q → q ≡ schedule
+unfolding after_monitor_image
+reads_after_monitor_image files schedule settings image q h =
     reads_by files (schedule_of (threads_for image settings.job) MOST_STEPS) MOST_SCHEDULE_BYTES schedule (monitored settings image) q _ (λ is. is) (λ steps after. absurd after) h
 
 reads_after_vault : (files : FileContents) (schedule : List ℕ) (settings : Settings) (image : Image) (v : Vault) (q : List ℕ) → Reads files (after_vault schedule settings image v) q → q ≡ schedule
@@ -151,34 +144,34 @@ unfolding after_vault_image
 reads_after_vault_image files vault schedule settings image q h =
     reads_by files (fitting_vault_for settings.frames image) MOST_VAULT_BYTES vault (after_vault schedule settings image) q _ (λ is. inl is) (λ v after. inr (reads_after_vault files schedule settings image v q after)) h
 
-reads_after_debugged : (files : FileContents) (script : List ℕ) (settings : Settings) (image : Image) (steps q : List ℕ) → Reads files (after_debugged script settings image steps) q → q ≡ script
-unfolding after_debugged
-reads_after_debugged files script settings image steps q h = reads_by files script_of MOST_SCRIPT_BYTES script (answered settings image steps) q _ (λ is. is) (λ asked after. absurd after) h
+reads_after_debug_schedule : (files : FileContents) (script : List ℕ) (settings : Settings) (image : Image) (steps q : List ℕ) → Reads files (after_debug_schedule script settings image steps) q → q ≡ script
+unfolding after_debug_schedule
+reads_after_debug_schedule files script settings image steps q h = reads_by files script_of MOST_SCRIPT_BYTES script (answered settings image steps) q _ (λ is. is) (λ asked after. absurd after) h
 
-reads_after_debugged_image : (files : FileContents) (schedule script : List ℕ) (settings : Settings) (image : Image) (q : List ℕ) → Reads files (after_debugged_image schedule script settings image) q → (q ≡ schedule) ⊎ (q ≡ script)
-unfolding after_debugged_image
-reads_after_debugged_image files schedule script settings image q h =
-    reads_by files (schedule_of (threads_for image settings.job) MOST_DEBUGGED_STEPS) MOST_SCHEDULE_BYTES schedule (after_debugged script settings image) q _ (λ is. inl is) (λ steps after. inr (reads_after_debugged files script settings image steps q after)) h
+reads_after_debug_image : (files : FileContents) (schedule script : List ℕ) (settings : Settings) (image : Image) (q : List ℕ) → Reads files (after_debug_image schedule script settings image) q → (q ≡ schedule) ⊎ (q ≡ script)
+unfolding after_debug_image
+reads_after_debug_image files schedule script settings image q h =
+    reads_by files (schedule_of (threads_for image settings.job) MOST_DEBUGGED_STEPS) MOST_SCHEDULE_BYTES schedule (after_debug_schedule script settings image) q _ (λ is. inl is) (λ steps after. inr (reads_after_debug_schedule files script settings image steps q after)) h
 
 reads_names : (files : FileContents) (command : Command) (q : List ℕ) → Reads files (plan_of command) q → Names command q
-unfolding replay_plan run_plan serve_plan asm_plan dis_plan gen_plan lift_plan monitor_plan after_monitored vault_plan debug_plan stream_plan
+unfolding replay_plan run_plan serve_plan asm_plan dis_plan gen_plan lift_plan monitor_plan after_monitor_image vault_plan debug_plan stream_plan
 reads_names files (commands.Replay image schedule requests settings) q h =
-    reads_by files (fitting_image_of settings.frames) MOST_IMAGE_BYTES image (after_image schedule requests settings) q _ (λ is. inl is) (λ x after. inr (reads_after_image files schedule requests settings x q after)) h
+    reads_by files (fitting_image_of settings.frames) MOST_IMAGE_BYTES image (after_replay_image schedule requests settings) q _ (λ is. inl is) (λ x after. inr (reads_after_replay_image files schedule requests settings x q after)) h
 reads_names files (commands.Run image settings) q h = reads_by files (fitting_image_of settings.frames) MOST_IMAGE_BYTES image (ran settings) q _ (λ is. is) (λ x after. absurd after) h
 reads_names files (commands.Serve image requests settings) q h =
-    reads_by files (fitting_image_of settings.frames) MOST_IMAGE_BYTES image (after_server requests settings) q _ (λ is. inl is) (λ x after. inr (reads_after_server files requests settings x q after)) h
+    reads_by files (fitting_image_of settings.frames) MOST_IMAGE_BYTES image (after_server works.Running requests settings) q _ (λ is. inl is) (λ x after. inr (reads_after_server works.Running files requests settings x q after)) h
 reads_names files (commands.Asm source) q h = reads_by files source_of MOST_SOURCE_BYTES source made q _ (λ is. is) (λ x after. absurd after) h
 reads_names files (commands.Gen number) q h = h
 reads_names files (commands.Dis image) q h = reads_by files image_of MOST_IMAGE_BYTES image listed q _ (λ is. is) (λ x after. absurd after) h
 reads_names files (commands.Lift image) q h = reads_by files image_of MOST_IMAGE_BYTES image raised q _ (λ is. is) (λ x after. absurd after) h
 reads_names files (commands.Monitor image schedule settings) q h =
-    reads_by files (fitting_image_of settings.frames) MOST_IMAGE_BYTES image (after_monitored schedule settings) q _ (λ is. inl is) (λ x after. inr (reads_after_monitored files schedule settings x q after)) h
+    reads_by files (fitting_image_of settings.frames) MOST_IMAGE_BYTES image (after_monitor_image schedule settings) q _ (λ is. inl is) (λ x after. inr (reads_after_monitor_image files schedule settings x q after)) h
 reads_names files (commands.Vault image vault schedule settings) q h =
     reads_by files image_of MOST_IMAGE_BYTES image (after_vault_image vault schedule settings) q _ (λ is. inl is) (λ x after. inr (reads_after_vault_image files vault schedule settings x q after)) h
 reads_names files (commands.Debug image schedule script settings) q h =
-    reads_by files (fitting_image_of settings.frames) MOST_IMAGE_BYTES image (after_debugged_image schedule script settings) q _ (λ is. inl is) (λ x after. inr (reads_after_debugged_image files schedule script settings x q after)) h
+    reads_by files (fitting_image_of settings.frames) MOST_IMAGE_BYTES image (after_debug_image schedule script settings) q _ (λ is. inl is) (λ x after. inr (reads_after_debug_image files schedule script settings x q after)) h
 reads_names files (commands.Stream image requests settings) q h =
-    reads_by files (fitting_image_of settings.frames) MOST_IMAGE_BYTES image (after_streamer requests settings) q _ (λ is. inl is) (λ x after. inr (reads_after_streamer files requests settings x q after)) h
+    reads_by files (fitting_image_of settings.frames) MOST_IMAGE_BYTES image (after_server works.Streaming requests settings) q _ (λ is. inl is) (λ x after. inr (reads_after_server works.Streaming files requests settings x q after)) h
 
 are_known : (files : FileContents) (command : Command) (bytes : List ℕ → List ℕ) → AreContents files command bytes → AreKnown files (plan_of command) bytes
 are_known files command bytes h q reads = h q (reads_names files command q reads)
@@ -351,32 +344,32 @@ requests_found bytes asked e = is_file bytes asked (or_rejected_ok rejections.In
 
 -- where the plan of accepted files leads
 
-over_schedule : (bytes : List ℕ → List ℕ) (requests : Option (List ℕ)) (settings : Settings) (image : Image) (steps : List ℕ) (asked : List (List ℕ)) → AreRequestsIn requests bytes asked → outcome bytes (after_schedule requests settings image steps) ≡ Ok (works.Replaying (inputs_of image asked settings) steps)
-unfolding after_schedule
+over_schedule : (bytes : List ℕ → List ℕ) (requests : Option (List ℕ)) (settings : Settings) (image : Image) (steps : List ℕ) (asked : List (List ℕ)) → AreRequestsIn requests bytes asked → outcome bytes (after_replay_schedule requests settings image steps) ≡ Ok (works.Replaying (inputs_of image asked settings) steps)
+unfolding after_replay_schedule
 over_schedule bytes None settings image steps asked none = ap (λ a. Ok (works.Replaying (inputs_of image a settings) steps)) (sym none)
 over_schedule bytes (Some requests) settings image steps asked is = over bytes _ asked (replayed settings image steps) (requests_accepted (bytes requests) asked is)
 
 runs : (bytes : List ℕ → List ℕ) (command : Command) → IsRunnable command bytes → (work : Work) × (outcome bytes (plan_of command) ≡ Ok work)
-unfolding replay_plan after_image run_plan serve_plan after_server asm_plan dis_plan gen_plan lift_plan monitor_plan after_monitored vault_plan after_vault_image after_vault debug_plan after_debugged_image after_debugged stream_plan after_streamer
+unfolding replay_plan after_replay_image run_plan serve_plan after_server asm_plan dis_plan gen_plan lift_plan monitor_plan after_monitor_image vault_plan after_vault_image after_vault debug_plan after_debug_image after_debug_schedule stream_plan
 runs bytes (commands.Replay image schedule requests settings) (x, steps, asked, h) = (
   works.Replaying (inputs_of x asked settings) steps,
-  over bytes _ x (after_image schedule requests settings) (fitting_accepted settings (bytes image) x h.guest)
-      ∙ over bytes _ steps (after_schedule requests settings x) (schedule_accepted _ _ (bytes schedule) steps h.scheduled)
+  over bytes _ x (after_replay_image schedule requests settings) (fitting_accepted settings (bytes image) x h.guest)
+      ∙ over bytes _ steps (after_replay_schedule requests settings x) (schedule_accepted _ _ (bytes schedule) steps h.scheduled)
       ∙ over_schedule bytes requests settings x steps asked h.requested,
 )
 runs bytes (commands.Run image settings) (x, h) =
     (works.Running (inputs_of x [] settings), over bytes _ x (ran settings) (fitting_accepted settings (bytes image) x h))
 runs bytes (commands.Serve image requests settings) (x, asked, h) = (
   works.Running (inputs_of x asked settings),
-  over bytes _ x (after_server requests settings) (fitting_accepted settings (bytes image) x h.guest)
-      ∙ over bytes _ asked (served settings x) (requests_bounded settings (bytes requests) asked (file_is_read (bytes requests) asked h.requested) h.few),
+  over bytes _ x (after_server works.Running requests settings) (fitting_accepted settings (bytes image) x h.guest)
+      ∙ over bytes _ asked (served works.Running settings x) (requests_bounded settings (bytes requests) asked (file_is_read (bytes requests) asked h.requested) h.few),
 )
 runs bytes (commands.Asm source) (x, is) = (works.Spelling x, over bytes _ x made (source_read (bytes source) x is))
 runs bytes (commands.Dis image) (x, is, spelled) = (works.Disassembling x, over bytes _ x listed (image_accepted (bytes image) x is spelled))
 runs bytes (commands.Gen number) runnable = (works.Generating number, refl)
 runs bytes (commands.Monitor image schedule settings) (x, steps, h) = (
   works.Monitoring (inputs_of x [] settings) steps,
-  over bytes _ x (after_monitored schedule settings) (fitting_accepted settings (bytes image) x h.guest)
+  over bytes _ x (after_monitor_image schedule settings) (fitting_accepted settings (bytes image) x h.guest)
       ∙ over bytes _ steps (monitored settings x) (schedule_accepted _ _ (bytes schedule) steps h.scheduled),
 )
 runs bytes (commands.Vault image vault schedule settings) (x, v, steps, h) = (
@@ -387,14 +380,14 @@ runs bytes (commands.Vault image vault schedule settings) (x, v, steps, h) = (
 )
 runs bytes (commands.Debug image schedule script settings) (x, steps, asked, h) = (
   works.Debugging (inputs_of x [] settings) steps asked,
-  over bytes _ x (after_debugged_image schedule script settings) (fitting_accepted settings (bytes image) x h.guest)
-      ∙ over bytes _ steps (after_debugged script settings x) (schedule_accepted _ _ (bytes schedule) steps h.scheduled)
+  over bytes _ x (after_debug_image schedule script settings) (fitting_accepted settings (bytes image) x h.guest)
+      ∙ over bytes _ steps (after_debug_schedule script settings x) (schedule_accepted _ _ (bytes schedule) steps h.scheduled)
       ∙ over bytes _ asked (answered settings x steps) (script_accepted (bytes script) asked h.scripted),
 )
 runs bytes (commands.Stream image requests settings) (x, asked, h) = (
   works.Streaming (inputs_of x asked settings),
-  over bytes _ x (after_streamer requests settings) (fitting_accepted settings (bytes image) x h.guest)
-      ∙ over bytes _ asked (streamed settings x) (requests_bounded settings (bytes requests) asked (file_is_read (bytes requests) asked h.requested) h.few),
+  over bytes _ x (after_server works.Streaming requests settings) (fitting_accepted settings (bytes image) x h.guest)
+      ∙ over bytes _ asked (served works.Streaming settings x) (requests_bounded settings (bytes requests) asked (file_is_read (bytes requests) asked h.requested) h.few),
 )
 runs bytes (commands.Lift image) (x, is, spelled) = (works.Spelling (lifted x), over bytes _ x raised (image_accepted (bytes image) x is spelled))
 
@@ -477,9 +470,9 @@ summed_alone number steps few complete frames =
 
 -- what was written is the headline
 
-asked_of : (files : FileContents) (requests : Option (List ℕ)) (settings : Settings) (image : Image) (steps : List ℕ) (work : Work) (bytes : List ℕ → List ℕ) → ((q : List ℕ) → IsNameIn requests q → files q ≡ Some (bytes q)) → LeadsTo files (after_schedule requests settings image steps) (Ok work)
+asked_of : (files : FileContents) (requests : Option (List ℕ)) (settings : Settings) (image : Image) (steps : List ℕ) (work : Work) (bytes : List ℕ → List ℕ) → ((q : List ℕ) → IsNameIn requests q → files q ≡ Some (bytes q)) → LeadsTo files (after_replay_schedule requests settings image steps) (Ok work)
     → (asked : List (List ℕ)) × AreRequestsIn requests bytes asked × (work ≡ works.Replaying (inputs_of image asked settings) steps)
-unfolding after_schedule
+unfolding after_replay_schedule
 asked_of files None settings image steps work bytes known e = ([], refl, work_is work _ e)
 asked_of files (Some requests) settings image steps work bytes known h =
     let read = leads_by files requests_of MOST_REQUEST_FILE_BYTES requests (replayed settings image steps) work (bytes requests) (known requests refl) h in
@@ -507,11 +500,11 @@ serve_found files bytes image requests settings of_inputs work known leads =
     )
 
 headline_of : (o : Outside) (command : Command) (bytes : List ℕ → List ℕ) (work : Work) (text : List ℕ) → IsWithinLimits command → AreContents o.files.contents command bytes → LeadsTo o.files.contents (plan_of command) (Ok work) → IsText work text → o.out_after.taken ≡ appended o.out.taken text → Headline o command bytes
-unfolding replay_plan after_image run_plan serve_plan after_server asm_plan dis_plan gen_plan lift_plan monitor_plan after_monitored vault_plan after_vault_image after_vault debug_plan after_debugged_image after_debugged stream_plan after_streamer
+unfolding replay_plan after_replay_image run_plan serve_plan after_server asm_plan dis_plan gen_plan lift_plan monitor_plan after_monitor_image vault_plan after_vault_image after_vault debug_plan after_debug_image after_debug_schedule stream_plan
 headline_of o (commands.Replay image schedule requests settings) bytes work text within known leads is taken =
     let files = o.files.contents in
-    let read = leads_by files (fitting_image_of settings.frames) MOST_IMAGE_BYTES image (after_image schedule requests settings) work (bytes image) (known image (inl refl)) leads in
-    let steps = leads_by files (schedule_of (threads_for read.0 settings.job) MOST_STEPS) MOST_SCHEDULE_BYTES schedule (after_schedule requests settings read.0) work (bytes schedule) (known schedule (inr (inl refl))) read.3 in
+    let read = leads_by files (fitting_image_of settings.frames) MOST_IMAGE_BYTES image (after_replay_image schedule requests settings) work (bytes image) (known image (inl refl)) leads in
+    let steps = leads_by files (schedule_of (threads_for read.0 settings.job) MOST_STEPS) MOST_SCHEDULE_BYTES schedule (after_replay_schedule requests settings read.0) work (bytes schedule) (known schedule (inr (inl refl))) read.3 in
     let asked = asked_of files requests settings read.0 steps.0 work bytes (λ q named. known q (inr (inr named))) steps.3 in
     let guest = fitting_found settings (bytes image) read.0 read.2 read.1 in
     let inputs = inputs_of read.0 asked.0 settings in
@@ -567,7 +560,7 @@ headline_of o (commands.Lift image) bytes work text within known leads is taken 
     )
 headline_of o (commands.Monitor image schedule settings) bytes work text within known leads is taken =
     let files = o.files.contents in
-    let read = leads_by files (fitting_image_of settings.frames) MOST_IMAGE_BYTES image (after_monitored schedule settings) work (bytes image) (known image (inl refl)) leads in
+    let read = leads_by files (fitting_image_of settings.frames) MOST_IMAGE_BYTES image (after_monitor_image schedule settings) work (bytes image) (known image (inl refl)) leads in
     let steps = leads_by files (schedule_of (threads_for read.0 settings.job) MOST_STEPS) MOST_SCHEDULE_BYTES schedule (monitored settings read.0) work (bytes schedule) (known schedule (inr refl)) read.3 in
     let guest = fitting_found settings (bytes image) read.0 read.2 read.1 in
     let inputs = inputs_of read.0 [] settings in
@@ -606,8 +599,8 @@ headline_of o (commands.Vault image vault schedule settings) bytes work text wit
     )
 headline_of o (commands.Debug image schedule script settings) bytes work text within known leads is taken =
     let files = o.files.contents in
-    let read = leads_by files (fitting_image_of settings.frames) MOST_IMAGE_BYTES image (after_debugged_image schedule script settings) work (bytes image) (known image (inl refl)) leads in
-    let steps = leads_by files (schedule_of (threads_for read.0 settings.job) MOST_DEBUGGED_STEPS) MOST_SCHEDULE_BYTES schedule (after_debugged script settings read.0) work (bytes schedule) (known schedule (inr (inl refl))) read.3 in
+    let read = leads_by files (fitting_image_of settings.frames) MOST_IMAGE_BYTES image (after_debug_image schedule script settings) work (bytes image) (known image (inl refl)) leads in
+    let steps = leads_by files (schedule_of (threads_for read.0 settings.job) MOST_DEBUGGED_STEPS) MOST_SCHEDULE_BYTES schedule (after_debug_schedule script settings read.0) work (bytes schedule) (known schedule (inr (inl refl))) read.3 in
     let asked = leads_by files script_of MOST_SCRIPT_BYTES script (answered settings read.0 steps.0) work (bytes script) (known script (inr (inr refl))) steps.3 in
     let guest = fitting_found settings (bytes image) read.0 read.2 read.1 in
     let inputs = inputs_of read.0 [] settings in

@@ -1,10 +1,24 @@
 -- What users are promised of a call's ending.
 use Rattle.std.proofs.Common.{◌≡◌, ◌⊎◌, inl, inr, ℕ, List, Option, Some, Result, Ok, Err, IfSome, refl, sym, subst, ap, ◌∙◌}
 use Rattle.lwc_io.specs.Outside.{MayBeContents}
-use Rattle.lwcrun_modes.specs.Ends.{End, Outside, Ended, IsUnhindered, end_by}
+use Rattle.lwcrun_modes.specs.Ends.{End, Outside, Ended, FetchFailed, WriteFailed}
 use Rattle.lwcrun_modes.specs.Ends as ends
-use Rattle.lwcrun_modes.specs.Plans.{Plan, FileContents, LeadsTo, Reads, AreKnown, outcome}
+use Rattle.lwcrun_modes.specs.Plans.{Plan, FileContents, LeadsTo, Reads, outcome}
 use Rattle.lwcrun_modes.specs.Plans as plans
+
+-- the files that the plan reads have these contents
+abbrev pub AreKnown : {R W : Type 0} → FileContents → Plan R W → (List ℕ → List ℕ) → Type 0
+AreKnown files p bytes = (q : List ℕ) → Reads files p q → files q ≡ Some (bytes q)
+
+-- no fetch of a file that the plan reads counted a fault, and no write did
+pub record IsUnhindered {R W : Type 0} (o : Outside) (p : Plan R W) : Type 0 where
+  pub files : (q : List ℕ) → Reads o.files.contents p q → FetchFailed o q → ⊥
+  pub out : WriteFailed o → ⊥
+
+-- the end of a plan that leads to this work or this refusal
+abbrev pub end_by : {R W : Type 0} → Result W R → End R
+end_by (Ok work) = ends.Done
+end_by (Err refusal) = ends.Refused refusal
 
 -- known contents are no others
 pub known_bytes : (contents : Option (List ℕ)) (known bytes : List ℕ) → contents ≡ Some known → MayBeContents contents bytes → known ≡ bytes

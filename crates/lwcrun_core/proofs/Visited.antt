@@ -3,9 +3,9 @@ use Rattle.std.proofs.Common.{◌≡◌, ◌⊎◌, inl, inr, ℕ, List, None, S
 use Rattle.lwcrun_core.specs.Calls.{CommandEnded, VisitedBy}
 use Rattle.lwcrun_modes.specs.Ends.{End, Ended, IsBeforeWork, Outside}
 use Rattle.lwcrun_modes.specs.Ends as ends
-use Rattle.lwcrun_modes.specs.Headline.{HaveVisited, IsText, Work, plan_of}
+use Rattle.lwcrun_modes.specs.Works.{HaveVisited, IsText, Work, plan_of}
 use Rattle.lwcrun_modes.specs.StreamEnds.{StreamEnded}
-use Rattle.lwcrun_modes.specs.Headline as works
+use Rattle.lwcrun_modes.specs.Works as works
 use Rattle.lwcrun_line.specs.Lines.{Command, IsStream}
 use Rattle.lwcrun_modes.specs.Plans.{Plan}
 use Rattle.lwcrun_core.specs.Statuses.{MayBeAnsweredAs, status_of, status_of_rejection}

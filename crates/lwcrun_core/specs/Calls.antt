@@ -31,15 +31,14 @@ use Rattle.lwc_vault.specs.Secrets.{KeepsSecret, beside}
 use Rattle.lwcrun_modes.specs.declared.ending.Rejection.{Rejection}
 use Rattle.lwcrun_core.specs.declared.status.ExitStatus.{ExitStatus}
 use Rattle.lwcrun_core.specs.declared.status.ExitStatus.TheVariants as statuses
-use Rattle.lwcrun_modes.specs.Ends.{End, Outside, Ended, FetchFailed, IsUnwritten, NothingFailed, WriteFailed}
+use Rattle.lwcrun_modes.specs.Ends.{End, Outside, Ended, FetchFailed, IsUnwritten, WriteFailed}
 use Rattle.lwcrun_modes.specs.Ends as ends
-use Rattle.lwc_text.specs.Report.{replies_text, report_of_schedule, stream_text}
-use Rattle.lwcrun_modes.specs.Headline.{HaveVisited, IsText, Work, inputs_of, plan_of}
-use Rattle.lwcrun_modes.specs.Headline as works
-use Rattle.lwcrun_modes.specs.Images.{serve_steps}
+use Rattle.lwc_text.specs.Report.{report_of_schedule, stream_text}
+use Rattle.lwcrun_modes.specs.Works.{HaveVisited, IsText, Work, inputs_of, plan_of}
+use Rattle.lwcrun_modes.specs.Inputs.{serve_steps}
 use Rattle.lwcrun_line.specs.Lines.{Command, IsStream}
 use Rattle.lwcrun_line.specs.Lines as commands
-use Rattle.lwcrun_modes.specs.Plans.{AreFetchesOf, FileContents, LeadsTo, Plan, outcome}
+use Rattle.lwcrun_modes.specs.Plans.{AreFetchesOf, FileContents, outcome}
 use Rattle.lwcrun_modes.specs.Reading.{Fetched}
 use Rattle.lwcrun_modes.specs.StreamEnds.{WroteReplies}
 use Rattle.lwcrun_core.specs.Serving.{EachHasReply, NoneIsShort, RepliesAreAlone, summary_alone}

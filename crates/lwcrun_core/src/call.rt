@@ -7,7 +7,7 @@ ghost use Rattle.lwcrun_core.specs.Calls.{FileFailed, Headline, IsOrNoMemory, Is
 ghost use Rattle.lwcrun_core.specs.Calls.{IsUndisturbed, VisitedBy, WroteOnlyReplies, status_by};
 ghost use Rattle.lwcrun_modes.specs.Ends as ends;
 ghost use Rattle.lwcrun_modes.specs.Ends.{Ended, IsBeforeWork, IsUnwritten, NothingFailed, WriteFailed};
-ghost use Rattle.lwcrun_modes.specs.Headline.{HaveVisited, plan_of};
+ghost use Rattle.lwcrun_modes.specs.Works.{HaveVisited, plan_of};
 ghost use Rattle.lwcrun_line.specs.Lines.{Command, IsWithinLimits, RunsThreads, asked_by, command_of};
 ghost use Rattle.lwcrun_modes.specs.Plans.{AreFetchesOf, ComesToWork, outcome};
 ghost use Rattle.lwcrun_modes.specs.Reading.{Fetched};
@@ -34,9 +34,9 @@ use thread_carrier::Gate;
 /// and `stream` alone, and only once all their inputs are accepted: the other modes are carried out in functions
 /// that have no handle of the runtime, and no leave to come to the gate is asked for before.
 ///
-/// `outcome` is the whole table: how the call ended, what holds then, and the message on `err`. The other
-/// clauses follow from it, each a promise by itself. `NoMemory` may always come, and then nothing was
-/// written, or, by a stream, all lines of replies.
+/// `outcome` is the whole table: how the call ended, what holds then, and the message on `err`. `visits`, `unvisited`
+/// and `fetches` stand beside it, and the other clauses follow from these, each a promise by itself. `NoMemory` may
+/// always come, and then nothing was written, or, by a stream, all lines of replies.
 pub fn lwcrun<R: Threads + Wait + Sync, F: Files, O: Sink, E: Sink, G: Gate>(
     rt: &R,
     alloc: Global,
@@ -231,10 +231,10 @@ fn carry_out<'a, R: Threads + Wait + Sync, F: Files, O: Sink, G: Gate>(
             requests,
             settings,
         } => serve(rt, alloc, files, out, gate, logs, image, requests, settings),
-        Line::Asm { source } => asm(alloc, files, out, source.as_str()),
-        Line::Dis { image } => dis(alloc, files, out, image.as_str()),
+        Line::Asm { source } => asm(alloc, files, out, source),
+        Line::Dis { image } => dis(alloc, files, out, image),
         Line::Gen { number } => serve_generated(rt, alloc, out, gate, logs, *number),
-        Line::Lift { image } => lift(alloc, files, out, image.as_str()),
+        Line::Lift { image } => lift(alloc, files, out, image),
         Line::Monitor {
             image,
             schedule,

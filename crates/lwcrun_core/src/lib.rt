@@ -1,5 +1,5 @@
-//! The call behind the program: it reads a line and the files that the line names, runs or serves what
-//! they ask for, and writes the report.
+//! The call behind the program: it reads the line, has its mode carried out, writes the message of how that ended,
+//! and returns the exit status.
 #![tactic(auto)]
 
 mod call;

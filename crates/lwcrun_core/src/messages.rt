@@ -1,4 +1,4 @@
-ghost use Rattle.std.specs.Prelude.{◌≡◌, ◌⊎◌, ◌++◌, ◌∷◌, [], IfOk, string_bytes, codes};
+ghost use Rattle.std.specs.Prelude.{◌≡◌, ◌⊎◌, IfOk, string_bytes};
 ghost use Rattle.lwcrun_modes.specs.Ends as ends;
 ghost use Rattle.lwcrun_modes.specs.Ends.{End};
 ghost use Rattle.lwcrun_core.specs.Statuses.{MayBeAnsweredAs, IsAnswered, Takes, message_of, rejection_words};

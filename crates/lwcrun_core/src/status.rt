@@ -14,9 +14,9 @@ pub enum ExitStatus {
     ReadFault,
     /// A write to the output failed.
     WriteFault,
-    /// The image is not in its grammar or limits.
+    /// The image or the source is not in its grammar or limits.
     ImageRefused,
-    /// The schedule, the requests or the vault are not in their grammar or limits.
+    /// The schedule, the requests, the vault or the script is not in its grammar or limits.
     InputRefused,
     /// The image, with the vault if there is one, has more pages than there are frames.
     ImageTooLarge,

@@ -31,7 +31,7 @@ use Rattle.lwcrun_modes.specs.declared.ending.Rejection.{Rejection}
 use Rattle.lwcrun_modes.specs.declared.ending.Rejection.TheVariants as rejections
 use Rattle.lwcrun_modes.specs.Ends.{End}
 use Rattle.lwcrun_modes.specs.Ends as ends
-use Rattle.lwcrun_modes.specs.Images.{bounded, bounded_requests_of, fitted, fitted_beside, image_of, or_rejected, requests_of, schedule_of, script_of, serve_steps, source_of, then_tested, vault_for, within_limit}
+use Rattle.lwcrun_modes.specs.Inputs.{bounded, bounded_requests_of, fitted, fitted_beside, image_of, or_rejected, requests_of, schedule_of, script_of, serve_steps, source_of, then_tested, vault_for, within_limit}
 use Rattle.lwcrun_modes.specs.Parts.{ReadsBy}
 use Rattle.lwcrun_modes.specs.Parts as parts
 use Rattle.lwcrun_modes.specs.Views.{end_of, error_end, found}

@@ -1,5 +1,5 @@
 -- How a stream's end follows from what its parts answered.
-use Rattle.std.proofs.Common.{◌≡◌, inl, inr, ℕ, Bool, false, true, List, Result, Ok, refl, sym, subst, ◌∙◌, ◌++◌}
+use Rattle.std.proofs.Common.{◌≡◌, inl, inr, ℕ, false, true, List, Result, Ok, refl, sym, subst, ◌∙◌}
 use Rattle.kernel_core.specs.Histories.{IsComplete}
 use Rattle.kernel_core.specs.Runs.{run}
 use Rattle.kernel_core.specs.Start.{Inputs, start}
@@ -9,8 +9,8 @@ use Rattle.lwc_text.specs.Report.{replies_text, stream_text}
 use Rattle.lwcrun_modes.specs.StreamEnds.{StreamEnded}
 use Rattle.lwcrun_modes.specs.Ends.{End}
 use Rattle.lwcrun_modes.specs.Ends as ends
-use Rattle.lwcrun_modes.specs.Headline.{HaveVisited, Work, read_by}
-use Rattle.lwcrun_modes.specs.Headline as works
+use Rattle.lwcrun_modes.specs.Works.{HaveVisited, Work, read_by}
+use Rattle.lwcrun_modes.specs.Works as works
 use Rattle.lwcrun_modes.specs.Parts.{ReadsBy}
 use Rattle.lwcrun_modes.specs.Parts as parts
 use Rattle.lwcrun_modes.specs.Plans.{Plan, LeadsTo, accepted}

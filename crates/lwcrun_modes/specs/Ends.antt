@@ -1,5 +1,5 @@
 -- How a call of the program ends, and what holds then.
-use Rattle.std.specs.Prelude.{◌≡◌, ℕ, List, Result, Ok, Err}
+use Rattle.std.specs.Prelude.{◌≡◌, ℕ, List, Ok, Err}
 use Rattle.lwc_io.specs.Outside.{CountsOneFault, FilesView, IsPartTaken, SinkView, appended}
 use Rattle.lwcrun_modes.specs.Plans.{Plan, LeadsTo, Reads}
 
@@ -62,13 +62,3 @@ Ended {R} {W} IsText o p Unwritten =
     × NoFetchFailed o
 Ended {R} {W} IsText o p (Refused refusal) =
     LeadsTo o.files.contents p (Err refusal) × IsUnwritten o × NoFetchFailed o
-
--- no fetch of a file that the plan reads counted a fault, and no write did
-pub record IsUnhindered {R W : Type 0} (o : Outside) (p : Plan R W) : Type 0 where
-  pub files : (q : List ℕ) → Reads o.files.contents p q → FetchFailed o q → ⊥
-  pub out : WriteFailed o → ⊥
-
--- the end of a plan that leads to this work or this refusal
-abbrev pub end_by : {R W : Type 0} → Result W R → End R
-end_by (Ok work) = Done
-end_by (Err refusal) = Refused refusal

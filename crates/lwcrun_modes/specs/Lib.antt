@@ -1,9 +1,9 @@
 pub use Rattle.lwc_io.specs.Outside
 pub mod Ends
-pub mod Headline
-pub mod Images
+pub mod Inputs
 pub mod Parts
 pub mod Plans
 pub mod Reading
 pub mod StreamEnds
 pub mod Views
+pub mod Works

@@ -1,5 +1,5 @@
 -- What a call of the program asks of the outside, one thing after another, and where that leads.
-use Rattle.std.specs.Prelude.{◌≡◌, ◌⊎◌, ◌<◌, ℕ, List, [], ◌++◌, Option, Some, Result, Ok, Err, All, OnOk}
+use Rattle.std.specs.Prelude.{◌≡◌, ◌⊎◌, ◌<◌, ℕ, List, [], ◌++◌, Option, Result, Ok, Err, All, OnOk}
 use Rattle.lwc_io.specs.Outside.{Fetch, MayBeContents}
 use Rattle.lwcrun_modes.specs.Reading.{ReadsOnward, ReadsToTheEnd}
 
@@ -54,7 +54,3 @@ abbrev pub outcome : {R W : Type 0} → (List ℕ → List ℕ) → Plan R W →
 outcome bytes (Read name limit next) = outcome bytes (next (bytes name))
 outcome bytes (Refuse refusal) = Err refusal
 outcome bytes (Write work) = Ok work
-
--- the files that the plan reads have these contents
-abbrev pub AreKnown : {R W : Type 0} → FileContents → Plan R W → (List ℕ → List ℕ) → Type 0
-AreKnown files p bytes = (q : List ℕ) → Reads files p q → files q ≡ Some (bytes q)

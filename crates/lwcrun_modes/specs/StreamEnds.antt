@@ -7,8 +7,8 @@ use Rattle.lwc_io.specs.Outside.{appended}
 use Rattle.lwc_text.specs.Report.{replies_text}
 use Rattle.lwcrun_modes.specs.Ends.{End, Outside, Ended, NothingFailed}
 use Rattle.lwcrun_modes.specs.Ends as ends
-use Rattle.lwcrun_modes.specs.Headline.{HaveVisited, Work}
-use Rattle.lwcrun_modes.specs.Headline as works
+use Rattle.lwcrun_modes.specs.Works.{HaveVisited, Work}
+use Rattle.lwcrun_modes.specs.Works as works
 use Rattle.lwcrun_modes.specs.Plans.{LeadsTo, Plan}
 use Rattle.lwcrun_modes.specs.declared.ending.Rejection.{Rejection}
 use Rattle.thread_carrier.specs.declared.visit.Visit.{Visit}

@@ -3,8 +3,8 @@ ghost use Rattle.guest_image.specs.Limits.{IsImage};
 ghost use Rattle.kernel_core.specs.Start.{threads_for};
 ghost use Rattle.lwc_debug.specs.Transcript.{transcript_of_schedule};
 ghost use Rattle.lwcrun_modes.specs.Ends.{Ended};
-ghost use Rattle.lwcrun_modes.specs.Headline.{IsText, after_debugged, after_debugged_image, debug_plan};
-ghost use Rattle.lwcrun_modes.specs.Headline.{inputs_of};
+ghost use Rattle.lwcrun_modes.specs.Works.{IsText, after_debug_schedule, after_debug_image, debug_plan};
+ghost use Rattle.lwcrun_modes.specs.Works.{inputs_of};
 ghost use Rattle.lwcrun_line.specs.Lines.{AreRunSettings};
 ghost use Rattle.lwcrun_modes.specs.Plans.{AreFetchesOf};
 ghost use Rattle.lwcrun_modes.specs.Reading.{Fetched};
@@ -63,9 +63,9 @@ fn debug_image<'a, F: Files, O: Sink>(
     requires settings { AreRunSettings settings.now }
     ensures ended { Ended IsText
         (outside (F.seen files.old) (F.seen files.new) (O.seen out.old) (O.seen out.new))
-        (after_debugged_image schedule.now script.now settings.now image.now) (end_of result) }
+        (after_debug_image schedule.now script.now settings.now image.now) (end_of result) }
     ensures fetches { Fetched (AreFetchesOf (F.seen files.old).contents
-        (after_debugged_image schedule.now script.now settings.now image.now))
+        (after_debug_image schedule.now script.now settings.now image.now))
         (F.seen files.old).fetches (F.seen files.new).fetches }
 {
     let threads = thread_count(image, settings.job);
@@ -91,9 +91,9 @@ fn debug_schedule<'a, F: Files, O: Sink>(
     requires threads { All (λ t. t < threads_for image.now settings.now.job) schedule.now }
     ensures ended { Ended IsText
         (outside (F.seen files.old) (F.seen files.new) (O.seen out.old) (O.seen out.new))
-        (after_debugged script.now settings.now image.now schedule.now) (end_of result) }
+        (after_debug_schedule script.now settings.now image.now schedule.now) (end_of result) }
     ensures fetches { Fetched (AreFetchesOf (F.seen files.old).contents
-        (after_debugged script.now settings.now image.now schedule.now))
+        (after_debug_schedule script.now settings.now image.now schedule.now))
         (F.seen files.old).fetches (F.seen files.new).fetches }
 {
     match script_in(alloc, files, script) {

@@ -15,8 +15,8 @@ pub enum Rejection {
     /// The source is not in its grammar, or the image that it makes is not: the rule that it breaks first,
     /// and the offset in the source or, for a rule of images, in the image.
     Source { rule: SourceRule, at: u64 },
-    /// The schedule, the requests or the vault are not in their grammar or limits: the rule that they break
-    /// first, and the offset where they do.
+    /// The schedule, the requests, the vault or the script is not in its grammar or limits: the rule that it
+    /// breaks first, and the offset where it does.
     Input { rule: InputRule, at: u64 },
     /// The image, with the vault if there is one, has more pages than there are frames.
     TooLarge { pages: u32, frames: u32 },
@@ -64,7 +64,7 @@ impl<'a> From<SourceError> for Ending<'a> {
 impl<'a> From<InputFault> for Ending<'a> {
     ghost from_gives = { λ fault ending. end_of ending ≡ error_end rejections.Input fault };
 
-    /// The end of a call whose schedule, requests or vault were not read.
+    /// The end of a call whose schedule, requests, vault or script were not read.
     fn from(fault: InputFault) -> Ending<'a> {
         match fault {
             InputFault::OutOfMemory => Ending::NoMemory,

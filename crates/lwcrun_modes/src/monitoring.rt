@@ -1,7 +1,7 @@
 ghost use Rattle.std.specs.Prelude.{◌≤◌, length};
 ghost use Rattle.guest_image.specs.Limits.{IsImage};
 ghost use Rattle.lwcrun_modes.specs.Ends.{Ended};
-ghost use Rattle.lwcrun_modes.specs.Headline.{IsText, after_monitored, monitor_plan};
+ghost use Rattle.lwcrun_modes.specs.Works.{IsText, after_monitor_image, monitor_plan};
 ghost use Rattle.lwcrun_line.specs.Lines.{AreRunSettings};
 ghost use Rattle.lwcrun_modes.specs.Plans.{AreFetchesOf};
 ghost use Rattle.lwcrun_modes.specs.Reading.{Fetched};
@@ -57,9 +57,9 @@ fn monitor_image<'a, F: Files, O: Sink>(
     requires settings { AreRunSettings settings.now }
     ensures ended { Ended IsText
         (outside (F.seen files.old) (F.seen files.new) (O.seen out.old) (O.seen out.new))
-        (after_monitored schedule.now settings.now image.now) (end_of result) }
+        (after_monitor_image schedule.now settings.now image.now) (end_of result) }
     ensures fetches { Fetched
-        (AreFetchesOf (F.seen files.old).contents (after_monitored schedule.now settings.now image.now))
+        (AreFetchesOf (F.seen files.old).contents (after_monitor_image schedule.now settings.now image.now))
         (F.seen files.old).fetches (F.seen files.new).fetches }
 {
     match schedule_in(

@@ -1,4 +1,4 @@
-ghost use Rattle.std.specs.Prelude.{◌≡◌, ◌≢◌, ◌<◌, ◌≤◌, ◌^◌, ◌+◌, ◌++◌, ◌∷◌, [], ℕ, List, Option, Some, All};
+ghost use Rattle.std.specs.Prelude.{◌≡◌, ◌≢◌, ◌<◌, ◌≤◌, ◌^◌, ◌+◌, ◌++◌, ◌∷◌, [], ℕ, Option, Some, All};
 ghost use Rattle.std.specs.Prelude.{length, IfOk, IfErr, OnOk, vec_len};
 ghost use Rattle.lwc_io.specs.Outside.{CountsOneFault, MayBeContents};
 ghost use Rattle.lwcrun_modes.specs.Reading.{Fetched, MayBeginWith, MayExceed, ReadsOnward, ReadsToTheEnd};
@@ -49,16 +49,10 @@ pub fn read_whole<F: Files>(
         (F.seen files.old).fetches (F.seen files.new).fetches) }
 {
     let mut bytes = Vec::new(alloc);
-    let mut buffer = match buffer_of(alloc, CHUNK) {
-        Ok(buffer) => buffer,
-        Err(stop) => return Err(stop),
-    };
+    let mut buffer = buffer_of(alloc, CHUNK)?;
     while bytes.len() <= limit {
         let most = next_count(limit, bytes.len());
-        let count = match read_piece(files, name, &mut bytes, &mut buffer, most) {
-            Ok(count) => count,
-            Err(stop) => return Err(stop),
-        };
+        let count = read_piece(files, name, &mut bytes, &mut buffer, most)?;
         if count == 0 {
             return Ok(bytes);
         }

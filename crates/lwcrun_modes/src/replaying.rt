@@ -1,15 +1,12 @@
-ghost use Rattle.std.specs.Prelude.{◌≡◌, ◌<◌, ◌≤◌, ℕ, List, [], All, IfOk, OnOk, length, option_map};
+ghost use Rattle.std.specs.Prelude.{◌≡◌, ◌<◌, ◌≤◌, All, IfOk, length, option_map};
 ghost use Rattle.guest_image.specs.Limits.{IsImage};
 ghost use Rattle.lwc_base.specs.declared.limits.TheConstants.{MOST_STEPS};
-ghost use Rattle.lwc_io.specs.Outside.{FilesView};
 ghost use Rattle.kernel_core.specs.Kernel.{CanOpen};
-ghost use Rattle.kernel_core.specs.Start.{start, thread_count, threads_for};
+ghost use Rattle.kernel_core.specs.Start.{thread_count, threads_for};
 ghost use Rattle.lwcrun_modes.specs.Ends.{Ended};
-ghost use Rattle.lwcrun_modes.specs.Headline.{IsText, after_image, after_schedule, inputs_of, replay_plan};
+ghost use Rattle.lwcrun_modes.specs.Works.{IsText, after_replay_image, after_replay_schedule, inputs_of, replay_plan};
 ghost use Rattle.lwc_text.specs.Report.{report_of_schedule};
-ghost use Rattle.lwcrun_modes.specs.Headline as works;
 ghost use Rattle.lwcrun_line.specs.Lines.{AreReplaySettings};
-ghost use Rattle.lwcrun_modes.specs.Plans as plans;
 ghost use Rattle.lwcrun_modes.specs.Plans.{AreFetchesOf};
 ghost use Rattle.lwcrun_modes.specs.Reading.{Fetched};
 ghost use Rattle.lwcrun_modes.specs.Views.{end_of, outside};
@@ -66,10 +63,10 @@ fn replay_image<'a, F: Files, O: Sink>(
     requires settings { AreReplaySettings requests settings.now }
     ensures ended { Ended IsText
         (outside (F.seen files.old) (F.seen files.new) (O.seen out.old) (O.seen out.new))
-        (after_image schedule.now (option_map (λ s. s.now) requests.entry) settings.now image.now)
+        (after_replay_image schedule.now (option_map (λ s. s.now) requests.entry) settings.now image.now)
         (end_of result) }
     ensures fetches { Fetched (AreFetchesOf (F.seen files.old).contents
-        (after_image schedule.now (option_map (λ s. s.now) requests.entry) settings.now image.now))
+        (after_replay_image schedule.now (option_map (λ s. s.now) requests.entry) settings.now image.now))
         (F.seen files.old).fetches (F.seen files.new).fetches }
 {
     match schedule_in(
@@ -101,10 +98,10 @@ fn replay_schedule<'a, F: Files, O: Sink>(
     requires short { length schedule.now ≤ MOST_STEPS }
     ensures ended { Ended IsText
         (outside (F.seen files.old) (F.seen files.new) (O.seen out.old) (O.seen out.new))
-        (after_schedule (option_map (λ s. s.now) requests.entry) settings.now image.now schedule.now)
+        (after_replay_schedule (option_map (λ s. s.now) requests.entry) settings.now image.now schedule.now)
         (end_of result) }
     ensures fetches { Fetched (AreFetchesOf (F.seen files.old).contents
-        (after_schedule (option_map (λ s. s.now) requests.entry) settings.now image.now schedule.now))
+        (after_replay_schedule (option_map (λ s. s.now) requests.entry) settings.now image.now schedule.now))
         (F.seen files.old).fetches (F.seen files.new).fetches }
 {
     match requests {

@@ -1,4 +1,4 @@
-ghost use Rattle.std.specs.Prelude.{◌≡◌, ◌<◌, ◌≤◌, ℕ, List, Err, IfErr, IfOk, Some};
+ghost use Rattle.std.specs.Prelude.{◌≡◌, ◌<◌, ◌≤◌, ℕ, Err, IfErr, IfOk, Some};
 ghost use Rattle.std.specs.Prelude.{length, map, slice_get};
 ghost use Rattle.guest_image.specs.Limits.{IsImage};
 ghost use Rattle.lwc_base.specs.declared.limits.TheConstants.{MOST_STEPS, MOST_THREADS};
@@ -8,9 +8,9 @@ ghost use Rattle.kernel_core.specs.Settings.{IsSettings};
 ghost use Rattle.kernel_core.specs.Start.{start};
 ghost use Rattle.lwcrun_modes.specs.Ends.{Ended, IsBeforeWork};
 ghost use Rattle.lwc_io.specs.Outside.{FilesView};
-ghost use Rattle.lwcrun_modes.specs.Headline.{HaveVisited, after_server, gen_plan, inputs_of, run_plan};
-ghost use Rattle.lwcrun_modes.specs.Headline.{serve_plan};
-ghost use Rattle.lwcrun_modes.specs.Headline as works;
+ghost use Rattle.lwcrun_modes.specs.Works.{HaveVisited, after_server, gen_plan, inputs_of, run_plan};
+ghost use Rattle.lwcrun_modes.specs.Works.{serve_plan};
+ghost use Rattle.lwcrun_modes.specs.Works as works;
 ghost use Rattle.lwcrun_line.specs.Lines.{AreRunSettings, AreServeSettings};
 ghost use Rattle.lwcrun_modes.specs.Plans.{AreFetchesOf, ComesToWork};
 ghost use Rattle.lwcrun_modes.specs.Reading.{Fetched};
@@ -117,14 +117,14 @@ fn serve_image<'a, R: Threads + Wait + Sync, F: Files, O: Sink, G: Gate>(
     requires fits { length image.now.pages ≤ settings.now.frames }
     requires settings { AreServeSettings settings.now }
     requires leave { ComesToWork (F.seen files.old).contents
-        (after_server requests.now settings.now image.now) → G.leave gate.now }
+        (after_server works.Running requests.now settings.now image.now) → G.leave gate.now }
     requires logs { MOST_THREADS ≤ length logs.old.items }
     ensures ended { Ended (HaveVisited (map G.visits logs.old.items) (map G.visits logs.new.items))
         (outside (F.seen files.old) (F.seen files.new) (O.seen out.old) (O.seen out.new))
-        (after_server requests.now settings.now image.now) (end_of result) }
+        (after_server works.Running requests.now settings.now image.now) (end_of result) }
     ensures unvisited { IsBeforeWork (end_of result) → logs.new ≡ logs.old }
     ensures fetches { Fetched
-        (AreFetchesOf (F.seen files.old).contents (after_server requests.now settings.now image.now))
+        (AreFetchesOf (F.seen files.old).contents (after_server works.Running requests.now settings.now image.now))
         (F.seen files.old).fetches (F.seen files.new).fetches }
 {
     match bounded_requests_in(alloc, files, requests, settings) {
@@ -198,9 +198,9 @@ fn summary_of<R: Threads + Wait + Sync, W: World, G: Gate>(
 {
     let kernel = run_threads(rt, alloc, process, passes, gate, logs)?;
     let text = summary(alloc, number, &kernel);
-    // Let go here, once for both ways out.
+    // Dropped here, and not on each way out.
     drop(kernel);
-    Ok(text?)
+    text
 }
 
 /// The report of the steps that the threads make, each going on by itself to its end.
@@ -244,9 +244,9 @@ fn report_of<R: Threads + Wait + Sync, W: World, G: Gate>(
 {
     let kernel = run_threads(rt, alloc, process, passes, gate, logs)?;
     let text = report(alloc, &kernel);
-    // Let go here, once for both ways out.
+    // Dropped here, and not on each way out.
     drop(kernel);
-    Ok(text?)
+    text
 }
 
 /// A process at the start of an image, with a pass for each of its threads, and with room for just the steps

@@ -1,6 +1,5 @@
-ghost use Rattle.std.specs.Prelude.{◌≡◌};
 ghost use Rattle.lwcrun_modes.specs.Ends.{Ended};
-ghost use Rattle.lwcrun_modes.specs.Headline.{IsText, asm_plan, dis_plan, lift_plan};
+ghost use Rattle.lwcrun_modes.specs.Works.{IsText, asm_plan, dis_plan, lift_plan};
 ghost use Rattle.lwcrun_modes.specs.Plans.{AreFetchesOf};
 ghost use Rattle.lwcrun_modes.specs.Reading.{Fetched};
 ghost use Rattle.lwcrun_modes.specs.Views.{end_of, outside};

@@ -11,8 +11,8 @@ ghost use Rattle.lwc_stream.specs.Replies.{IsWritten};
 ghost use Rattle.lwc_text.specs.Report.{replies_text};
 ghost use Rattle.lwcrun_modes.specs.StreamEnds.{StreamEnded};
 ghost use Rattle.lwcrun_modes.specs.Ends.{IsBeforeWork};
-ghost use Rattle.lwcrun_modes.specs.Headline as works;
-ghost use Rattle.lwcrun_modes.specs.Headline.{after_streamer, inputs_of, stream_plan};
+ghost use Rattle.lwcrun_modes.specs.Works as works;
+ghost use Rattle.lwcrun_modes.specs.Works.{after_server, inputs_of, stream_plan};
 ghost use Rattle.lwcrun_line.specs.Lines.{AreServeSettings};
 ghost use Rattle.lwcrun_modes.specs.Plans as plans;
 ghost use Rattle.lwcrun_modes.specs.Plans.{AreFetchesOf, ComesToWork};
@@ -86,14 +86,14 @@ fn stream_image<'a, R: Threads + Wait + Sync, F: Files, O: Sink, G: Gate>(
     requires fits { length image.now.pages ≤ settings.now.frames }
     requires settings { AreServeSettings settings.now }
     requires leave { ComesToWork (F.seen files.old).contents
-        (after_streamer requests.now settings.now image.now) → G.leave gate.now }
+        (after_server works.Streaming requests.now settings.now image.now) → G.leave gate.now }
     requires logs { MOST_THREADS ≤ length logs.old.items }
     ensures ended { StreamEnded (map G.visits logs.old.items) (map G.visits logs.new.items)
         (outside (F.seen files.old) (F.seen files.new) (O.seen out.old) (O.seen out.new))
-        (after_streamer requests.now settings.now image.now) (end_of result) }
+        (after_server works.Streaming requests.now settings.now image.now) (end_of result) }
     ensures unvisited { IsBeforeWork (end_of result) → logs.new ≡ logs.old }
     ensures fetches { Fetched
-        (AreFetchesOf (F.seen files.old).contents (after_streamer requests.now settings.now image.now))
+        (AreFetchesOf (F.seen files.old).contents (after_server works.Streaming requests.now settings.now image.now))
         (F.seen files.old).fetches (F.seen files.new).fetches }
 {
     match bounded_requests_in(alloc, files, requests, settings) {

@@ -6,7 +6,7 @@ ghost use Rattle.lwc_base.specs.declared.limits.TheConstants.{MOST_STEPS};
 ghost use Rattle.lwc_text.specs.Report.{report_of_schedule};
 ghost use Rattle.lwc_vault.specs.Secrets.{beside};
 ghost use Rattle.lwcrun_modes.specs.Ends.{Ended};
-ghost use Rattle.lwcrun_modes.specs.Headline.{IsText, after_vault, after_vault_image, inputs_of, vault_plan};
+ghost use Rattle.lwcrun_modes.specs.Works.{IsText, after_vault, after_vault_image, inputs_of, vault_plan};
 ghost use Rattle.lwcrun_line.specs.Lines.{AreRunSettings};
 ghost use Rattle.lwcrun_modes.specs.Plans.{AreFetchesOf};
 ghost use Rattle.lwcrun_modes.specs.Reading.{Fetched};

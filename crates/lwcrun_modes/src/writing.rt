@@ -1,7 +1,7 @@
 ghost use Rattle.std.specs.Prelude.{List, IfOk};
 ghost use Rattle.lwc_io.specs.Outside.{FilesView};
 ghost use Rattle.lwcrun_modes.specs.Ends.{Ended, IsBeforeWork};
-ghost use Rattle.lwcrun_modes.specs.Headline.{HaveVisited, IsText, Work};
+ghost use Rattle.lwcrun_modes.specs.Works.{HaveVisited, IsText, Work};
 ghost use Rattle.lwcrun_modes.specs.Plans as plans;
 ghost use Rattle.lwcrun_modes.specs.Views.{end_of, outside};
 ghost use Rattle.thread_carrier.specs.declared.visit.Visit.{Visit};

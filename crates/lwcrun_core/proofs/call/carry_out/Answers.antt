@@ -1,6 +1,6 @@
 use Rattle.std.proofs.Common.{◌≡◌, ℕ, inl, refl, sym, subst}
-use Rattle.lwcrun_modes.specs.Headline as works
-use Rattle.lwcrun_modes.specs.Headline.{gen_plan, plan_of}
+use Rattle.lwcrun_modes.specs.Works as works
+use Rattle.lwcrun_modes.specs.Works.{gen_plan, plan_of}
 use Rattle.lwcrun_line.specs.Lines as commands
 use Rattle.lwcrun_line.specs.Lines.{RunsThreads, asked_by}
 use Rattle.lwcrun_modes.specs.Plans.{ComesToWork, FileContents}

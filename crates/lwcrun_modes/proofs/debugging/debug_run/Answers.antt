@@ -1,5 +1,5 @@
 use Rattle.std.proofs.Common.{refl}
-use Rattle.lwcrun_modes.specs.Headline.{IsText, debug_plan}
+use Rattle.lwcrun_modes.specs.Works.{IsText, debug_plan}
 use Rattle.lwcrun_modes.proofs.Follows.{fetches_on, fetches_stop, reads_on, stops_reading}
 use Rattle.lwcrun_modes.proofs.debugging.debug_run.Goals as goal
 

@@ -1,7 +1,7 @@
 use Rattle.std.proofs.Common.{◌≡◌, ◌≤◌, ◌<◌, ◌∙◌, Err, ap, sym, length, arith}
 use Rattle.lwc_text.specs.declared.fault.InputRule.TheVariants as inputs
 use Rattle.lwc_base.specs.declared.limits.TheConstants.{MOST_STEPS}
-use Rattle.lwcrun_modes.specs.Images.{bounded_requests_of, serve_steps}
+use Rattle.lwcrun_modes.specs.Inputs.{bounded_requests_of, serve_steps}
 use Rattle.lwcrun_modes.specs.declared.ending.Rejection.TheVariants as rejections
 use Rattle.lwcrun_modes.proofs.Readers.{bounded_limited, fails_so, handed_on, passed, rejected, requests_bounded, requests_refused, too_much_work}
 use Rattle.lwcrun_modes.proofs.inputs.bounded_requests_in.Goals as goal

@@ -1,5 +1,5 @@
 use Rattle.std.proofs.Common.{◌≡◌, ◌≤◌, List, ℕ, length, refl, arith}
-use Rattle.lwcrun_modes.specs.Images.{fitting_image_of, image_of, then_tested, fitted}
+use Rattle.lwcrun_modes.specs.Inputs.{fitting_image_of, image_of, then_tested, fitted}
 use Rattle.lwcrun_modes.proofs.Readers.{handed_on, image_fits, image_too_large, passed, rejected}
 use Rattle.lwcrun_modes.proofs.inputs.fitting_image_in.Goals as goal
 

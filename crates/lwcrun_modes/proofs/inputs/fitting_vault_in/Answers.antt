@@ -1,6 +1,6 @@
 use Rattle.std.proofs.Common.{◌≡◌, ◌∙◌, ◌≤◌, ◌+◌, List, ℕ, ap₂, length, refl, sym, arith}
 use Rattle.guest_image.specs.declared.image.Image.{Image}
-use Rattle.lwcrun_modes.specs.Images.{fitted_beside, fitting_vault_for, then_tested, vault_for}
+use Rattle.lwcrun_modes.specs.Inputs.{fitted_beside, fitting_vault_for, then_tested, vault_for}
 use Rattle.lwcrun_modes.proofs.Readers.{fits_beside, handed_on, passed, rejected, slot_is_taken, too_large_beside}
 use Rattle.lwcrun_modes.proofs.inputs.fitting_vault_in.Goals as goal
 

@@ -1,4 +1,4 @@
-use Rattle.lwcrun_modes.specs.Images.{image_of}
+use Rattle.lwcrun_modes.specs.Inputs.{image_of}
 use Rattle.lwcrun_modes.specs.declared.ending.Rejection.TheVariants as rejections
 use Rattle.lwcrun_modes.proofs.Readers.{fails_so, handed_on, image_limited, or_rejected_err, passed, image_read}
 use Rattle.lwcrun_modes.proofs.inputs.image_in.Goals as goal

@@ -1,4 +1,4 @@
-use Rattle.lwcrun_modes.specs.Images.{requests_of}
+use Rattle.lwcrun_modes.specs.Inputs.{requests_of}
 use Rattle.lwcrun_modes.specs.declared.ending.Rejection.TheVariants as rejections
 use Rattle.lwcrun_modes.proofs.Readers.{fails_so, handed_on, requests_limited, or_rejected_err, passed, requests_read}
 use Rattle.lwcrun_modes.proofs.inputs.requests_in.Goals as goal

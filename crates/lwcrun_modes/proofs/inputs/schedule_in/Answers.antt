@@ -1,4 +1,4 @@
-use Rattle.lwcrun_modes.specs.Images.{schedule_of}
+use Rattle.lwcrun_modes.specs.Inputs.{schedule_of}
 use Rattle.lwcrun_modes.specs.declared.ending.Rejection.TheVariants as rejections
 use Rattle.lwcrun_modes.proofs.Readers.{fails_so, handed_on, schedule_limited, or_rejected_err, passed, schedule_read}
 use Rattle.lwcrun_modes.proofs.inputs.schedule_in.Goals as goal

@@ -1,4 +1,4 @@
-use Rattle.lwcrun_modes.specs.Images.{script_of}
+use Rattle.lwcrun_modes.specs.Inputs.{script_of}
 use Rattle.lwcrun_modes.specs.declared.ending.Rejection.TheVariants as rejections
 use Rattle.lwcrun_modes.proofs.Readers.{fails_so, handed_on, or_rejected_err, passed, script_limited, script_read}
 use Rattle.lwcrun_modes.proofs.inputs.script_in.Goals as goal

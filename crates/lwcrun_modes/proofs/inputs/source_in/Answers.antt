@@ -1,4 +1,4 @@
-use Rattle.lwcrun_modes.specs.Images.{source_of}
+use Rattle.lwcrun_modes.specs.Inputs.{source_of}
 use Rattle.lwcrun_modes.specs.declared.ending.Rejection.TheVariants as rejections
 use Rattle.lwcrun_modes.proofs.Readers.{fails_so, handed_on, source_limited, or_rejected_err, passed, source_read}
 use Rattle.lwcrun_modes.proofs.inputs.source_in.Goals as goal

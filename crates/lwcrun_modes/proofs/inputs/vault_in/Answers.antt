@@ -1,4 +1,4 @@
-use Rattle.lwcrun_modes.specs.Images.{vault_for}
+use Rattle.lwcrun_modes.specs.Inputs.{vault_for}
 use Rattle.lwcrun_modes.specs.declared.ending.Rejection.TheVariants as rejections
 use Rattle.lwcrun_modes.proofs.Readers.{fails_so, handed_on, or_rejected_err, passed, vault_limited, vault_read}
 use Rattle.lwcrun_modes.proofs.inputs.vault_in.Goals as goal

@@ -3,21 +3,21 @@ use Rattle.lwcrun_modes.proofs.Fetches.{fetched_next, fetched_so_far, fetched_to
 use Rattle.lwcrun_modes.proofs.reading.read_whole.Goals as goal
 
 pub loop-bytes-init : goal.loop-bytes-init
-loop-bytes-init g c = nothing_read _ _ _ _ _ c.new-bytes.ensures.items c.in-Ok.ensures.bytes
+loop-bytes-init g c = nothing_read _ _ _ _ _ c.new-bytes.ensures.items c.in_ok-buffer.ensures.bytes
 
 pub loop-bytes-preserved : goal.loop-bytes-preserved
 loop-bytes-preserved g c =
     let is_at : vec_len c.loop-bytes.bytes ≡ length c.loop-bytes.bytes.items = omega arith in
     let fits : vec_len c.loop-bytes.bytes + c.next_count-most.result ≤ c.args.limit + 1 = omega arith in
     let short : length c.read_piece.new.bytes.items ≤ c.args.limit + 1 =
-    omega (arith, c.in-Ok-read_piece.ensures.longer, c.in-Ok-read_piece.ensures.count) in
-    let logged = c.in-Ok-read_piece.ensures.logged in
-    let grows : length c.read_piece.new.bytes.items ≡ length c.loop-bytes.bytes.items + c.in-Ok-read_piece.count = omega (arith, c.in-Ok-read_piece.ensures.longer) in
-    let any : 0 < c.in-Ok-read_piece.count = omega arith in
-    more_read _ _ _ _ _ _ _ _ _ logged.0 c.loop-bytes.invariant is_at logged.1 c.next_count-most.ensures.some fits _ _ c.in-Ok-read_piece.ensures.front short _ logged.2 grows any c.read_piece.ensures.same (c.in-Ok-read_piece.ensures.no_fault (λ is. absurd cc)) refl
+    omega (arith, c.in_ok-count.ensures.longer, c.in_ok-count.ensures.count) in
+    let logged = c.in_ok-count.ensures.logged in
+    let grows : length c.read_piece.new.bytes.items ≡ length c.loop-bytes.bytes.items + c.in_ok-count.count = omega (arith, c.in_ok-count.ensures.longer) in
+    let any : 0 < c.in_ok-count.count = omega arith in
+    more_read _ _ _ _ _ _ _ _ _ logged.0 c.loop-bytes.invariant is_at logged.1 c.next_count-most.ensures.some fits _ _ c.in_ok-count.ensures.front short _ logged.2 grows any c.read_piece.ensures.same (c.in_ok-count.ensures.no_fault (λ is. absurd cc)) refl
 
-pub returns-in-Err-read_piece-clause-fetches : goal.returns-in-Err-read_piece-clause-fetches
-returns-in-Err-read_piece-clause-fetches g c =
+pub returns-in_err-count-clause-fetches : goal.returns-in_err-count-clause-fetches
+returns-in_err-count-clause-fetches g c =
     let is_at : vec_len c.loop-bytes.bytes ≡ length c.loop-bytes.bytes.items = omega arith in
     let fits : vec_len c.loop-bytes.bytes + c.next_count-most.result ≤ c.args.limit + 1 = omega arith in
     fetched_next _ _ (g.F.Files.seen c.read_piece.new.files) _ _ _ _ _ _ c.read_piece.ensures.logged.0 c.loop-bytes.invariant is_at c.read_piece.ensures.logged.1 c.next_count-most.ensures.some fits
@@ -32,8 +32,8 @@ pub returns-then-count-eq0-clause-whole : goal.returns-then-count-eq0-clause-who
 returns-then-count-eq0-clause-whole g c =
     let is_at : vec_len c.loop-bytes.bytes ≡ length c.loop-bytes.bytes.items = omega arith in
     let fits : vec_len c.loop-bytes.bytes + c.next_count-most.result ≤ c.args.limit + 1 = omega arith in
-    let logged = c.in-Ok-read_piece.ensures.logged in
-    let end : c.in-Ok-read_piece.count ≡ 0 = omega arith in
+    let logged = c.in_ok-count.ensures.logged in
+    let end : c.in_ok-count.count ≡ 0 = omega arith in
     fetched_to_the_end _ _ (g.F.Files.seen c.read_piece.new.files) _ _ _ _ _ _ logged.0 c.loop-bytes.invariant is_at logged.1 c.next_count-most.ensures.some fits (logged.2 ∙ ap Some end)
 
 pub returns-clause-too_long : goal.returns-clause-too_long

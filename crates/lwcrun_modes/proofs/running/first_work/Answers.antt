@@ -1,7 +1,7 @@
 use Rattle.std.proofs.Common.{refl, sym, ap, ◌∙◌, ◌*◌}
 use Rattle.kernel_core.proofs.Others.{work_at_serve, work_at_start}
-use Rattle.lwcrun_modes.specs.Headline.{inputs_of}
-use Rattle.lwcrun_modes.specs.Images.{serve_steps}
+use Rattle.lwcrun_modes.specs.Works.{inputs_of}
+use Rattle.lwcrun_modes.specs.Inputs.{serve_steps}
 use Rattle.lwcrun_modes.proofs.running.first_work.Goals as goal
 
 pub returns-in-Run : goal.returns-in-Run

@@ -8,7 +8,7 @@ use Rattle.kernel_core.specs.Start.{Inputs, thread_count, threads_for}
 use Rattle.kernel_core.specs.declared.settings.Job.{Job}
 use Rattle.kernel_core.specs.declared.settings.Job.TheVariants as jobs
 use Rattle.lwc_base.specs.declared.limits.TheConstants.{MOST_THREADS}
-use Rattle.lwcrun_modes.specs.Headline.{inputs_of}
+use Rattle.lwcrun_modes.specs.Works.{inputs_of}
 use Rattle.lwcrun_modes.proofs.running.open_process.Goals as goal
 
 pub open-requires-2-clause-room : goal.open-requires-2-clause-room

@@ -1,4 +1,5 @@
 use Rattle.std.proofs.Common.{sym}
+use Rattle.std.proofs.lemmas.Result.{IfOk-weaker}
 use Rattle.lwc_text.proofs.Replays.{text_is}
 use Rattle.lwcrun_modes.proofs.running.report_of.Goals as goal
 
@@ -6,4 +7,5 @@ pub returns : goal.returns
 returns g c =
     let made = c.in_ok-kernel.kernel in
     let complete = c.in_ok-kernel.ensures.complete in
-    (made.steps, complete, text_is made c.args.process.name made.steps _ c.in_ok-kernel.ensures.inputs (sym complete.legal) c.in_ok-text.ensures.exact, c.in_ok-kernel.ensures.visits)
+    IfOk-weaker c.report-text.result _ _ (λ text exact.
+    (made.steps, complete, text_is made c.args.process.name made.steps _ c.in_ok-kernel.ensures.inputs (sym complete.legal) exact, c.in_ok-kernel.ensures.visits)) c.report-text.ensures.exact

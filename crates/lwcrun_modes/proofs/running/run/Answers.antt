@@ -1,8 +1,8 @@
 use Rattle.std.proofs.Common.{◌≡◌, ◌≤◌, ◌*◌, ◌∙◌, IfOk, List, [], ℕ, length, map, refl, subst, arith}
 use Rattle.std.proofs.Math.Nat.{mul-le-mul_left, mul-le-mul_right}
 use Rattle.lwc_base.specs.declared.limits.TheConstants.{MOST_BUDGET, MOST_IMAGE_BYTES, MOST_THREADS}
-use Rattle.lwcrun_modes.specs.Headline.{HaveVisited, IsText, inputs_of, run_plan}
-use Rattle.lwcrun_modes.specs.Headline as works
+use Rattle.lwcrun_modes.specs.Works.{HaveVisited, IsText, inputs_of, run_plan}
+use Rattle.lwcrun_modes.specs.Works as works
 use Rattle.lwcrun_modes.specs.Plans as plans
 use Rattle.guest_image.specs.declared.image.Image.{Image}
 use Rattle.kernel_core.proofs.Others.{work_at_start}

@@ -1,5 +1,5 @@
-use Rattle.lwcrun_modes.specs.Headline as works
-use Rattle.lwcrun_modes.specs.Headline.{gen_plan}
+use Rattle.lwcrun_modes.specs.Works as works
+use Rattle.lwcrun_modes.specs.Works.{gen_plan}
 use Rattle.lwcrun_modes.proofs.running.serve_generated.Goals as goal
 
 pub returns-clause-ended : goal.returns-clause-ended

@@ -1,9 +1,9 @@
 use Rattle.std.proofs.Common.{◌≡◌, ℕ, List, refl, ap, arith}
 use Rattle.lwc_base.specs.declared.limits.TheConstants.{MOST_REQUEST_FILE_BYTES}
-use Rattle.lwcrun_modes.specs.Headline.{HaveVisited, IsText, after_server, inputs_of}
-use Rattle.lwcrun_modes.specs.Headline as works
+use Rattle.lwcrun_modes.specs.Works.{HaveVisited, IsText, after_server, inputs_of}
+use Rattle.lwcrun_modes.specs.Works as works
 use Rattle.lwcrun_modes.specs.Plans as plans
-use Rattle.lwcrun_modes.specs.Images.{worker_count}
+use Rattle.lwcrun_modes.specs.Inputs.{worker_count}
 use Rattle.kernel_core.proofs.Others.{work_at_serve}
 use Rattle.lwcrun_modes.proofs.Fetches.{nothing_fetched}
 use Rattle.lwcrun_modes.proofs.Follows.{comes_on, fetches_on, fetches_stop, reads_on, stops_reading}

@@ -1,5 +1,5 @@
 use Rattle.std.proofs.Common.{refl}
-use Rattle.lwcrun_modes.specs.Headline.{IsText, dis_plan}
+use Rattle.lwcrun_modes.specs.Works.{IsText, dis_plan}
 use Rattle.lwcrun_modes.proofs.Fetches.{nothing_fetched}
 use Rattle.lwcrun_modes.proofs.Follows.{fetches_on, fetches_stop, reads_on, stops_reading}
 use Rattle.lwcrun_modes.proofs.sources.dis.Goals as goal

@@ -2,7 +2,7 @@ use Rattle.std.proofs.Common.{◌≡◌, refl, subst}
 use Rattle.std.specs.Prelude.{IfOk}
 use Rattle.guest_image.specs.Spelling.{spelling}
 use Rattle.guest_image.specs.declared.image.Image.{Image}
-use Rattle.lwcrun_modes.specs.Headline.{IsText, lift_plan}
+use Rattle.lwcrun_modes.specs.Works.{IsText, lift_plan}
 use Rattle.lwcrun_modes.proofs.Fetches.{nothing_fetched}
 use Rattle.lwcrun_modes.proofs.Follows.{fetches_on, fetches_stop, reads_on, stops_reading}
 use Rattle.lwcrun_modes.proofs.sources.lift.Goals as goal

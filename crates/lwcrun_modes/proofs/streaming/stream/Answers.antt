@@ -1,13 +1,14 @@
 use Rattle.std.proofs.Common.{inl, refl}
 use Rattle.lwc_base.specs.declared.limits.TheConstants.{MOST_IMAGE_BYTES}
-use Rattle.lwcrun_modes.specs.Headline.{HaveVisited, IsText, after_streamer, stream_plan}
+use Rattle.lwcrun_modes.specs.Works as works
+use Rattle.lwcrun_modes.specs.Works.{HaveVisited, IsText, after_server, stream_plan}
 use Rattle.lwcrun_modes.proofs.Follows.{comes_on, fetches_on, fetches_stop, stops_reading}
 use Rattle.lwcrun_modes.proofs.Streams.{streams_on}
 use Rattle.lwcrun_modes.proofs.streaming.stream.Goals as goal
 
 pub stream_image-requires-clause-leave : goal.stream_image-requires-clause-leave
 unfolding stream_plan
-stream_image-requires-clause-leave g c κs within comes = c.requires.leave (comes_on IsText _ _ MOST_IMAGE_BYTES (after_streamer c.args.requests.now c.args.settings.now) _ _ _ c.in-Ok.ensures.reads c.fitting_image_in.ensures.same comes)
+stream_image-requires-clause-leave g c κs within comes = c.requires.leave (comes_on IsText _ _ MOST_IMAGE_BYTES (after_server works.Streaming c.args.requests.now c.args.settings.now) _ _ _ c.in-Ok.ensures.reads c.fitting_image_in.ensures.same comes)
 
 pub returns-in-Ok-clause-ended : goal.returns-in-Ok-clause-ended
 unfolding stream_plan

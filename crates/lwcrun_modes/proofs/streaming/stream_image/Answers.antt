@@ -1,9 +1,9 @@
 use Rattle.std.proofs.Common.{◌≡◌, ℕ, List, inl, refl, ap, arith}
 use Rattle.lwc_base.specs.declared.limits.TheConstants.{MOST_REQUEST_FILE_BYTES}
-use Rattle.lwcrun_modes.specs.Headline.{HaveVisited, IsText, after_streamer, inputs_of}
-use Rattle.lwcrun_modes.specs.Headline as works
+use Rattle.lwcrun_modes.specs.Works.{HaveVisited, IsText, after_server, inputs_of}
+use Rattle.lwcrun_modes.specs.Works as works
 use Rattle.lwcrun_modes.specs.Plans as plans
-use Rattle.lwcrun_modes.specs.Images.{worker_count}
+use Rattle.lwcrun_modes.specs.Inputs.{worker_count}
 use Rattle.kernel_core.proofs.Others.{work_at_serve}
 use Rattle.lwcrun_modes.proofs.Fetches.{nothing_fetched}
 use Rattle.lwcrun_modes.proofs.Follows.{comes_on, fetches_on, fetches_stop, stops_reading}
@@ -17,24 +17,24 @@ stream_requests-requires-clause-few g c κs within =
     omega (arith, work, workers, c.in-Ok.ensures.few)
 
 pub stream_requests-requires-clause-leave : goal.stream_requests-requires-clause-leave
-unfolding after_streamer
+unfolding after_server
 stream_requests-requires-clause-leave g c κs within =
     c.requires.leave (comes_on IsText _ _ MOST_REQUEST_FILE_BYTES (λ (asked : List (List ℕ)). plans.Write (works.Streaming (inputs_of c.args.image.now asked c.args.settings.now))) _ _ _ c.in-Ok.ensures.reads c.bounded_requests_in.ensures.same (works.Streaming (inputs_of c.args.image.now c.in-Ok.requests c.args.settings.now), refl))
 
 pub returns-in-Ok-clause-ended : goal.returns-in-Ok-clause-ended
-unfolding after_streamer
+unfolding after_server
 returns-in-Ok-clause-ended g c =
     streams_on _ _ _ _ _ _ _ _ _ _ _ _ _ c.in-Ok.ensures.reads c.bounded_requests_in.ensures.same (c.stream_requests.ensures.ended _)
 
 pub returns-in-Ok-clause-fetches : goal.returns-in-Ok-clause-fetches
-unfolding after_streamer
+unfolding after_server
 returns-in-Ok-clause-fetches g c =
     fetches_on IsText _ _ _ _ _ _ _ _ c.in-Ok.ensures.reads c.bounded_requests_in.ensures.same c.in-Ok.ensures.whole (nothing_fetched _ refl)
 
 pub returns-in-Err-clause-ended : goal.returns-in-Err-clause-ended
-unfolding after_streamer
+unfolding after_server
 returns-in-Err-clause-ended g c = inl (stops_reading (HaveVisited _ _) _ _ _ _ _ _ c.in-Err.ensures.reads refl)
 
 pub returns-in-Err-clause-fetches : goal.returns-in-Err-clause-fetches
-unfolding after_streamer
+unfolding after_server
 returns-in-Err-clause-fetches g c = fetches_stop _ _ _ _ _ _ c.bounded_requests_in.ensures.fetches

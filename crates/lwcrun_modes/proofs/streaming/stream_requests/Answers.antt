@@ -2,7 +2,7 @@ use Rattle.std.proofs.Common.{inl, map, refl, subst}
 use Rattle.kernel_core.specs.Start.{Inputs}
 use Rattle.lwcrun_modes.specs.StreamEnds.{StreamEnded}
 use Rattle.lwcrun_modes.specs.Ends.{Ended}
-use Rattle.lwcrun_modes.specs.Headline as works
+use Rattle.lwcrun_modes.specs.Works as works
 use Rattle.lwcrun_modes.specs.Plans as plans
 use Rattle.lwcrun_modes.specs.Views.{end_of, outside}
 use Rattle.lwcrun_modes.proofs.streaming.stream_requests.Goals as goal

@@ -1,6 +1,6 @@
 use Rattle.std.proofs.Common.{refl, []}
-use Rattle.lwcrun_modes.specs.Headline.{IsText, after_vault, inputs_of}
-use Rattle.lwcrun_modes.specs.Headline as works
+use Rattle.lwcrun_modes.specs.Works.{IsText, after_vault, inputs_of}
+use Rattle.lwcrun_modes.specs.Works as works
 use Rattle.lwc_vault.specs.Secrets.{beside}
 use Rattle.lwcrun_modes.proofs.Fetches.{nothing_fetched}
 use Rattle.lwcrun_modes.proofs.Follows.{fetches_on, fetches_stop, reads_on, stops_reading}

@@ -1,5 +1,5 @@
 use Rattle.std.proofs.Common.{refl}
-use Rattle.lwcrun_modes.specs.Headline.{IsText, vault_plan}
+use Rattle.lwcrun_modes.specs.Works.{IsText, vault_plan}
 use Rattle.lwcrun_modes.proofs.Follows.{fetches_on, fetches_stop, reads_on, stops_reading}
 use Rattle.lwcrun_modes.proofs.vaulting.replay_with_vault.Goals as goal
 

@@ -1,6 +1,6 @@
 use Rattle.std.proofs.Common.{refl}
 use Rattle.lwcrun_modes.specs.Ends.{Ended}
-use Rattle.lwcrun_modes.specs.Headline.{HaveVisited, IsText}
+use Rattle.lwcrun_modes.specs.Works.{HaveVisited, IsText}
 use Rattle.lwcrun_modes.specs.declared.ending.Rejection.{Rejection}
 use Rattle.lwcrun_modes.proofs.Follows.{writes, writes_in_part}
 use Rattle.lwcrun_modes.proofs.writing.write_work.Goals as goal

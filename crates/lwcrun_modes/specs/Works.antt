@@ -22,7 +22,7 @@ use Rattle.lwc_vault.specs.Secrets.{beside}
 use Rattle.lwcrun_modes.specs.declared.ending.Rejection.{Rejection}
 use Rattle.thread_carrier.specs.Visits.{after_visits}
 use Rattle.thread_carrier.specs.declared.visit.Visit.{Visit}
-use Rattle.lwcrun_modes.specs.Images.{bounded_requests_of, fitting_image_of, fitting_vault_for, image_of, requests_of, schedule_of, script_of, source_of}
+use Rattle.lwcrun_modes.specs.Inputs.{bounded_requests_of, fitting_image_of, fitting_vault_for, image_of, requests_of, schedule_of, script_of, source_of}
 use Rattle.lwcrun_line.specs.Lines.{Command}
 use Rattle.lwcrun_line.specs.Lines as commands
 use Rattle.lwcrun_modes.specs.Plans.{Plan, Read, Write, accepted}
@@ -81,49 +81,43 @@ abbrev pub read_by : {A : Type 0} → (List ℕ → Result A Rejection) → ℕ 
 read_by grammar limit name next = Read name limit (λ bytes. accepted (grammar bytes) next)
 
 -- what follows the schedule of a replay: a serve reads its requests
-unfoldable pub after_schedule : Option (List ℕ) → Settings → Image → List ℕ → Plan Rejection Work
-after_schedule None settings image steps = Write (Replaying (inputs_of image [] settings) steps)
-after_schedule (Some requests) settings image steps =
+unfoldable pub after_replay_schedule : Option (List ℕ) → Settings → Image → List ℕ → Plan Rejection Work
+after_replay_schedule None settings image steps = Write (Replaying (inputs_of image [] settings) steps)
+after_replay_schedule (Some requests) settings image steps =
     read_by requests_of MOST_REQUEST_FILE_BYTES requests (λ asked.
     Write (Replaying (inputs_of image asked settings) steps))
 
 -- what follows the image of a replay: the schedule of its threads is read
-unfoldable pub after_image : List ℕ → Option (List ℕ) → Settings → Image → Plan Rejection Work
-after_image schedule requests settings image =
+unfoldable pub after_replay_image : List ℕ → Option (List ℕ) → Settings → Image → Plan Rejection Work
+after_replay_image schedule requests settings image =
     read_by (schedule_of (threads_for image settings.job) MOST_STEPS) MOST_SCHEDULE_BYTES schedule
-    (after_schedule requests settings image)
+    (after_replay_schedule requests settings image)
 
 -- a replay: the image is read, then the schedule, and then the requests of a serve
 unfoldable pub replay_plan : List ℕ → List ℕ → Option (List ℕ) → Settings → Plan Rejection Work
 replay_plan image schedule requests settings =
-    read_by (fitting_image_of settings.frames) MOST_IMAGE_BYTES image (after_image schedule requests settings)
+    read_by (fitting_image_of settings.frames) MOST_IMAGE_BYTES image (after_replay_image schedule requests settings)
 
 -- a run: the image is read
 unfoldable pub run_plan : List ℕ → Settings → Plan Rejection Work
 run_plan image settings =
     read_by (fitting_image_of settings.frames) MOST_IMAGE_BYTES image (λ x. Write (Running (inputs_of x [] settings)))
 
--- what follows the image of a serve: the requests are read
-unfoldable pub after_server : List ℕ → Settings → Image → Plan Rejection Work
-after_server requests settings image =
+-- what follows the image of a serve, or of a stream: the requests are read
+unfoldable pub after_server : (Inputs → Work) → List ℕ → Settings → Image → Plan Rejection Work
+after_server work requests settings image =
     read_by (bounded_requests_of settings) MOST_REQUEST_FILE_BYTES requests (λ asked.
-    Write (Running (inputs_of image asked settings)))
+    Write (work (inputs_of image asked settings)))
 
 -- a serve: the image is read, and then the requests
 unfoldable pub serve_plan : List ℕ → List ℕ → Settings → Plan Rejection Work
 serve_plan image requests settings =
-    read_by (fitting_image_of settings.frames) MOST_IMAGE_BYTES image (after_server requests settings)
-
--- what follows the image of a stream: the requests are read
-unfoldable pub after_streamer : List ℕ → Settings → Image → Plan Rejection Work
-after_streamer requests settings image =
-    read_by (bounded_requests_of settings) MOST_REQUEST_FILE_BYTES requests (λ asked.
-    Write (Streaming (inputs_of image asked settings)))
+    read_by (fitting_image_of settings.frames) MOST_IMAGE_BYTES image (after_server Running requests settings)
 
 -- a stream: the image is read, and then the requests
 unfoldable pub stream_plan : List ℕ → List ℕ → Settings → Plan Rejection Work
 stream_plan image requests settings =
-    read_by (fitting_image_of settings.frames) MOST_IMAGE_BYTES image (after_streamer requests settings)
+    read_by (fitting_image_of settings.frames) MOST_IMAGE_BYTES image (after_server Streaming requests settings)
 
 -- the image of a source
 unfoldable pub asm_plan : List ℕ → Plan Rejection Work
@@ -138,15 +132,15 @@ unfoldable pub lift_plan : List ℕ → Plan Rejection Work
 lift_plan image = read_by image_of MOST_IMAGE_BYTES image (λ x. Write (Spelling (lifted x)))
 
 -- what follows the image of a monitored run: the schedule of its threads is read
-unfoldable pub after_monitored : List ℕ → Settings → Image → Plan Rejection Work
-after_monitored schedule settings image =
+unfoldable pub after_monitor_image : List ℕ → Settings → Image → Plan Rejection Work
+after_monitor_image schedule settings image =
     read_by (schedule_of (threads_for image settings.job) MOST_STEPS) MOST_SCHEDULE_BYTES schedule (λ steps.
     Write (Monitoring (inputs_of image [] settings) steps))
 
 -- a monitored run: the image is read, and then the schedule
 unfoldable pub monitor_plan : List ℕ → List ℕ → Settings → Plan Rejection Work
 monitor_plan image schedule settings =
-    read_by (fitting_image_of settings.frames) MOST_IMAGE_BYTES image (after_monitored schedule settings)
+    read_by (fitting_image_of settings.frames) MOST_IMAGE_BYTES image (after_monitor_image schedule settings)
 
 -- what follows the vault: the schedule of the image's threads is read
 unfoldable pub after_vault : List ℕ → Settings → Image → Vault → Plan Rejection Work
@@ -165,21 +159,21 @@ vault_plan image vault schedule settings =
     read_by image_of MOST_IMAGE_BYTES image (after_vault_image vault schedule settings)
 
 -- what follows the schedule of a debugged run: the script is read
-unfoldable pub after_debugged : List ℕ → Settings → Image → List ℕ → Plan Rejection Work
-after_debugged script settings image steps =
+unfoldable pub after_debug_schedule : List ℕ → Settings → Image → List ℕ → Plan Rejection Work
+after_debug_schedule script settings image steps =
     read_by script_of MOST_SCRIPT_BYTES script (λ commands.
     Write (Debugging (inputs_of image [] settings) steps commands))
 
 -- what follows the image of a debugged run: the schedule of its threads is read, which has fewer steps than others
-unfoldable pub after_debugged_image : List ℕ → List ℕ → Settings → Image → Plan Rejection Work
-after_debugged_image schedule script settings image =
+unfoldable pub after_debug_image : List ℕ → List ℕ → Settings → Image → Plan Rejection Work
+after_debug_image schedule script settings image =
     read_by (schedule_of (threads_for image settings.job) MOST_DEBUGGED_STEPS) MOST_SCHEDULE_BYTES schedule
-    (after_debugged script settings image)
+    (after_debug_schedule script settings image)
 
 -- a debugged run: the image is read, then the schedule, and then the script
 unfoldable pub debug_plan : List ℕ → List ℕ → List ℕ → Settings → Plan Rejection Work
 debug_plan image schedule script settings =
-    read_by (fitting_image_of settings.frames) MOST_IMAGE_BYTES image (after_debugged_image schedule script settings)
+    read_by (fitting_image_of settings.frames) MOST_IMAGE_BYTES image (after_debug_image schedule script settings)
 
 -- a generated serve: no file is read
 unfoldable pub gen_plan : ℕ → Plan Rejection Work
