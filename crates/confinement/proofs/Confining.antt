@@ -41,7 +41,9 @@ use Rattle.confinement.proofs.Decide.{same_then, apart_or_one, key_or_not, name_
 use Rattle.confinement.proofs.Stages.{Allowance, none}
 use Rattle.confinement.proofs.Steps.{Went, at_overlay, at_switch, call_world, outcome_of, running_world, step_reaps}
 use Rattle.confinement.proofs.Taking.{giver_stays}
-use Rattle.confinement.specs.Confined.{Enters, IsConfined, IsLiveInBoth}
+use Rattle.confinement.proofs.Traces.{MayHaveFrom, OfItself, traces_old}
+use Rattle.confinement.proofs.Voices.{voices_same}
+use Rattle.confinement.specs.Confined.{Enters, IsConfined, IsLiveInBoth, MayCopy}
 use Rattle.confinement.specs.May.{IsGiven, MakesCall, MayReplace, MayShare, regs_at, world_of}
 use Rattle.confinement.specs.One.{IsOneValue}
 use Rattle.guest_call.proofs.Changes.{putting, saving}
@@ -92,7 +94,13 @@ module _ (inputs : Inputs) (steps : ℕ) (m : Machine) (t : ℕ) (ready : IsRead
   nothing : (after : World) → after ≡ w → world_of (step m t) ≡ after → Leads m t
   nothing after is reached = record {
     acted = w;
-    allowed = record { confines = (none r w ready.sound.groups).confines; read_only = left_same w (MayShare m t) (MayReplace m t) };
+    allowed = record {
+      confines = (none r w ready.sound.groups).confines;
+      traces = traces_old (MayHaveFrom m t) OfItself w ready.sound.fresh w (λ a k g is. is);
+      voices = inr (voices_same (MayCopy m t) w w (λ e n here. refl));
+      born = λ e here. inl here;
+      read_only = left_same w (MayShare m t) (MayReplace m t);
+    };
     leaves = subst (λ (v : World). Leaves w v) (sym (reached ∙ is)) (leaves_all w);
   }
 

@@ -53,7 +53,7 @@ restricted_slot w c regs none = by (ltb (slice_index regs.r 1) 64) refl
         (first_refusal ((is_none (link_of (descriptor_for w c n)), WrongKind) ∷ (item_refusals w c spec_call.Restrict (slice_index regs.r 2) (slice_index regs.r 3) ++ []))))).0) is in
         let no : Some BadFd ≡ None = sym bad ∙ none in cc
 
-accepted_slot : (t : ℕ) (e : Environment) (x : Thread) → refusal_of LW_RESTRICT t e x ≡ None → slice_index x.regs.r 1 < SLOTS
+pub accepted_slot : (t : ℕ) (e : Environment) (x : Thread) → refusal_of LW_RESTRICT t e x ≡ None → slice_index x.regs.r 1 < SLOTS
 unfolding refusal_of
 accepted_slot t e x none = restricted_slot e.world x.context x.regs none
 

@@ -3,6 +3,8 @@ pub mod Stages
 pub mod Making
 pub mod Plainly
 pub mod ReadOnly
+pub mod Traces
+pub mod Voices
 pub mod Acts
 pub mod Steps
 pub mod Taking
@@ -12,5 +14,8 @@ pub mod Entering
 pub mod Standing
 pub mod Left
 pub mod Touching
+pub mod Speaking
+pub mod Fencing
+pub mod Fenced
 pub mod EachRun
 pub mod Faults

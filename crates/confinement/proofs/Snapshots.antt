@@ -24,7 +24,11 @@ use Rattle.lwc_base.specs.Capabilities.{full_cap}
 use Rattle.lwc_base.specs.Facts.{AddsContext}
 use Rattle.lwc_base.specs.Fresh.{IsNamedContext}
 use Rattle.lwc_base.specs.Modes.{IsKey}
-use Rattle.lwc_base.specs.Sharing.{clone_context, cloned_context, share}
+use Rattle.lwc_base.specs.Keys.{nothing}
+use Rattle.lwc_base.specs.Modes.{mode_or_copy}
+use Rattle.lwc_base.specs.Sharing.{clone_context, cloned_cell, cloned_context, share}
+use Rattle.lwc_base.specs.declared.cell.Cell.TheVariants.{Own}
+use Rattle.lwc_base.specs.declared.item.Mode.TheVariants.{Unmap}
 use Rattle.lwc_base.specs.Rights.{right_at}
 use Rattle.lwc_base.specs.Slots.{lowest_empty}
 use Rattle.lwc_base.specs.World.{World, Context, Counters, context, is_live, next_context}
@@ -38,6 +42,7 @@ use Rattle.confinement.specs.Confined.{IsConfined}
 use Rattle.confinement.specs.May.{IsGiven, MakesCall, MayChange, OfItsOwn, OfTheTarget, regs_at, world_of}
 use Rattle.confinement.specs.Snapshots.{IsAsMade, IsResumed, IsUntouched, LeaveIt, Makes}
 use Rattle.guest_call.proofs.Changes.{putting}
+use Rattle.lwc_base.proofs.Common.{put-other_cell}
 use Rattle.lwc_base.proofs.Facts.{changes, stays_fresh}
 use Rattle.kernel_core.proofs.Others.{run-append}
 
@@ -60,14 +65,14 @@ record IsSame (w v : World) (c : Name) : Type 0 where
   saved : (t : ℕ) → (context v c).saved t ≡ (context w c).saved t
 
 module _ (inputs : Inputs) (can : CanOpen inputs) where
-  ready_at : (m : Machine) → (reached : IsReached inputs m) → IsReady inputs (length reached.steps) m
+  pub ready_at : (m : Machine) → (reached : IsReached inputs m) → IsReady inputs (length reached.steps) m
   ready_at m reached = subst (IsReady inputs (length reached.steps)) (sym reached.is) (ready_machine inputs reached.steps can)
 
-  leads_at : (m : Machine) (t : ℕ) → IsReached inputs m → Leads m t
+  pub leads_at : (m : Machine) (t : ℕ) → IsReached inputs m → Leads m t
   leads_at m t reached = leads inputs (length reached.steps) m t (ready_at m reached)
 
   -- what lives after some steps lived before them, if it had been named
-  lived : (ts : List ℕ) (m : Machine) → IsReached inputs m → (c : Name) → IsNamedContext (world_of m).next c → is_live (world_of (run m ts)) c ≡ true → is_live (world_of m) c ≡ true
+  pub lived : (ts : List ℕ) (m : Machine) → IsReached inputs m → (c : Name) → IsNamedContext (world_of m).next c → is_live (world_of (run m ts)) c ≡ true → is_live (world_of m) c ≡ true
   lived [] m reached c named live = live
   lived (t ∷ ts) m reached c named live =
       let led = leads_at m t reached in
@@ -150,6 +155,29 @@ module _ (inputs : Inputs) (can : CanOpen inputs) where
         let left = leaves_reaped (outcome_of m t x).environment.world reaps.0 in
         subst (λ (u : World). is_live u c ≡ true → (context u c).saved s ≡ None) (sym reaps.1)
         (λ there. ap (λ (y : Context). y.saved s) (left.contexts c there) ∙ subst (λ (u : World). (context u c).saved s ≡ None) (sym acted_is) (put_saved s)) live
+
+    -- what the items leave out is not there
+    differs : c ≢ x.context
+    differs same =
+        let new : is_live w (next_context w x.job) ≡ false = stays_fresh.next_context_is_new w x.job ready.sound.fresh in
+        let is : is_live w x.context ≡ false = ap (is_live w) (sym same ∙ made.named) ∙ new in
+        absurd (let no : true ≡ false = sym (ready_thread inputs _ t m x ready made.made.found).live ∙ is in cc)
+
+    new_cell : (k : Key) → mode_or_copy items k ≡ Unmap → (context cloned c).cell k ≡ Own (nothing k)
+    unfolding cloned_context
+    new_cell k is =
+        subst (λ (n : Name). (context cloned n).cell k ≡ Own (nothing k)) named_as
+        (ap (λ (y : Context). y.cell k) adds.added ∙ ap (λ how. cloned_cell (share w x.context x.job items) x.context k how) is)
+
+    put_cell : (k : Key) → mode_or_copy items k ≡ Unmap → (context (create.created w x.context x.job (regs_at m x) slot) c).cell k ≡ Own (nothing k)
+    put_cell k is = put-other_cell cloned x.context (Slot slot) (Ctx (next_context w x.job) (full_cap w.size.pages)) c k (λ same. absurd (differs same)) ∙ new_cell k is
+
+    pub left_out : (k : Key) → mode_or_copy items k ≡ Unmap → (context (world_of (step m t)) c).cell k ≡ Own (nothing k)
+    left_out k is =
+        let reaps = step_reaps m t x made.made.found made.made.running in
+        let left = leaves_reaped (outcome_of m t x).environment.world reaps.0 in
+        subst (λ (u : World). is_live u c ≡ true → (context u c).cell k ≡ Own (nothing k)) (sym reaps.1)
+        (λ there. ap (λ (y : Context). y.cell k) (left.contexts c there) ∙ subst (λ (u : World). (context u c).cell k ≡ Own (nothing k)) (sym acted_is) (put_cell k is)) live
 
   pub as_made : (m : Machine) → IsReached inputs m → (t : ℕ) (c : Name) → Makes m t c → (since : List ℕ) → IsUntouched (step m t) since c →
       IsAsMade (world_of (step m t)) (world_of (run (step m t) since)) c

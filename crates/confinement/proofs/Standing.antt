@@ -35,7 +35,7 @@ use Rattle.confinement.proofs.Steps.{at_switch, outcome_of}
 use Rattle.confinement.specs.May.{IsGiven, MakesCall, regs_at, world_of}
 
 -- where a thread stands after its step: where it stood, or where an accepted switch goes
-abbrev Stands : Machine → ℕ → Thread → Name → Type 0
+abbrev pub Stands : Machine → ℕ → Thread → Name → Type 0
 Stands m t x d = (d ≡ x.context) ⊎ ((cap : Cap) × MakesCall m t x LW_SWITCH × IsGiven m x d cap)
 
 -- no thread stands in a context
@@ -83,7 +83,7 @@ other_stands number t e y other =
     (chosen_stands (eqb number LW_OVERLAY) (overlay_outcome e y) _ _ (answered_stands y _)
     (chosen_stands (eqb number LW_SYSCALL) (syscall_outcome e y) _ _ (plainly_stands y _) (plainly_stands y _))))
 
-set_cases : (xs : List Thread) (t u : ℕ) (y z : Thread) → slice_get (slice_set xs t y) u ≡ Some z → (z ≡ y) ⊎ (slice_get xs u ≡ Some z)
+pub set_cases : (xs : List Thread) (t u : ℕ) (y z : Thread) → slice_get (slice_set xs t y) u ≡ Some z → (z ≡ y) ⊎ (slice_get xs u ≡ Some z)
 set_cases [] t u y z is = inr is
 set_cases (x ∷ xs) zero zero y z is = inl cc
 set_cases (x ∷ xs) zero (suc u) y z is = inr is
@@ -146,7 +146,7 @@ module _ (inputs : Inputs) (steps : ℕ) (m : Machine) (t : ℕ) (ready : IsRead
   next_stands running BadPc is = inl refl
   next_stands running (Shared i) is = shared_stands running i is i.op refl
 
-  outcome_stands : x.status ≡ status.Running → Stands m t x (outcome_of m t x).thread.context
+  pub outcome_stands : x.status ≡ status.Running → Stands m t x (outcome_of m t x).thread.context
   unfolding advance_outcome
   outcome_stands running = next_stands running (advanced m.text x.regs).next refl
 

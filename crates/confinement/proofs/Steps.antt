@@ -65,7 +65,7 @@ made_of w c job regs slot (Some r) is = absurd cc
 made_of w c job regs slot None is = refl
 
 -- a call over chosen contexts that is not refused is the inner one
-inner_of : (w : World) (io : Channels) (done : plains.Outcome) (first : Option Refusal) → refusal_at_end (refused_or w io done first).answer ≡ None →
+pub inner_of : (w : World) (io : Channels) (done : plains.Outcome) (first : Option Refusal) → refusal_at_end (refused_or w io done first).answer ≡ None →
     (first ≡ None) × (refused_or w io done first ≡ done)
 inner_of w io done (Some r) is = absurd cc
 inner_of w io done None is = (refl, refl)
@@ -77,7 +77,7 @@ unfolding guest_calls
 last_row number t e x a b c d f = rw (a, b, c, d, f) refl
 
 -- what threads have in common is not settled anew
-settled_same : (t : ℕ) (serve : Option Serve) (outcome : Outcome) → (settled t serve outcome).environment ≡ outcome.environment
+pub settled_same : (t : ℕ) (serve : Option Serve) (outcome : Outcome) → (settled t serve outcome).environment ≡ outcome.environment
 settled_same t None outcome = refl
 settled_same t (Some s) outcome = by_end (has_ended outcome.thread.status)
   where

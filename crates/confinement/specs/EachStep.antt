@@ -1,5 +1,5 @@
 -- What each step of a history is confined to, and what its steps leave alone.
-use Rattle.std.specs.Prelude.{◌≡◌, ℕ, List, ◌∷◌, ◌++◌}
+use Rattle.std.specs.Prelude.{◌≡◌, ◌<◌, ℕ, false, List, ◌∷◌, ◌++◌}
 use Rattle.kernel_core.specs.Machine.{Machine}
 use Rattle.kernel_core.specs.Refused.{advanced_thread}
 use Rattle.kernel_core.specs.Runs.{run}
@@ -7,8 +7,12 @@ use Rattle.kernel_core.specs.Start.{Inputs, start}
 use Rattle.kernel_core.specs.Step.{guest_calls, step}
 use Rattle.kernel_core.specs.declared.calling.TheConstants.{LW_SWITCH}
 use Rattle.kernel_core.specs.declared.thread.Thread.{Thread}
+use Rattle.lwc_base.specs.Cells.{slot_at}
 use Rattle.lwc_base.specs.declared.descriptor.Cap.{Cap}
+use Rattle.lwc_base.specs.declared.descriptor.TheConstants.{SLOTS}
 use Rattle.lwc_base.specs.declared.name.Name.{Name}
+use Rattle.lwc_syscall.specs.Plain.{is_written}
+use Rattle.confinement.specs.Closed.{IsClosed, LeavesOthers, StayIn}
 use Rattle.confinement.specs.Confined.{IsConfined}
 use Rattle.confinement.specs.May.{IsGiven, MakesCall, world_of}
 use Rattle.confinement.specs.Snapshots.{IsAsMade, IsResumed, IsUntouched, Makes}
@@ -25,7 +29,9 @@ abbrev pub machine_since : Inputs → List ℕ → ℕ → List ℕ → Machine
 machine_since inputs before t since = run (machine_made inputs before t) since
 
 -- of a history: each step is confined; a context that a step makes by the call for it, and that is untouched
--- for some steps, is then as it was made; and a thread that enters it by the next step goes on as it was made
+-- for some steps, is then as it was made; a thread that enters it by the next step goes on as it was made; and
+-- steps that stay in a closed context leave the others, and where it has no descriptor of the console or of a reply, they
+-- write nothing
 pub record IsConfinedRun (inputs : Inputs) (steps : List ℕ) : Type 0 where
   pub each : (before rest : List ℕ) (t : ℕ) → steps ≡ before ++ t ∷ rest →
       IsConfined (machine_after inputs before) t (machine_made inputs before t)
@@ -40,3 +46,12 @@ pub record IsConfinedRun (inputs : Inputs) (steps : List ℕ) : Type 0 where
       IsResumed (world_of (machine_made inputs before t)) c (machine_since inputs before t since) x
       (guest_calls LW_SWITCH u (machine_since inputs before t since).environment
       (advanced_thread (machine_since inputs before t since) x))
+  pub closed : (before during rest : List ℕ) (c : Name) → steps ≡ before ++ (during ++ rest) →
+      IsClosed (world_of (machine_after inputs before)) c →
+      StayIn (world_of (machine_after inputs before)) c (machine_after inputs before) during →
+      LeavesOthers (world_of (machine_after inputs before)) (world_of (run (machine_after inputs before) during)) c
+  pub silent : (before during rest : List ℕ) (c : Name) → steps ≡ before ++ (during ++ rest) →
+      IsClosed (world_of (machine_after inputs before)) c →
+      ((n : ℕ) → n < SLOTS → is_written (slot_at (world_of (machine_after inputs before)) c n) ≡ false) →
+      StayIn (world_of (machine_after inputs before)) c (machine_after inputs before) during →
+      (run (machine_after inputs before) during).environment.channels ≡ (machine_after inputs before).environment.channels

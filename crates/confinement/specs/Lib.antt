@@ -20,6 +20,8 @@ pub mod One
 pub mod May
 pub mod Confined
 pub mod Snapshots
+pub mod Fences
+pub mod Closed
 pub mod EachStep
 pub mod Rest
 pub mod Faults

@@ -2,8 +2,10 @@
 
 ghost use Rattle.std.specs.Prelude.{◌≡◌, ◌≢◌, ◌⊎◌, ◌<◌, ℕ, List, Some, false, slice_get, true};
 ghost use Rattle.access_cap.specs.Kinds.{is_chosen};
+ghost use Rattle.confinement.specs.Closed.{IsClosed, IsOfJob, LeavesOthers, StayIn};
 ghost use Rattle.confinement.specs.Confined.{IsConfined, IsLiveInBoth};
 ghost use Rattle.confinement.specs.Faults.{EndsByFault};
+ghost use Rattle.confinement.specs.Fences.{Fence, fence_of, IsMute, KeepsTo, LeavesOutside, StayInside, StayInsideOrAway, StaysInside};
 ghost use Rattle.confinement.specs.May.{IsGiven, MakesCall, MayChange, regs_at, world_of};
 ghost use Rattle.confinement.specs.One.{IsOneValue};
 ghost use Rattle.confinement.specs.Rest.{LacksKey, ReachesNoOther};
@@ -20,16 +22,19 @@ ghost use Rattle.kernel_core.specs.declared.thread.Thread.{Thread};
 ghost use Rattle.lwc_base.specs.Life.{HasItsContexts};
 ghost use Rattle.lwc_base.specs.Capabilities.{has_key};
 ghost use Rattle.lwc_base.specs.Cells.{slot_at, value_at};
-ghost use Rattle.lwc_base.specs.Modes.{IsKey, kind_of};
+ghost use Rattle.lwc_base.specs.Modes.{IsKey, kind_of, mode_or_copy};
 ghost use Rattle.lwc_base.specs.Rights.{right_at};
 ghost use Rattle.lwc_base.specs.World.{context, is_live};
 ghost use Rattle.lwc_base.specs.declared.descriptor.Cap.{Cap};
 ghost use Rattle.lwc_base.specs.declared.descriptor.Descriptor.TheVariants.{Ctx};
 ghost use Rattle.lwc_base.specs.declared.descriptor.TheConstants.{SLOTS};
 ghost use Rattle.lwc_base.specs.declared.key.Key.{Key};
-ghost use Rattle.lwc_base.specs.declared.key.Key.TheVariants.{Page};
+ghost use Rattle.lwc_base.specs.declared.item.Mode.TheVariants.{Unmap};
+ghost use Rattle.lwc_base.specs.declared.key.Key.TheVariants.{Page, Slot};
 ghost use Rattle.lwc_base.specs.declared.key.Kind.TheVariants as kinds;
 ghost use Rattle.lwc_base.specs.declared.limits.TheConstants.{MOST_PAGES};
+ghost use Rattle.lwc_create.specs.Create.{items_of};
+ghost use Rattle.lwc_syscall.specs.Plain.{is_written};
 ghost use Rattle.lwc_syscall.specs.Syscall.{mask_in};
 ghost use Rattle.lwc_base.specs.declared.name.Name.{Name};
 
@@ -132,6 +137,70 @@ pub fn what_is_reached_is_live()
         is_live (world_of (run (start inputs) steps)) x.context ≡ true }
     ensures slots { (inputs : Inputs) (steps : List ℕ) → CanOpen inputs →
         HasItsContexts (world_of (run (start inputs) steps)) }
+{}
+
+/// Steps that are made inside a fence, and do not lead out of it, leave what is outside, and keep to the fence.
+pub fn steps_inside_a_fence_leave_what_is_outside()
+    ensures leaves { (inputs : Inputs) (before during : List ℕ) (f : Fence) → CanOpen inputs →
+        KeepsTo f (run (start inputs) before) → StayInside f (run (start inputs) before) during →
+        LeavesOutside f (world_of (run (start inputs) before)) (world_of (run (run (start inputs) before) during))
+        × KeepsTo f (run (run (start inputs) before) during) }
+    ensures silent { (inputs : Inputs) (before during : List ℕ) (f : Fence) → CanOpen inputs →
+        KeepsTo f (run (start inputs) before) → IsMute f (world_of (run (start inputs) before)) →
+        StayInside f (run (start inputs) before) during →
+        (run (run (start inputs) before) during).environment.channels
+        ≡ (run (start inputs) before).environment.channels }
+{}
+
+/// Steps of which each is made inside a fence, or outside and away from it, keep to the fence; so each of those inside leaves what is
+/// outside.
+pub fn steps_inside_or_away_keep_to_a_fence()
+    ensures keep { (inputs : Inputs) (before during : List ℕ) (f : Fence) → CanOpen inputs →
+        KeepsTo f (run (start inputs) before) → StayInsideOrAway f (run (start inputs) before) during →
+        KeepsTo f (run (run (start inputs) before) during) }
+    ensures each { (inputs : Inputs) (before during : List ℕ) (t : ℕ) (f : Fence) → CanOpen inputs →
+        KeepsTo f (run (start inputs) before) → StayInsideOrAway f (run (start inputs) before) during →
+        StaysInside f (run (run (start inputs) before) during) t →
+        LeavesOutside f (world_of (run (run (start inputs) before) during))
+        (world_of (step (run (run (start inputs) before) during) t)) }
+{}
+
+/// What stays in a closed context changes nothing of others but values that they had in common with it.
+pub fn a_closed_context_leaves_others()
+    ensures leaves { (inputs : Inputs) (before during : List ℕ) (c : Name) → CanOpen inputs →
+        IsClosed (world_of (run (start inputs) before)) c →
+        StayIn (world_of (run (start inputs) before)) c (run (start inputs) before) during →
+        LeavesOthers (world_of (run (start inputs) before))
+        (world_of (run (run (start inputs) before) during)) c }
+    ensures silent { (inputs : Inputs) (before during : List ℕ) (c : Name) → CanOpen inputs →
+        IsClosed (world_of (run (start inputs) before)) c →
+        ((n : ℕ) → n < SLOTS → is_written (slot_at (world_of (run (start inputs) before)) c n) ≡ false) →
+        StayIn (world_of (run (start inputs) before)) c (run (start inputs) before) during →
+        (run (run (start inputs) before) during).environment.channels
+        ≡ (run (start inputs) before).environment.channels }
+    ensures entered { (inputs : Inputs) (steps : List ℕ) (t : ℕ) (x : Thread) (c : Name) (cap : Cap) →
+        CanOpen inputs → IsClosed (world_of (run (start inputs) steps)) c →
+        MakesCall (run (start inputs) steps) t x LW_SWITCH → IsGiven (run (start inputs) steps) x c cap →
+        is_live (world_of (step (run (start inputs) steps) t)) c ≡ true →
+        IsClosed (world_of (step (run (start inputs) steps) t)) c }
+{}
+
+/// A closed context keeps to its fence: inside are it and what the job of its threads makes from then on, and nothing is opened. So
+/// the laws of fences hold of it also where other threads make steps between.
+pub fn a_closed_context_keeps_to_its_fence()
+    ensures { (inputs : Inputs) (steps : List ℕ) (c : Name) (job : ℕ) → CanOpen inputs →
+        IsClosed (world_of (run (start inputs) steps)) c → IsOfJob (run (start inputs) steps) c job →
+        KeepsTo (fence_of (world_of (run (start inputs) steps)) c job) (run (start inputs) steps) }
+{}
+
+/// A context that a call made whose items leave out all slots is closed, while no step may have changed it.
+pub fn a_context_without_descriptors_is_closed()
+    ensures { (inputs : Inputs) (before since : List ℕ) (t : ℕ) (c : Name) → CanOpen inputs →
+        (made : Makes (run (start inputs) before) t c) →
+        ((n : ℕ) → n < SLOTS → mode_or_copy (items_of (world_of (run (start inputs) before)) made.thread.context
+        (regs_at (run (start inputs) before) made.thread)) (Slot n) ≡ Unmap) →
+        IsUntouched (step (run (start inputs) before) t) since c →
+        IsClosed (world_of (run (step (run (start inputs) before) t) since)) c }
 {}
 
 /// The first three of these laws hold of each list of steps, for each beginning of it: so they do of the

@@ -15,3 +15,6 @@ pub mod Rulings
 pub mod Slots
 pub mod Steadying
 pub mod Tables
+pub mod TrappedCourses
+pub mod TrappedArriving
+pub mod TrappedStepping

@@ -11,6 +11,7 @@ use Rattle.lwc_base.specs.World.{World}
 use Rattle.lwc_base.specs.declared.name.Name.{Name}
 use Rattle.lwc_monitor.proofs.Keeping.{IsKept, kept-run, leaves-step}
 use Rattle.lwc_monitor.proofs.Plain.{plain_text}
+use Rattle.lwc_monitor.proofs.TrappedStepping.{leaves_contexts, trapped_step}
 use Rattle.lwc_monitor.specs.Guards.{AreGuarded}
 use Rattle.lwc_monitor.specs.Promises.{IsMonitoredRun}
 use Rattle.lwc_monitor.specs.Reports.{begun}
@@ -43,5 +44,7 @@ pub monitored_run : (inputs : Inputs) (steps : List ℕ) → CanOpen inputs → 
 monitored_run inputs steps can run = record {
   guarded = λ before rest is. (kept-after inputs before can run).guarded;
   leaves = λ before rest t is. leaves-step inputs (0 + length before) (run_under (begun inputs) before) t (kept-after inputs before can run);
+  contexts = λ before rest t is. leaves_contexts inputs (0 + length before) (run_under (begun inputs) before) t (kept-after inputs before can run);
+  trapped = λ before rest t x m is found trapped. trapped_step inputs (0 + length before) (run_under (begun inputs) before) t (kept-after inputs before can run) x found m trapped;
   plain = plain_text inputs steps;
 }

@@ -8,5 +8,6 @@ pub mod Calls
 pub mod Rulings
 pub mod Steps
 pub mod Reports
+pub mod Contexts
 pub mod Promises
 pub mod Steady

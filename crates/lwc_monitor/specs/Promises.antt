@@ -9,6 +9,7 @@ use Rattle.kernel_core.specs.declared.thread.Thread.{Thread}
 use Rattle.lwc_base.specs.World.{is_live}
 use Rattle.lwc_base.specs.declared.name.Name.{Name}
 use Rattle.lwc_monitor.specs.Calls.{calls_under, trapped_outcome}
+use Rattle.lwc_monitor.specs.Contexts.{LeavesAllBut, LeavesContexts}
 use Rattle.lwc_monitor.specs.Guards.{AreGuarded, HasOwnSlots, SameSlots}
 use Rattle.lwc_monitor.specs.Reports.{begun, monitored_text}
 use Rattle.lwc_monitor.specs.Steps.{Monitored, call_of, monitored_step, run_under}
@@ -45,12 +46,19 @@ TrapsNone inputs schedule = (before rest : List ℕ) (t : ℕ) (x : Thread) → 
     call_of (run (start inputs) before) x ≢ Some LW_TRAP
 
 -- of a run under traps: after any of its steps each trapped context lives and has its own slots, and no
--- monitor is trapped; each step leaves the trapped contexts; and where none comes to the call that traps, the
--- text is the kernel's
+-- monitor is trapped; each step leaves the trapped contexts, and of all contexts what it should; by itself a
+-- trapped context changes only values of its pages; and where no step comes to the call that traps, the text is
+-- the kernel's
 pub record IsMonitoredRun (inputs : Inputs) (steps : List ℕ) : Type 0 where
   pub guarded : (before rest : List ℕ) → steps ≡ before ++ rest →
       let s = run_under (begun inputs) before in AreGuarded s.traps s.machine.environment.world
   pub leaves : (before rest : List ℕ) (t : ℕ) → steps ≡ before ++ t ∷ rest →
       LeavesEachTrapped (run_under (begun inputs) before) t
+  pub contexts : (before rest : List ℕ) (t : ℕ) → steps ≡ before ++ t ∷ rest →
+      let s = run_under (begun inputs) before in LeavesContexts s (monitored_step s t).machine t
+  pub trapped : (before rest : List ℕ) (t : ℕ) (x : Thread) (m : Name) → steps ≡ before ++ t ∷ rest →
+      let s = run_under (begun inputs) before in
+      slice_get s.machine.threads t ≡ Some x → fm.get s.traps x.context ≡ Some m →
+      LeavesAllBut s (monitored_step s t).machine t x m
   pub plain : TrapsNone inputs steps →
       monitored_text inputs steps ≡ report_after inputs (kept (start inputs) steps)

@@ -16,7 +16,8 @@ mod vault;
 pub use fault::{InputFault, InputRule};
 pub use file_lines::next_line;
 pub use laws::{
-    request_files_are_read_as_spelled, schedules_are_read_as_named, vault_files_are_read_as_spelled,
+    a_report_is_that_of_the_replay_of_its_list, request_files_are_read_as_spelled,
+    schedules_are_read_as_named, vault_files_are_read_as_spelled,
 };
 pub use lines::{
     MOST_REPLY_LINE_BYTES, bytes_text, context_line, groups_line, name_text, reply_line,

@@ -6,3 +6,7 @@ pub mod Shapes
 pub mod Never
 pub mod Schedules
 pub mod Slots
+pub mod Hiding
+pub mod Inside
+pub mod Handing
+pub mod Stores

@@ -10,6 +10,7 @@ use Rattle.kernel_core.specs.Start.{Inputs, start}
 use Rattle.kernel_core.specs.Step.{step}
 use Rattle.kernel_core.specs.declared.thread.Thread.{Thread}
 use Rattle.lwc_text.specs.Report.{report_of_schedule}
+use Rattle.lwc_vault.proofs.Handing.{schedule-handed}
 use Rattle.lwc_vault.proofs.Never.{outside_by_switches}
 use Rattle.lwc_vault.proofs.Shapes.{start-shape, text-shape}
 use Rattle.lwc_vault.proofs.Staying.{all-outside, no_serve}
@@ -68,4 +69,5 @@ pub keeps_secret : (inputs : Inputs) (v : Vault) (schedule : List ℕ) → CanOp
 keeps_secret inputs v schedule can = record {
   same = λ stand other shape. schedule-shape v other shape inputs schedule can stand;
   entered = outside_by_switches inputs v (kept (start (beside inputs v)) schedule) can;
+  handed = λ other shape hand. schedule-handed inputs v other schedule can shape hand;
 }

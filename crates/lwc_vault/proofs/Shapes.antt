@@ -51,13 +51,13 @@ module _ (a b : Vault) (shape : HaveOneShape a b) where
   value-shape taken (Slot n) = refl
   value-shape taken Cred = refl
 
-  context-shape : (taken : ℕ) → blank_context (vault_context taken a.entry a.pages) ≡ blank_context (vault_context taken b.entry b.pages)
+  context-shape : (keep : Bool) (taken : ℕ) → blank_context keep (vault_context taken a.entry a.pages) ≡ blank_context keep (vault_context taken b.entry b.pages)
   unfolding blank_context vault_context
-  context-shape taken = λ i. record {
+  context-shape keep taken = λ i. record {
     cell = λ k. Own (value-shape taken k i);
     right = λ p. Write;
     entry = fresh_registers (shape.entry i);
-    saved = λ t. None;
+    saved = λ t. cond keep None None;
   }
 
   count-shape : length a.pages ≡ length b.pages
@@ -66,28 +66,28 @@ module _ (a b : Vault) (shape : HaveOneShape a b) where
   abbrev made : World → ℕ → Context → World
   made w count x = put_slot (with_context w vault_name count x) first_name 63 (Ctx vault_name empty_cap)
 
-  blank-held : (w : World) (count : ℕ) (x : Context) → blank vault_name (with_context w vault_name count x) ≡ with_context w vault_name count (blank_context x)
+  blank-held : (keep : Bool) (w : World) (count : ℕ) (x : Context) → blank keep vault_name (with_context w vault_name count x) ≡ with_context w vault_name count (blank_context keep x)
   unfolding with_context change_counters
-  blank-held w count x = (blanks-alike vault_name (change_counters w 0 (λ n. record n { contexts = n.contexts + 1; tags = n.tags + count }))).insert x
+  blank-held keep w count x = (blanks-alike keep vault_name (change_counters w 0 (λ n. record n { contexts = n.contexts + 1; tags = n.tags + count }))).insert x
 
-  blank-made : (w : World) (count : ℕ) (x : Context) → blank vault_name (made w count x) ≡ made w count (blank_context x)
-  blank-made w count x =
-      sym ((blanks-alike vault_name (with_context w vault_name count x)).put_slot first_name 63 (Ctx vault_name empty_cap))
-      ∙ ap (λ u. put_slot u first_name 63 (Ctx vault_name empty_cap)) (blank-held w count x)
+  blank-made : (keep : Bool) (w : World) (count : ℕ) (x : Context) → blank keep vault_name (made w count x) ≡ made w count (blank_context keep x)
+  blank-made keep w count x =
+      sym ((blanks-alike keep vault_name (with_context w vault_name count x)).put_slot first_name 63 (Ctx vault_name empty_cap))
+      ∙ ap (λ u. put_slot u first_name 63 (Ctx vault_name empty_cap)) (blank-held keep w count x)
 
-  world-shape : (w : World) → blank vault_name (with_vault w a) ≡ blank vault_name (with_vault w b)
+  pub world-shape : (keep : Bool) (w : World) → blank keep vault_name (with_vault w a) ≡ blank keep vault_name (with_vault w b)
   unfolding with_vault
-  world-shape w =
+  world-shape keep w =
       let taken : ℕ = (w.next 0).tags in
-      blank-made w (length a.pages) (vault_context taken a.entry a.pages)
-      ∙ (λ i. made w (count-shape i) (context-shape taken i))
-      ∙ sym (blank-made w (length b.pages) (vault_context taken b.entry b.pages))
+      blank-made keep w (length a.pages) (vault_context taken a.entry a.pages)
+      ∙ (λ i. made w (count-shape i) (context-shape keep taken i))
+      ∙ sym (blank-made keep w (length b.pages) (vault_context taken b.entry b.pages))
 
   pub start-shape : (inputs : Inputs) → blank_machine (start (beside inputs a)) ≡ blank_machine (start (beside inputs b))
   unfolding start
   start-shape inputs = λ i. record (start (beside inputs a)) {
     environment = record {
-      world = world-shape (world_for inputs.image inputs.settings.frames inputs.settings.job) i;
+      world = world-shape true (world_for inputs.image inputs.settings.frames inputs.settings.job) i;
       channels = (start (beside inputs a)).environment.channels;
     };
   }

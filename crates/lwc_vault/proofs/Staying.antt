@@ -1,5 +1,5 @@
 -- No descriptor ever opens the vault, in a run from a start with one.
-use Rattle.std.proofs.Common.{◌≡◌, ◌≢◌, inl, inr, ℕ, ◌+◌, ◌≤◌, ◌<◌, refl, sym, ap, subst, ◌∙◌, Bool, true, false, cond, ltb, Some, None, List, [], ◌∷◌, length, arith}
+use Rattle.std.proofs.Common.{◌≡◌, ◌≢◌, inl, inr, ℕ, ◌+◌, ◌≤◌, refl, sym, ap, subst, ◌∙◌, Bool, true, false, cond, ltb, Some, None, List, [], ◌∷◌, length, arith}
 use Rattle.std.proofs.lemmas.Bool.{false≢true, ltb-true}
 use Rattle.std.specs.Prelude.{slice_get}
 use Rattle.guest_call.specs.Guest.{descriptor_for}
@@ -54,7 +54,7 @@ module _ (inputs : Inputs) where
       omega (arith, runnable.some_job, none)
 
   -- a step opens no vault
-  step-shut : (k t : ℕ) (m : Machine) → IsReady inputs k m → IsShutWorld m.environment.world → IsShutWorld (step m t).environment.world
+  pub step-shut : (k t : ℕ) (m : Machine) → IsReady inputs k m → IsShutWorld m.environment.world → IsShutWorld (step m t).environment.world
   step-shut k t m ready shut e n cap slot is key there = by (is_live (step m t).environment.world e) refl
     where
       by : (b : Bool) → is_live (step m t).environment.world e ≡ b → has_key cap key ≡ false
@@ -64,7 +64,7 @@ module _ (inputs : Inputs) where
           (λ f i old within stands. shut f i old within stands key there)
       by false dead = absurd (none_of_dead (step m t).environment.world e n cap dead is)
 
-  ready_next : (k t : ℕ) (m : Machine) → IsReady inputs k m → IsReady inputs (k + 1) (step m t)
+  pub ready_next : (k t : ℕ) (m : Machine) → IsReady inputs k m → IsReady inputs (k + 1) (step m t)
   ready_next k t m ready = ready_run inputs k (t ∷ []) m ready
 
   pub run-shut : (k : ℕ) (m : Machine) (ts : List ℕ) → IsReady inputs k m → IsShutWorld m.environment.world → IsShutWorld (run m ts).environment.world
@@ -80,7 +80,7 @@ module _ (inputs : Inputs) where
   unfolding descriptor_for
   outside-at k t m ready shut stands x found runs = record {
     context = stands x found;
-    job = some_job k t m x ready found runs;
+    new = λ same. some_job k t m x ready found runs (ap (λ (n : Name). n.job) same);
     shut = no_opening;
     pages = subst (λ (n : ℕ). (1 ≤ n) × (n ≤ MOST_PAGES)) (sym (ap (λ size. size.pages) ready.size)) (some_page inputs.image.form);
   }

@@ -1,5 +1,5 @@
 -- Machines in which the vault is blank, threads to which that makes no difference, and worlds in which it is shut.
-use Rattle.std.specs.Prelude.{◌≡◌, ◌<◌, ℕ, Some, slice_get}
+use Rattle.std.specs.Prelude.{◌≡◌, ◌<◌, ℕ, true, Some, slice_get}
 use Rattle.kernel_core.specs.Machine.{Machine}
 use Rattle.kernel_core.specs.Start.{vault_name}
 use Rattle.kernel_core.specs.Step.{with_world}
@@ -16,7 +16,7 @@ use Rattle.world_views.specs.Outside.{IsOutside, LacksKeys}
 
 -- the machine with zero bytes in each page of the vault, the tags kept
 abbrev pub blank_machine : Machine → Machine
-blank_machine m = record m { environment = with_world m.environment (blank vault_name m.environment.world) }
+blank_machine m = record m { environment = with_world m.environment (blank true vault_name m.environment.world) }
 
 -- the thread of a number, if it runs, is outside the vault, and none of its descriptors opens the vault
 abbrev pub ActsOutside : Machine → ℕ → Type 0

@@ -1,17 +1,18 @@
 -- Runs beside a vault, and what their reports tell of its bytes.
-use Rattle.std.specs.Prelude.{◌≡◌, ◌≢◌, ℕ, List, [], ◌∷◌, Some, slice_get}
+use Rattle.std.specs.Prelude.{◌≡◌, ◌≢◌, All, ℕ, List, [], ◌∷◌, Some, slice_get}
 use Rattle.confinement.specs.May.{IsGiven, MakesCall}
 use Rattle.guest_image.specs.Limits.{page_numbers}
 use Rattle.guest_image.specs.declared.image.Vault.{Vault}
 use Rattle.kernel_core.specs.Histories.{IsLegal}
 use Rattle.kernel_core.specs.Machine.{Machine}
-use Rattle.kernel_core.specs.Runs.{kept}
+use Rattle.kernel_core.specs.Runs.{kept, run}
 use Rattle.kernel_core.specs.Start.{Inputs, start, vault_name}
 use Rattle.kernel_core.specs.Step.{step}
 use Rattle.kernel_core.specs.declared.calling.TheConstants.{LW_SWITCH}
 use Rattle.kernel_core.specs.declared.thread.Thread.{Thread}
 use Rattle.lwc_base.specs.declared.descriptor.Cap.{Cap}
 use Rattle.lwc_text.specs.Report.{report_after, report_of_schedule}
+use Rattle.lwc_vault.specs.Told.{IsPlain, told_in}
 
 -- the thread of a number, if there is one, does not stand in the vault
 abbrev pub StandsOutside : Machine → ℕ → Type 0
@@ -48,11 +49,19 @@ TellsNothing inputs steps v =
     (other : Vault) → HaveOneShape v other → IsLegal (start (beside inputs other)) steps
     × (report_after (beside inputs other) steps ≡ report_after (beside inputs v) steps)
 
+-- two vaults hand out the same in these steps, nothing else is done in them, and nobody stands in them at the end
+pub record HandOutTheSame (inputs : Inputs) (a b : Vault) (steps : List ℕ) : Type 0 where
+  pub same : told_in (start (beside inputs b)) steps ≡ told_in (start (beside inputs a)) steps
+  pub plain : All IsPlain (told_in (start (beside inputs a)) steps)
+  pub left : (t : ℕ) → StandsOutside (run (start (beside inputs a)) steps) t
+
 -- a schedule beside a vault keeps its secret: where no step that is kept is made by a thread that stands in the
 -- vault, the text is the same beside each other vault of its shape; and none is made by such a thread, where none
--- is an accepted switch to the vault
+-- is an accepted switch to the vault; and the text is the same beside each one of its shape that hands out the same
 pub record KeepsSecret (inputs : Inputs) (v : Vault) (schedule : List ℕ) : Type 0 where
   pub same : StandOutside (start (beside inputs v)) (kept (start (beside inputs v)) schedule) → (other : Vault) →
       HaveOneShape v other → report_of_schedule (beside inputs other) schedule ≡ report_of_schedule (beside inputs v) schedule
   pub entered : NoneEnters (start (beside inputs v)) (kept (start (beside inputs v)) schedule) →
       StandOutside (start (beside inputs v)) (kept (start (beside inputs v)) schedule)
+  pub handed : (other : Vault) → HaveOneShape v other → HandOutTheSame inputs v other schedule →
+      report_of_schedule (beside inputs other) schedule ≡ report_of_schedule (beside inputs v) schedule

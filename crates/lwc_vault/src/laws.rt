@@ -1,6 +1,6 @@
 //! Laws of runs beside a vault: functions with empty bodies, each with a contract that is the law.
 
-ghost use Rattle.std.specs.Prelude.{◌≡◌, ◌⊎◌, ℕ, List, None};
+ghost use Rattle.std.specs.Prelude.{◌≡◌, ◌⊎◌, All, ℕ, List, None};
 ghost use Rattle.guest_image.specs.declared.image.Vault.{Vault};
 ghost use Rattle.kernel_core.specs.Histories.{IsLegal};
 ghost use Rattle.kernel_core.specs.Kernel.{CanOpen};
@@ -17,7 +17,8 @@ ghost use Rattle.lwc_text.specs.Report.{report_after, report_of};
 ghost use Rattle.lwc_vault.specs.Blanks.{ActsOutside, IsShutWorld};
 ghost use Rattle.lwc_vault.specs.Secrets.{KeepsSecret, NoneEnters, StandOutside};
 ghost use Rattle.lwc_vault.specs.Blanks.{blank_machine};
-ghost use Rattle.lwc_vault.specs.Secrets.{StandsOutside, TellsNothing, beside};
+ghost use Rattle.lwc_vault.specs.Secrets.{HandOutTheSame, HaveOneShape, StandsOutside, TellsNothing, beside};
+ghost use Rattle.lwc_vault.specs.Told.{Outside, told_in};
 
 /// A step of a thread that is outside the vault is the same step where the vault is blank. That it enters the
 /// vault by an accepted switch is no exception.
@@ -73,8 +74,21 @@ pub fn only_a_switch_enters_the_vault()
 {}
 
 /// A schedule beside a vault keeps its secret, unless a thread that stands in it makes a step: beside another
-/// one of its shape the text is the same.
+/// one of its shape the text is the same. It is so too where both hand out the same.
 pub fn schedules_keep_the_secret()
     ensures { (inputs : Inputs) (v : Vault) (schedule : List ℕ) → CanOpen (beside inputs v) →
         KeepsSecret inputs v schedule }
+{}
+
+/// Vaults of one shape that hand out the same are told apart by nothing: the same steps are legal, and the report
+/// is the same. Where nobody stands in the vault when a step is made, nothing is handed out.
+pub fn a_vault_tells_what_it_hands_out()
+    ensures handed { (inputs : Inputs) (v other : Vault) (steps : List ℕ) → CanOpen (beside inputs v) →
+        HaveOneShape v other → HandOutTheSame inputs v other steps →
+        IsLegal (start (beside inputs v)) steps →
+        IsLegal (start (beside inputs other)) steps
+        × (report_after (beside inputs other) steps ≡ report_after (beside inputs v) steps) }
+    ensures nobody { (inputs : Inputs) (v : Vault) (steps : List ℕ) →
+        StandOutside (start (beside inputs v)) steps →
+        All (λ o. o ≡ Outside) (told_in (start (beside inputs v)) steps) }
 {}

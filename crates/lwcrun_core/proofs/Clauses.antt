@@ -1,5 +1,5 @@
 -- What the exit status of a call says, from how the call ended.
-use Rattle.std.proofs.Common.{◌≡◌, ◌≢◌, ◌⊎◌, ◌<◌, ◌≤◌, ◌+◌, ◌^◌, inl, inr, ℕ, zero, suc, List, [], ◌∷◌, ◌++◌, map, ap₂, get_or, Bool, true, false, Option, None, Some, Result, Ok, Err, length, refl, sym, subst, ap, ◌∙◌, arith, All}
+use Rattle.std.proofs.Common.{◌≡◌, ◌≢◌, ◌⊎◌, ◌<◌, ◌≤◌, ◌+◌, ◌*◌, ◌^◌, inl, inr, ℕ, zero, suc, List, [], ◌∷◌, ◌++◌, map, ap₂, get_or, Bool, true, false, Option, None, Some, Result, Ok, Err, length, refl, sym, subst, ap, ◌∙◌, arith, All}
 use Rattle.std.proofs.lemmas.Bool.{ltb-false, ltb-true}
 use Rattle.std.proofs.lemmas.List.{get_or_past}
 use Rattle.std.proofs.lemmas.List.Elements.{All-append, All-get_or, All-nil, All-same, All-weaker}
@@ -20,21 +20,26 @@ use Rattle.kernel_core.specs.Histories.{IsComplete}
 use Rattle.kernel_core.specs.Kernel.{AreRequests, CanOpen, MayHave}
 use Rattle.kernel_core.specs.Machine.{reply_of}
 use Rattle.kernel_core.specs.Runs.{kept, run}
-use Rattle.kernel_core.specs.Start.{Inputs, start, threads_for}
+use Rattle.kernel_core.specs.Machine as machine
+use Rattle.kernel_core.specs.Start.{Inputs, start, thread_count, threads_for}
+use Rattle.kernel_core.proofs.Others.{work_at_serve, work_at_start}
+use Rattle.lwc_text.proofs.Listed.{complete_listed}
+use Rattle.std.proofs.Math.Nat.{mul-le-mul_left, mul-le-mul_right}
 use Rattle.kernel_core.specs.declared.settings.Job.TheVariants as jobs
 use Rattle.lwc_gen.specs.Generated.{generated}
 use Rattle.lwc_gen.specs.Summary.{recorded_reply, replies_of, summary_after, summary_line, totals_of}
-use Rattle.lwcrun_core.specs.Serving.{EachHasReply, NoneIsShort, RepliesAreAlone, reply_alone, summary_alone}
+use Rattle.lwcrun_core.specs.Serving.{EachHasReply, HasEnough, NoneIsShort, RepliesAreAlone, reply_alone, summary_alone}
 use Rattle.confinement.proofs.EachRun.{run_confined}
 use Rattle.guest_image.proofs.Answered.{reading_facts}
 use Rattle.lwc_gen.proofs.Served.{can_open}
 use Rattle.lwc_text.proofs.RequestLines.{file_is_read, is_file}
 use Rattle.lwc_text.proofs.Steps.{is_read, is_schedule}
 use Rattle.lwc_text.proofs.VaultFacts.{is_vault_file, vault_file_is_read}
-use Rattle.request_isolation.proofs.Isolated.{never_full, recorded_alone}
+use Rattle.request_isolation.proofs.Isolated.{had_never_short, never_full, recorded_alone, recorded_had, restored}
+use Rattle.request_isolation.proofs.Restored.{ended_rest}
 use Rattle.request_isolation.proofs.Serves.{each_reply, requests_stay}
 use Rattle.request_isolation.specs.Alone.{ample}
-use Rattle.request_isolation.specs.Needs.{HasFrames}
+use Rattle.request_isolation.specs.Needs.{HadFrames}
 use Rattle.lwc_base.specs.Channels.{bytes_in}
 use Rattle.lwc_names.proofs.Replies.{alone-numbered}
 use Rattle.lwc_names.specs.Numbered.{numbered}
@@ -50,7 +55,7 @@ use Rattle.lwc_debug.specs.declared.script.TheConstants.{MOST_SCRIPT_BYTES}
 use Rattle.lwc_vault.proofs.Schedules.{keeps_secret}
 use Rattle.lwc_vault.proofs.Slots.{leaves_free, takes_none}
 use Rattle.lwc_vault.specs.Secrets.{beside}
-use Rattle.lwc_base.specs.declared.limits.TheConstants.{MOST_IMAGE_BYTES, MOST_REQUEST_FILE_BYTES, MOST_SCHEDULE_BYTES, MOST_SOURCE_BYTES, MOST_STEPS}
+use Rattle.lwc_base.specs.declared.limits.TheConstants.{MOST_BUDGET, MOST_IMAGE_BYTES, MOST_REQUEST_FILE_BYTES, MOST_SCHEDULE_BYTES, MOST_SOURCE_BYTES, MOST_STEPS, MOST_THREADS}
 use Rattle.lwc_io.specs.Outside.{Fetch, FilesView, appended}
 use Rattle.lwc_text.specs.Requests.{IsRequestFile, requests_at}
 use Rattle.lwc_text.specs.Schedules.{IsSchedule, schedule_at}
@@ -60,13 +65,13 @@ use Rattle.lwcrun_modes.specs.declared.ending.Rejection.{Rejection}
 use Rattle.lwcrun_modes.specs.declared.ending.Rejection.TheVariants as rejections
 use Rattle.lwcrun_core.specs.declared.status.ExitStatus.{ExitStatus}
 use Rattle.lwcrun_core.specs.declared.status.ExitStatus.TheVariants as statuses
-use Rattle.lwcrun_core.specs.Calls.{AreContents, AreRequestsIn, CallEnded, CommandEnded, FetchesNamed, FetchesPlan, FileFailed, Headline, IsFitting, IsNameIn, IsOrNoMemory, IsRejected, IsRunnable, IsServe, IsUndisturbed, IsVaultReplay, Names, NoFault, WroteOnlyReplies, WroteServe, status_by}
+use Rattle.lwcrun_core.specs.Calls.{AreContents, AreRequestsIn, CallEnded, CommandEnded, FetchesNamed, FetchesPlan, FileFailed, Headline, IsFitting, IsListed, IsNameIn, IsOrNoMemory, IsRejected, IsRunnable, IsServe, IsUndisturbed, IsVaultReplay, Names, NoFault, WroteOnlyReplies, WroteServe, status_by}
 use Rattle.lwcrun_modes.specs.Ends.{End, Outside, Ended, FetchFailed, IsUnwritten, NothingFailed, WriteFailed}
 use Rattle.lwcrun_modes.specs.Ends as ends
 use Rattle.lwc_text.specs.Report.{report_of_schedule, stream_text}
 use Rattle.lwcrun_modes.specs.Works.{IsText, Work, after_replay_image, after_monitor_image, after_replay_schedule, after_server, after_debug_schedule, after_debug_image, after_vault, after_vault_image, asm_plan, debug_plan, dis_plan, gen_plan, inputs_of, lift_plan, monitor_plan, plan_of, read_by, replay_plan, run_plan, serve_plan, stream_plan, vault_plan}
 use Rattle.lwcrun_modes.specs.Works as works
-use Rattle.lwcrun_modes.specs.Inputs.{bounded, bounded_requests_of, fitted, fitted_beside, fitting_image_of, fitting_vault_for, image_of, or_rejected, requests_of, schedule_of, script_of, serve_steps, source_of, then_tested, vault_for}
+use Rattle.lwcrun_modes.specs.Inputs.{bounded, bounded_requests_of, fitted, fitted_beside, fitting_image_of, fitting_vault_for, image_of, or_rejected, requests_of, schedule_of, script_of, serve_steps, source_of, then_tested, vault_for, worker_count}
 use Rattle.lwcrun_line.specs.Lines.{AreReplaySettings, AreRunSettings, AreServeSettings, Command, IsWithinLimits}
 use Rattle.lwcrun_line.specs.Lines as commands
 use Rattle.lwcrun_modes.specs.Plans.{Plan, AreFetchesOf, FileContents, LeadsTo, Reads, accepted, outcome}
@@ -437,15 +442,43 @@ each_replied inputs steps workers can job complete r inside = each_reply inputs 
 each_alone : (inputs : Inputs) (steps : List ℕ) → CanOpen inputs → RepliesAreAlone inputs steps
 each_alone inputs steps can frames r told is =
     let bytes = bytes_in inputs.requests r in
-    sym (alone-numbered (ample inputs.image inputs.settings.budget) inputs.image inputs.settings.budget r bytes) ∙ recorded_alone inputs can steps r told is frames
+    sym (alone-numbered (ample inputs.image inputs.settings.budget) inputs.image inputs.settings.budget r bytes)
+    ∙ (elim frames [
+      | inl has ↦ recorded_alone inputs can steps r told is has
+      | inr had ↦ recorded_had inputs can steps r told is had
+    ])
 
 -- and no step finds too few
 none_short : (inputs : Inputs) (steps : List ℕ) → CanOpen inputs → NoneIsShort inputs steps
-none_short inputs steps can workers job frames before rest t is short = never_full inputs workers can job frames before t short
+none_short inputs steps can workers job frames before rest t is short =
+    elim frames [
+      | inl has ↦ never_full inputs workers can job has before t short
+      | inr had ↦ had_never_short inputs workers can job before rest t (subst (HadFrames inputs) is had) short
+    ]
+
+-- no more steps are made than a schedule may have
+run_few : (inputs : Inputs) → CanOpen inputs → inputs.settings.job ≡ jobs.Run → machine.work (start inputs) ≤ MOST_STEPS
+run_few inputs can job =
+    let budget = inputs.settings.budget in
+    let threads : length inputs.image.entries * budget ≤ MOST_THREADS * budget = mul-le-mul_right budget can.image.thread_count in
+    let steps : MOST_THREADS * budget ≤ MOST_THREADS * MOST_BUDGET = mul-le-mul_left MOST_THREADS can.settings.budget.1 in
+    let most = work_at_start inputs job in
+    omega (arith, most, threads, steps)
+
+serve_few : (settings : Settings) (image : Image) (asked : List (List ℕ)) (workers : ℕ) → settings.job ≡ jobs.Serve workers → serve_steps settings (length asked) ≤ MOST_STEPS → machine.work (start (inputs_of image asked settings)) ≤ MOST_STEPS
+serve_few settings image asked workers job few =
+    let count : worker_count settings.job ≡ workers = ap worker_count job in
+    let most = work_at_serve (inputs_of image asked settings) workers job in
+    omega (arith, most, count, few)
+
+-- what the text lists is a schedule of the steps
+is_listed : (inputs : Inputs) (steps : List ℕ) → CanOpen inputs → IsComplete (start inputs) steps → machine.work (start inputs) ≤ MOST_STEPS → IsListed inputs steps
+unfolding thread_count
+is_listed inputs steps can complete few = complete_listed inputs steps can complete few
 
 -- the text of a serve is that of a complete history in which the requests are served
-wrote_serve : (tell : Inputs → List ℕ → List ℕ) (o : Outside) (inputs : Inputs) (workers : ℕ) → CanOpen inputs → inputs.settings.job ≡ jobs.Serve workers → WroteSteps tell o inputs → WroteServe tell o inputs
-wrote_serve tell o inputs workers can job h = (h.0, h.1, each_replied inputs h.0 workers can job h.1, each_alone inputs h.0 can, none_short inputs h.0 can, run_confined inputs can h.0, h.2)
+wrote_serve : (tell : Inputs → List ℕ → List ℕ) (o : Outside) (inputs : Inputs) (workers : ℕ) → CanOpen inputs → inputs.settings.job ≡ jobs.Serve workers → machine.work (start inputs) ≤ MOST_STEPS → WroteSteps tell o inputs → WroteServe tell o inputs
+wrote_serve tell o inputs workers can job few h = (h.0, h.1, each_replied inputs h.0 workers can job h.1, each_alone inputs h.0 can, none_short inputs h.0 can, restored inputs workers can job h.0 (ended_rest (run (start inputs) h.0) h.1.ended), run_confined inputs can h.0, is_listed inputs h.0 can h.1 few, h.2)
 
 -- a reply adds the same under each number
 unnumbered : (r : ℕ) (told : Option Finished) → recorded_reply (option_map (numbered r) told) ≡ recorded_reply told
@@ -453,7 +486,7 @@ unnumbered r None = refl
 unnumbered r (Some f) = refl
 
 -- the summary of a generated serve is that of the replies that its requests get alone, with enough frames
-summed_alone : (number : ℕ) (steps : List ℕ) → number ≤ 100 → IsComplete (start (generated number)) steps → HasFrames (generated number) → summary_after (generated number) number steps ≡ summary_alone number
+summed_alone : (number : ℕ) (steps : List ℕ) → number ≤ 100 → IsComplete (start (generated number)) steps → HasEnough (generated number) steps → summary_after (generated number) number steps ≡ summary_alone number
 unfolding replies_of
 summed_alone number steps few complete frames =
     let can = can_open number few in
@@ -523,13 +556,16 @@ headline_of o (commands.Run image settings) bytes work text within known leads i
     let read = leads_by o.files.contents (fitting_image_of settings.frames) MOST_IMAGE_BYTES image (ran settings) work (bytes image) (known image refl) leads in
     let guest = fitting_found settings (bytes image) read.0 read.2 read.1 in
     let h = wrote report_of_schedule o (inputs_of read.0 [] settings) works.Running work text (λ told. told) (work_is work _ read.3) is taken in
-    (read.0, guest, (h.0, h.1, run_confined (inputs_of read.0 [] settings) (replay_opens None settings bytes (bytes image) read.0 [] within guest refl) h.0, h.2))
+    let inputs = inputs_of read.0 [] settings in
+    let can = replay_opens None settings bytes (bytes image) read.0 [] within guest refl in
+    (read.0, guest, (h.0, h.1, run_confined inputs can h.0, is_listed inputs h.0 can h.1 (run_few inputs can within.job), h.2))
 headline_of o (commands.Serve image requests settings) bytes work text within known leads is taken =
     let found = serve_found o.files.contents bytes image requests settings works.Running work known leads in (
       found.0,
       found.1,
       found.2,
       wrote_serve report_of_schedule o _ within.workers (serve_opens settings (bytes image) (bytes requests) found.0 found.1 within found.2.guest found.2.requested) within.job
+          (serve_few settings found.0 found.1 within.workers within.job found.2.few)
           (wrote report_of_schedule o _ works.Running work text (λ told. told) found.3 is taken),
     )
 headline_of o (commands.Asm source) bytes work text within known leads is taken =
@@ -618,6 +654,7 @@ headline_of o (commands.Stream image requests settings) bytes work text within k
       found.1,
       found.2,
       wrote_serve stream_text o _ within.workers (serve_opens settings (bytes image) (bytes requests) found.0 found.1 within found.2.guest found.2.requested) within.job
+          (serve_few settings found.0 found.1 within.workers within.job found.2.few)
           (wrote stream_text o _ works.Streaming work text (λ told. told) found.3 is taken),
     )
 

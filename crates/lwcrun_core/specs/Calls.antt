@@ -15,7 +15,7 @@ use Rattle.kernel_core.specs.Start.{Inputs, start, threads_for}
 use Rattle.lift_law.specs.Lifting.{RunsLifted}
 use Rattle.lwc_base.specs.declared.limits.TheConstants.{MOST_STEPS}
 use Rattle.confinement.specs.EachStep.{IsConfinedRun}
-use Rattle.request_isolation.specs.Needs.{HasFrames}
+use Rattle.request_isolation.specs.Restored.{IsRestored}
 use Rattle.lwc_gen.specs.Generated.{generated}
 use Rattle.lwc_gen.specs.Summary.{summary_after}
 use Rattle.lwc_debug.specs.Scripts.{IsScript}
@@ -25,6 +25,7 @@ use Rattle.lwc_debug.specs.declared.debugging.TheConstants.{MOST_DEBUGGED_STEPS}
 use Rattle.lwc_monitor.specs.Promises.{IsMonitoredRun}
 use Rattle.lwc_monitor.specs.Reports.{monitored_text}
 use Rattle.lwc_text.specs.Requests.{IsRequestFile}
+use Rattle.lwc_text.specs.Lines.{steps_text}
 use Rattle.lwc_text.specs.Schedules.{IsSchedule}
 use Rattle.lwc_text.specs.VaultFiles.{IsVaultFile}
 use Rattle.lwc_vault.specs.Secrets.{KeepsSecret, beside}
@@ -41,7 +42,7 @@ use Rattle.lwcrun_line.specs.Lines as commands
 use Rattle.lwcrun_modes.specs.Plans.{AreFetchesOf, FileContents, outcome}
 use Rattle.lwcrun_modes.specs.Reading.{Fetched}
 use Rattle.lwcrun_modes.specs.StreamEnds.{WroteReplies}
-use Rattle.lwcrun_core.specs.Serving.{EachHasReply, NoneIsShort, RepliesAreAlone, summary_alone}
+use Rattle.lwcrun_core.specs.Serving.{EachHasReply, HasEnough, NoneIsShort, RepliesAreAlone, summary_alone}
 use Rattle.lwcrun_core.specs.Statuses.{IsAnswered, status_of_rejection}
 use Rattle.thread_carrier.specs.declared.visit.Visit.{Visit}
 
@@ -190,19 +191,26 @@ pub record IsServe
   pub requested : IsRequestFile (bytes requests) asked
   pub few : serve_steps settings (length asked) ≤ MOST_STEPS
 
--- some complete history of these inputs was made, each step of which is confined, and its text was written
+-- what a report prints of its steps is a schedule of them for a replay of these inputs
+abbrev pub IsListed : Inputs → List ℕ → Type 0
+IsListed inputs steps =
+    IsSchedule (threads_for inputs.image inputs.settings.job) MOST_STEPS (steps_text steps) steps
+
+-- some complete history of these inputs was made, each step of which is confined and which a replay may have as
+-- its text lists it, and the text was written
 abbrev pub WroteHistory : Outside → Inputs → Type 0
 WroteHistory o inputs =
-    (steps : List ℕ) × IsComplete (start inputs) steps × IsConfinedRun inputs steps
+    (steps : List ℕ) × IsComplete (start inputs) steps × IsConfinedRun inputs steps × IsListed inputs steps
     × (o.out_after.taken ≡ appended o.out.taken (report_of_schedule inputs steps))
 
 -- some complete history of this serve was made, each step of which is confined, and in which each request has
 -- a reply; where there are frames for that, it is the one that the request gets by itself, and no step finds
--- too few; and this text of the history was written
+-- too few; nothing is left of the requests; and this text of the history was written
 abbrev pub WroteServe : (Inputs → List ℕ → List ℕ) → Outside → Inputs → Type 0
 WroteServe text o inputs =
     (steps : List ℕ) × IsComplete (start inputs) steps × EachHasReply inputs steps × RepliesAreAlone inputs steps
-    × NoneIsShort inputs steps × IsConfinedRun inputs steps
+    × NoneIsShort inputs steps × IsRestored inputs (run (start inputs) steps) × IsConfinedRun inputs steps
+    × IsListed inputs steps
     × (o.out_after.taken ≡ appended o.out.taken (text inputs steps))
 
 -- some complete history of the generated serve was made, and its summary was written, which is that of the
@@ -211,7 +219,7 @@ abbrev pub WroteSummary : Outside → ℕ → Type 0
 WroteSummary o number =
     (steps : List ℕ) × IsComplete (start (generated number)) steps × IsConfinedRun (generated number) steps
     × NoneIsShort (generated number) steps
-    × (HasFrames (generated number) → summary_after (generated number) number steps ≡ summary_alone number)
+    × (HasEnough (generated number) steps → summary_after (generated number) number steps ≡ summary_alone number)
     × (o.out_after.taken ≡ appended o.out.taken (summary_after (generated number) number steps))
 
 -- the headline of a command over the contents of its files. They are accepted, and what was written is: the

@@ -1,5 +1,5 @@
 -- What the requests of a serve may rely on.
-use Rattle.std.specs.Prelude.{◌≡◌, ◌<◌, ◌++◌, ℕ, List, Option, Some, length, map}
+use Rattle.std.specs.Prelude.{◌≡◌, ◌⊎◌, ◌<◌, ◌++◌, ℕ, List, Option, Some, length, map}
 use Rattle.std.specs.Option.{option_map}
 use Rattle.kernel_core.specs.Machine.{reply_of}
 use Rattle.kernel_core.specs.Runs.{run}
@@ -10,7 +10,7 @@ use Rattle.lwc_gen.specs.Summary.{recorded_reply, summary_line, totals_of}
 use Rattle.lwc_names.specs.Numbered.{numbered}
 use Rattle.request_isolation.specs.Alone.{alone}
 use Rattle.kernel_core.specs.declared.settings.Job.TheVariants as jobs
-use Rattle.request_isolation.specs.Needs.{HasFrames, IsShort}
+use Rattle.request_isolation.specs.Needs.{HadFrames, HasFrames, IsShort}
 use Rattle.request_isolation.specs.Replies.{HasReply}
 use Rattle.snapshot_host.specs.declared.finishing.Finished.{Finished}
 
@@ -22,17 +22,21 @@ EachHasReply inputs steps = (r : ℕ) → r < length inputs.requests → HasRepl
 abbrev pub reply_alone : Inputs → List ℕ → Option Finished
 reply_alone inputs bytes = alone inputs.image inputs.settings.budget 0 bytes
 
--- where there are frames for as many requests at once as there are workers, each reply has the status and the
+-- there are frames for as many requests at once as there are workers, or two more than the peak that is printed
+abbrev pub HasEnough : Inputs → List ℕ → Type 0
+HasEnough inputs steps = HasFrames inputs ⊎ HadFrames inputs steps
+
+-- where there are enough frames, each reply has the status and the
 -- bytes that a request with the same bytes gets by itself, as request 0; it bears its request's number
 abbrev pub RepliesAreAlone : Inputs → List ℕ → Type 0
 RepliesAreAlone inputs steps =
-    HasFrames inputs → (r : ℕ) (told : Finished) → reply_of (run (start inputs) steps) r ≡ Some told →
+    HasEnough inputs steps → (r : ℕ) (told : Finished) → reply_of (run (start inputs) steps) r ≡ Some told →
     option_map (numbered r) (reply_alone inputs (bytes_in inputs.requests r)) ≡ Some told
 
 -- in a serve with such frames, no thread's next step finds too few, after each beginning of these steps
 abbrev pub NoneIsShort : Inputs → List ℕ → Type 0
 NoneIsShort inputs steps =
-    (workers : ℕ) → inputs.settings.job ≡ jobs.Serve workers → HasFrames inputs →
+    (workers : ℕ) → inputs.settings.job ≡ jobs.Serve workers → HasEnough inputs steps →
     (before rest : List ℕ) (t : ℕ) → steps ≡ before ++ rest → IsShort (run (start inputs) before) t → ⊥
 
 -- the summary of the replies that generated requests get, each by itself

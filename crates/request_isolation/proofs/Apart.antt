@@ -32,6 +32,7 @@ use Rattle.lwc_syscall.specs.declared.answer.CallAnswer.TheVariants as ends
 use Rattle.lwc_syscall.specs.declared.plain_call.PlainCall.{PlainCall}
 use Rattle.world_views.proofs.Apart.{LeavesOthers, create-leaves, leaves_stored, overlay-leaves, plain-leaves, plain-same, restrict-leaves, switch-leaves, switch-target, syscall-leaves, syscall-same}
 use Rattle.world_views.specs.ByJob.{Home, KeepsJobs}
+use Rattle.request_isolation.proofs.Silent.{plain_quiet, syscall_quiet}
 use Rattle.world_views.specs.Ends.{AreOf}
 use Rattle.world_views.specs.Views.{channel_view, view}
 
@@ -40,6 +41,7 @@ pub record Apart (home : Home) (job : ℕ) (e f : Environment) : Type 0 where
   pub jobs : KeepsJobs home f.world
   pub hidden : (other t : ℕ) → job ≢ other → view other t f.world ≡ view other t e.world
   pub channels : (r : ℕ) → job ≢ r + 1 → channel_view r f.channels ≡ channel_view r e.channels
+  pub console : f.channels.console ≡ e.channels.console
 
 -- an act of a thread is apart, and leaves it in a context of its job
 pub record ActsApart (home : Home) (job : ℕ) (e : Environment) (outcome : Outcome) : Type 0 where
@@ -47,7 +49,7 @@ pub record ActsApart (home : Home) (job : ℕ) (e : Environment) (outcome : Outc
   pub here : outcome.thread.context.job ≡ job
 
 pub apart_same : (home : Home) (job : ℕ) (e : Environment) → KeepsJobs home e.world → Apart home job e e
-apart_same home job e jobs = record { jobs = jobs; hidden = λ other t apart. refl; channels = λ r apart. refl }
+apart_same home job e jobs = record { jobs = jobs; hidden = λ other t apart. refl; channels = λ r apart. refl; console = refl }
 
 module _ (home : Home) (e : Environment) (x : Thread) (here : x.context.job ≡ x.job) (some_job : x.job ≢ 0) (jobs : KeepsJobs home e.world) where
   not_nobody : x.context.job ≢ 0
@@ -59,6 +61,7 @@ module _ (home : Home) (e : Environment) (x : Thread) (here : x.context.job ≡ 
     jobs = leaves.kept;
     hidden = λ other t apart. leaves.hidden other t (λ same. apart (sym here ∙ same));
     channels = λ r apart. refl;
+    console = refl;
   }
 
   acts_thread : (y : Thread) → y.context ≡ x.context → ActsApart home x.job e (unchanged e y)
@@ -128,6 +131,7 @@ module _ (home : Home) (e : Environment) (x : Thread) (here : x.context.job ≡ 
         jobs = leaves.kept;
         hidden = leaves.hidden;
         channels = λ r apart. plain-same home x.job r (three_times x.context) e.world e.channels apart of_job jobs call args;
+        console = plain_quiet home x.job (three_times x.context) e.world e.channels of_job jobs call args;
       })
 
   acts_syscall : ActsApart home x.job e (ended_outcome x (lw_syscall e.world e.channels x.context x.job x.regs))
@@ -137,6 +141,7 @@ module _ (home : Home) (e : Environment) (x : Thread) (here : x.context.job ≡ 
         jobs = leaves.kept;
         hidden = λ other t apart. leaves.hidden other t (λ same. apart (sym here ∙ same));
         channels = λ r apart. syscall-same home x.context e.world e.channels x.regs jobs r (λ same. apart (sym here ∙ same));
+        console = syscall_quiet home x.context e.world e.channels x.regs jobs;
       }))
 
   acts_guest : (number t : ℕ) → ActsApart home x.job e (guest_calls number t e x)

@@ -302,3 +302,44 @@ module _ (image : Image) (is_image : IsImage image) (workers budget n : ℕ) (m 
                 let rest = others j (record { number = at.0; thread = at.1; found = at.2; running = at.3; job_is = at.4; some = omega (arith, own.1, at.4) }) apart in
                 omega (arith, fewer, rest)
           ]
+
+-- the image, and what the requests have that are served
+module _ (image : Image) (workers budget n : ℕ) (m : Machine) (s : Serve) (holds : Holds image workers budget n m s) where
+  tag_served : (q : Tag) (j : ℕ) → q.job ≡ j → IsServedBy m.threads j → list_any (λ i. eqb q.job i) (0 ∷ served_jobs m.threads) ≡ true
+  tag_served q j own served =
+      tail_is q.job (served_jobs m.threads) (subst (λ (i : ℕ). list_any (eqb i) (served_jobs m.threads) ≡ true) (served.job_is ∙ sym own) (in_served m.threads served.number served.thread served.found served.running))
+
+  tags_served : (q : Tag) → is_in_list q (tags m.environment.world) ≡ true → list_any (λ i. eqb q.job i) (0 ∷ served_jobs m.threads) ≡ true
+  tags_served q there =
+      let holder = holder_of m.environment.world q there in
+      elim (tag_job image m.environment.world holds.jobs q holder) [
+        | inl same ↦ elim (holder_served image workers budget n m s holds q holder) [
+          | inl nobody ↦ head_is q.job (served_jobs m.threads) (same ∙ nobody)
+          | inr served ↦ tag_served q _ same served
+        ]
+        | inr first ↦ head_is q.job (served_jobs m.threads) first.0
+      ]
+
+  tags_first : (q : Tag) → q.job ≡ 0 → is_in_list q (tags m.environment.world) ≡ true → q.k < length image.pages
+  tags_first q nobody there =
+      let holder = holder_of m.environment.world q there in
+      elim (tag_job image m.environment.world holds.jobs q holder) [
+        | inl same ↦ (first_tag image workers budget n m s holds q holder (sym same ∙ nobody)).1
+        | inr first ↦ first.1
+      ]
+
+  pub fits : (most : ℕ) → ((j : ℕ) → IsServedBy m.threads j → used_by j m.environment.world ≤ most) → used m.environment.world ≤ length image.pages + workers * most
+  fits most each =
+      let total = used_most (length image.pages) most (served_jobs m.threads) m.environment.world tags_served tags_first each_job in
+      let few = few_served m.threads in
+      let count : length (served_jobs m.threads) * most ≤ workers * most = le_times (length (served_jobs m.threads)) workers most (omega (arith, few, thread_count_is holds)) in
+      omega (arith, total, count)
+    where
+      le_times : (p q c : ℕ) → p ≤ q → p * c ≤ q * c
+      le_times p q c low = mul-le-mul_right c low
+
+      each_job : (j : ℕ) → list_any (eqb j) (served_jobs m.threads) ≡ true → used_by j m.environment.world ≤ most
+      each_job j there =
+          let at = served_in m.threads j there in
+          let own = serving_now holds at.0 at.1 at.2 at.3 in
+          each j (record { number = at.0; thread = at.1; found = at.2; running = at.3; job_is = at.4; some = omega (arith, own.1, at.4) })

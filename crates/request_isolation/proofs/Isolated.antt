@@ -13,7 +13,7 @@ use Rattle.world_views.specs.Views.{channel_view, view}
 use Rattle.guest_image.specs.declared.image.Vault.{Vault}
 use Rattle.kernel_core.specs.Kernel.{CanKeep, CanOpen, MayHave}
 use Rattle.kernel_core.specs.Machine.{Machine, Serve, has_ended, home_of, in_serve, reply_of}
-use Rattle.kernel_core.specs.Runs.{run}
+use Rattle.kernel_core.specs.Runs.{frames_of, peak, run}
 use Rattle.kernel_core.specs.Start.{Inputs, first_entry, first_workers, home_context, serve_at, serve_world, start, threads_at, with_its_vault, world_for, world_of, world_size}
 use Rattle.kernel_core.specs.Step.{AfterStep, advance_outcome, after_outcome, after_thread, guest_calls, only, step, step_by, thread_outcome, unchanged, waiting, with_regs, with_status}
 use Rattle.kernel_core.specs.declared.settings.Job.{Job}
@@ -33,13 +33,17 @@ use Rattle.lwc_base.specs.declared.fault.ThreadStatus.TheVariants.{Done, Faulted
 use Rattle.lwc_base.specs.declared.regs.Regs.{Regs}
 use Rattle.snapshot_host.specs.declared.finishing.Finished.{Finished}
 use Rattle.request_isolation.specs.Alone.{alone, alone_in, ample, inputs_alone, start_alone, steps_alone}
-use Rattle.request_isolation.specs.Needs.{HasFrames, HasFramesFor, IsShort, acted_world, extra, greatest_extra, most_used}
+use Rattle.request_isolation.specs.Needs.{HadFrames, HasFrames, HasFramesFor, IsShort, IsSpared, acted_world, extra, greatest_extra, most_used}
+use Rattle.request_isolation.proofs.Full.{full_act}
+use Rattle.kernel_core.proofs.Worlds.{few_parting}
 use Rattle.request_isolation.proofs.Homes.{home_for, start_alike, start_keeps}
 use Rattle.request_isolation.proofs.Holds.{Holds, begun_few, few_after, reply_count_is, serving_now, text_stays}
 use Rattle.request_isolation.proofs.Recorded.{recorded_run, told_nobody, told_written}
+use Rattle.request_isolation.specs.Restored.{AllRest, IsRestored, KeepsHomes}
+use Rattle.request_isolation.proofs.Restored.{IsSilentNow, contexts_same, group_served, homes_same, other_served, rest_frames, rest_groups, silent_run}
 use Rattle.request_isolation.proofs.Roots.{Placed}
 use Rattle.request_isolation.proofs.Serves.{some_worker}
-use Rattle.request_isolation.proofs.Enough.{alike_bound, ample-rises, least_ample, never_wants, not_here}
+use Rattle.request_isolation.proofs.Enough.{alike_bound, ample-rises, fits, least_ample, never_wants, not_here}
 use Rattle.request_isolation.proofs.Bounds.{used_by}
 use Rattle.request_isolation.proofs.Extra.{acted_is, acted_most, before_most, max_first, max_second}
 use Rattle.request_isolation.proofs.Reached.{IsServedBy, of_live}
@@ -274,6 +278,43 @@ module _ (inputs : Inputs) (workers : ℕ) (can : CanOpen inputs) (serve : input
       (record { serve = first_serve; holds = holds_start; fact = inl (none_at (length inputs.requests) r) }))
       is
 
+  pub stands_at : (steps : List ℕ) → Stands inputs.image inputs.settings.budget workers (length inputs.requests) (λ m s. Unit {0}) (run (start inputs) steps)
+  stands_at steps = stands_run inputs.image workers inputs.settings.budget (length inputs.requests) (start inputs) steps stands_start
+
+  -- no worker serves a request at the start
+  start_rests : AllRest (start inputs)
+  unfolding start
+  start_rests t x found runs =
+      let at : slice_get (first_workers (first_entry inputs.image) workers) t ≡ Some x = ap (λ (job : Job). slice_get (threads_at inputs.image inputs.settings.budget job) t) (sym serve) ∙ found in
+      let clash : Idle ≡ Running = ap (λ (y : Thread). y.status) (sym (waits_at (first_entry inputs.image) workers t x at)) ∙ runs in cc
+
+  silent_start : IsSilentNow (start inputs) first_serve
+  unfolding start
+  silent_start = refl
+
+  -- what is beside the requests that are served
+  pub keeps_homes : (steps : List ℕ) → KeepsHomes inputs (run (start inputs) steps)
+  keeps_homes steps =
+      let m = run (start inputs) steps in
+      let now = stands_at steps in
+      let silent = silent_run inputs.image workers inputs.settings.budget (length inputs.requests) (start inputs) steps (record { serve = first_serve; holds = holds_start; fact = silent_start }) in
+      record {
+        homes = homes_same inputs.image workers inputs.settings.budget (length inputs.requests) m now.serve now.holds (start inputs) first_serve holds_start;
+        contexts = other_served inputs.image workers inputs.settings.budget (length inputs.requests) m now.serve now.holds;
+        groups = group_served inputs.image workers inputs.settings.budget (length inputs.requests) m now.serve now.holds;
+        console = silent.fact;
+      }
+
+  pub restored : (steps : List ℕ) → AllRest (run (start inputs) steps) → IsRestored inputs (run (start inputs) steps)
+  restored steps rest =
+      let m = run (start inputs) steps in
+      let now = stands_at steps in
+      record {
+        contexts = contexts_same inputs.image workers inputs.settings.budget (length inputs.requests) m now.serve now.holds (start inputs) first_serve holds_start rest start_rests;
+        groups = rest_groups inputs.image workers inputs.settings.budget (length inputs.requests) m now.serve now.holds rest;
+        frames = rest_frames inputs.image workers inputs.settings.budget (length inputs.requests) m now.serve now.holds rest can.image;
+      }
+
   -- each job has what is its own
   pub kept_apart : (steps : List ℕ) → KeepsJobs (home_for inputs.image) (run (start inputs) steps).environment.world
   kept_apart steps =
@@ -372,83 +413,221 @@ module _ (inputs : Inputs) (workers : ℕ) (can : CanOpen inputs) (serve : input
   ample_same frames r low enough =
       one_option _ _ (told_too frames (ample inputs.image inputs.settings.budget) r low enough (omega arith)) (told_too (ample inputs.image inputs.settings.budget) frames r low (omega arith) enough)
 
+  -- each request beside what it is by itself
+  abbrev frames_alone : ℕ
+  frames_alone = ample inputs.image inputs.settings.budget
+
+  enough_alone : ample inputs.image inputs.settings.budget ≤ frames_alone
+  enough_alone = omega arith
+
+  abbrev pub most : ℕ
+  most = greatest_extra inputs.image inputs.settings.budget 0 inputs.requests
+
+  abbrev StageOf : (r : ℕ) → r < length inputs.requests → Machine → Serve → Type 0
+  StageOf r low m s =
+      Stage inputs.image inputs.settings.budget r (by_itself frames_alone r low) (alone_serve frames_alone r low) (holds_alone frames_alone r low enough_alone) refl (none_told frames_alone r low) (waits_alone frames_alone r low)
+      can.settings.budget.0 frames_alone (size_alone frames_alone r low) (names_alone frames_alone r low) m s
+
+  -- the stages of all requests, in a world with the frames of the settings
+  record AllStages (m : Machine) (s : Serve) : Type 0 where
+    size : m.environment.world.size.frames ≡ inputs.settings.frames
+    stages : (r : ℕ) (low : r < length inputs.requests) → StageOf r low m s
+
+  greatest : (image : Image) (budget a : ℕ) (requests : List (List ℕ)) (r : ℕ) → r < length requests → extra image budget (a + r) (bytes_in requests r) ≤ greatest_extra image budget a requests
+  greatest image budget a [] r low = absurd (omega (arith, low))
+  greatest image budget a (bytes ∷ rest) zero low =
+      let same : a + 0 ≡ a = omega arith in
+      subst (λ (k : ℕ). extra image budget k bytes ≤ max (extra image budget a bytes) (greatest_extra image budget (a + 1) rest)) (sym same) (max_first (extra image budget a bytes) (greatest_extra image budget (a + 1) rest))
+  greatest image budget a (bytes ∷ rest) (suc r) low =
+      let later = greatest image budget (a + 1) rest r (omega (arith, low)) in
+      let same : a + 1 + r ≡ a + suc r = omega arith in
+      let most = max_second (extra image budget a bytes) (greatest_extra image budget (a + 1) rest) in
+      subst (λ (k : ℕ). extra image budget k (bytes_in rest r) ≤ max (extra image budget a bytes) (greatest_extra image budget (a + 1) rest)) same (omega (arith, later, most))
+
+  -- what a request by itself uses
+  used_alone : (r : ℕ) (low : r < length inputs.requests) → most_used (by_itself frames_alone r low) (steps_alone inputs.settings.budget) ≤ length inputs.image.pages + most
+  unfolding extra
+  used_alone r low =
+      let least = greatest inputs.image inputs.settings.budget 0 inputs.requests r low in
+      let same : 0 + r ≡ r = omega arith in
+      let one = ap (λ (k : ℕ). extra inputs.image inputs.settings.budget k (bytes_in inputs.requests r)) same in
+      omega (arith, least, one)
+
+  acted_running : (a : Machine) (sa : Serve) (x : Thread) → a.serve ≡ Some sa → slice_get a.threads 0 ≡ Some x → x.status ≡ Running → acted_world a 0 ≡ (acted_by a 0 x).environment.world
+  acted_running a sa x serve found running = by_end (has_ended (acted_by a 0 x).thread.status) refl
+    where
+      by_end : (b : Bool) → has_ended (acted_by a 0 x).thread.status ≡ b → acted_world a 0 ≡ (acted_by a 0 x).environment.world
+      by_end true ended = acted_is a sa 0 x _ serve found (how_made a sa 0 x _ _ _ (Finishes running ended))
+      by_end false going = acted_is a sa 0 x _ serve found (how_made a sa 0 x _ _ _ (Goes running going))
+
+  module _ (m : Machine) (s : Serve) (holds : Holds inputs.image workers inputs.settings.budget (length inputs.requests) m s) (all : AllStages m s) where
+    -- what the other requests have
+    others : (j : ℕ) → IsServedBy m.threads j → used_by j m.environment.world ≤ most
+    others zero served = let some = served.some in absurd (omega (arith, some))
+    others (suc q) served = by_stage (all.stages q low)
+      where
+        begun : suc q ≤ s.next
+        begun = let own = (serving_now holds served.number served.thread served.found served.running).2 in let job = served.job_is in omega (arith, own, job)
+
+        low : q < length inputs.requests
+        low = let few = begun_few holds in let own = begun in omega (arith, few, own)
+
+        job_is : served.thread.job ≡ q + 1
+        job_is = let job = served.job_is in omega (arith, job)
+
+        by_stage : StageOf q low m s → used_by (suc q) m.environment.world ≤ most
+        by_stage (Waits waits views channels none) = let own = begun in absurd (omega (arith, own, waits))
+        by_stage (Told is) = absurd (is.nobody served.number served.thread served.found served.running job_is)
+        by_stage (Served k now none by) =
+            let some_job : q + 1 ≢ 0 = λ e. omega (arith, e) in
+            let bound = alike_bound inputs.image (q + 1) by.number 0 m.environment.world (by_one (by_itself frames_alone q low) k).environment.world can.image some_job holds.jobs by.like.second by.like.seen in
+            let most_alone = before_most (by_itself frames_alone q low) (inputs.settings.budget + 1) k (let left = by.left in let some = by.some in omega (arith, left, some)) in
+            let few = used_alone q low in
+            let same : q + 1 ≡ suc q = omega arith in
+            subst (λ (j : ℕ). used_by j m.environment.world ≤ most) same (omega (arith, bound, most_alone, few))
+
+  -- where none of its own steps finds too few frames, a request goes on as by itself
+  enough_spared : (m : Machine) (s : Serve) → Holds inputs.image workers inputs.settings.budget (length inputs.requests) m s → (r : ℕ) (low : r < length inputs.requests) (t : ℕ) (x : Thread) → slice_get m.threads t ≡ Some x → x.status ≡ Running → (IsShort m t → ⊥) → (k : ℕ) →
+      (served : IsServed inputs.image inputs.settings.budget r (by_itself frames_alone r low) (alone_serve frames_alone r low) (holds_alone frames_alone r low enough_alone) refl (none_told frames_alone r low) (waits_alone frames_alone r low)
+      can.settings.budget.0 frames_alone (size_alone frames_alone r low) (names_alone frames_alone r low) m k) →
+      IsEnough inputs.image inputs.settings.budget r (by_itself frames_alone r low) (alone_serve frames_alone r low) (holds_alone frames_alone r low enough_alone) refl (none_told frames_alone r low) (waits_alone frames_alone r low)
+      can.settings.budget.0 frames_alone (size_alone frames_alone r low) (names_alone frames_alone r low) m x k
+  enough_spared m s holds r low t x found running spared k served =
+      let left = served.left in
+      let some = served.some in
+      record {
+        here = λ wants. spared (record { thread = x; found = found; runs = running; wants = wants });
+        alone = never_wants inputs.image (by_one (by_itself frames_alone r low) k).environment (with_regs x (advanced m.text x.regs).after) 0 (advanced m.text x.regs).next k frames_alone served.like.second
+            served.alone.fact.size served.alone.fact.names (ample-rises inputs.image.form k inputs.settings.budget (omega (arith, left, some)));
+      }
+
+  stage_after : (r : ℕ) (low : r < length inputs.requests) (m : Machine) (s : Serve) (holds : Holds inputs.image workers inputs.settings.budget (length inputs.requests) m s) (t : ℕ) → StageOf r low m s →
+      ((x : Thread) → slice_get m.threads t ≡ Some x → x.job ≡ r + 1 → IsShort m t → ⊥) → (made : Made m s t) → StageOf r low (after_outcome m t (Some made.after)) made.now
+  stage_after r low m s holds t stage spared made =
+      stage_made inputs.image inputs.settings.budget r (by_itself frames_alone r low) (alone_serve frames_alone r low) (holds_alone frames_alone r low enough_alone) refl (none_told frames_alone r low) (waits_alone frames_alone r low)
+      can.settings.budget.0 frames_alone (size_alone frames_alone r low) (names_alone frames_alone r low) workers (length inputs.requests) m s holds t
+      (λ x found running job k served. enough_spared m s holds r low t x found running (spared x found job) k served) made stage
+
+  stage_run : (r : ℕ) (low : r < length inputs.requests) (m : Machine) (steps : List ℕ) → IsSpared r m steps → Stands inputs.image inputs.settings.budget workers (length inputs.requests) (StageOf r low) m →
+      Stands inputs.image inputs.settings.budget workers (length inputs.requests) (StageOf r low) (run m steps)
+  stage_run r low m [] spared stands = stands
+  stage_run r low m (t ∷ ts) spared stands =
+      stage_run r low (step m t) ts spared.1
+      (stands_step inputs.image inputs.settings.budget workers (length inputs.requests) (StageOf r low) (StageOf r low) m t stands (λ fact. fact)
+      (λ made. stage_after r low m stands.serve stands.holds t stands.fact spared.0 made))
+
+  stage_start : (r : ℕ) (low : r < length inputs.requests) → StageOf r low (start inputs) first_serve
+  unfolding first_serve
+  stage_start r low = Waits (omega arith) (seen_at_start frames_alone r low) (channels_at_start frames_alone r low) (none_yet_told frames_alone r low)
+
+  -- a reply is that of its request by itself, whatever the other requests find
+  reply_spared : (r : ℕ) (steps : List ℕ) (told : Finished) → IsSpared r (start inputs) steps → reply_of (run (start inputs) steps) r ≡ Some told →
+      alone inputs.image inputs.settings.budget r (bytes_in inputs.requests r) ≡ Some told
+  reply_spared r steps told spared is =
+      let base = stands_run inputs.image workers inputs.settings.budget (length inputs.requests) (start inputs) steps stands_start in
+      let low = recorded_below inputs.image workers inputs.settings.budget (length inputs.requests) (run (start inputs) steps) r told base is in
+      let there = stage_run r low (start inputs) steps spared (record { serve = first_serve; holds = holds_start; fact = stage_start r low }) in
+      ap (λ (a : Machine). reply_of a r) (run_by_one (by_itself frames_alone r low) (inputs.settings.budget + 1))
+      ∙ told_alone inputs.image inputs.settings.budget r (by_itself frames_alone r low) (alone_serve frames_alone r low) (holds_alone frames_alone r low enough_alone) refl (none_told frames_alone r low) (waits_alone frames_alone r low)
+      can.settings.budget.0 frames_alone (size_alone frames_alone r low) (names_alone frames_alone r low) workers (length inputs.requests) (run (start inputs) steps) told there is
+
+  -- the frames of the settings stay
+  abbrev HasSize : Machine → Serve → Type 0
+  HasSize m s = m.environment.world.size.frames ≡ inputs.settings.frames
+
+  size_after : (m : Machine) (s : Serve) → Holds inputs.image workers inputs.settings.budget (length inputs.requests) m s → (t : ℕ) → HasSize m s → (made : Made m s t) → HasSize (after_outcome m t (Some made.after)) made.now
+  size_after m s holds t size made =
+      let leaves = leaves_by inputs.image inputs.settings.budget workers (length inputs.requests) m s holds t made.thread made.found made.acted made.after made.now made.how in
+      ap (λ (z : WorldSize). z.frames) (few_after inputs.image workers inputs.settings.budget (length inputs.requests) m s holds t made.thread made.found made.acted made.after made.now leaves).size ∙ size
+
+  sized_start : Stands inputs.image inputs.settings.budget workers (length inputs.requests) HasSize (start inputs)
+  unfolding world_of
+  sized_start = record { serve = first_serve; holds = holds_start; fact = ap (λ (w : World). w.size.frames) starts_as }
+
+  sized_step : (m : Machine) (t : ℕ) → Stands inputs.image inputs.settings.budget workers (length inputs.requests) HasSize m → Stands inputs.image inputs.settings.budget workers (length inputs.requests) HasSize (step m t)
+  sized_step m t stands = stands_step inputs.image inputs.settings.budget workers (length inputs.requests) HasSize HasSize m t stands (λ fact. fact) (λ made. size_after m stands.serve stands.holds t stands.fact made)
+
+  sized_run : (m : Machine) (steps : List ℕ) → Stands inputs.image inputs.settings.budget workers (length inputs.requests) HasSize m → Stands inputs.image inputs.settings.budget workers (length inputs.requests) HasSize (run m steps)
+  sized_run m [] stands = stands
+  sized_run m (t ∷ ts) stands = sized_run (step m t) ts (sized_step m t stands)
+
+  -- with two frames left no store finds too few
+  not_short : (m : Machine) (t : ℕ) → Stands inputs.image inputs.settings.budget workers (length inputs.requests) HasSize m → frames_of m + 2 ≤ inputs.settings.frames → IsShort m t → ⊥
+  not_short m t stands spare short =
+      let rest = advanced m.text short.thread.regs in
+      let act = full_act (home_for inputs.image) m.environment (with_regs short.thread rest.after) t stands.holds.jobs rest.next short.wants in
+      let few = few_parting m.environment.world act.name act.piece act.short in
+      let full = act.full in
+      let size = stands.fact in
+      omega (arith, full, few, spare, size)
+
+  spared_by : (r : ℕ) (m : Machine) (steps : List ℕ) → Stands inputs.image inputs.settings.budget workers (length inputs.requests) HasSize m → peak m steps + 2 ≤ inputs.settings.frames → IsSpared r m steps
+  spared_by r m [] stands spare = tt
+  spared_by r m (t ∷ ts) stands spare =
+      let here = max_first (frames_of m) (peak (step m t) ts) in
+      let later = max_second (frames_of m) (peak (step m t) ts) in
+      (λ x found job short. not_short m t stands (omega (arith, here, spare)) short, spared_by r (step m t) ts (sized_step m t stands) (omega (arith, later, spare)))
+
+  peak_there : (m : Machine) (before rest : List ℕ) → frames_of (run m before) ≤ peak m (before ++ rest)
+  peak_there m [] [] = omega arith
+  peak_there m [] (t ∷ ts) = max_first (frames_of m) (peak (step m t) ts)
+  peak_there m (t ∷ ts) rest =
+      let later = peak_there (step m t) ts rest in
+      let more = max_second (frames_of m) (peak (step m t) (ts ++ rest)) in omega (arith, later, more)
+
+  pub had_spared : (r : ℕ) (steps : List ℕ) → HadFrames inputs steps → IsSpared r (start inputs) steps
+  had_spared r steps had = spared_by r (start inputs) steps sized_start had
+
+  pub had_never_short : (before rest : List ℕ) (t : ℕ) → HadFrames inputs (before ++ rest) → IsShort (run (start inputs) before) t → ⊥
+  had_never_short before rest t had short =
+      let there = peak_there (start inputs) before rest in
+      not_short (run (start inputs) before) t (sized_run (start inputs) before sized_start) (omega (arith, there, had)) short
+
+  all_start : Stands inputs.image inputs.settings.budget workers (length inputs.requests) AllStages (start inputs)
+  unfolding start world_of first_serve
+  all_start = record {
+    serve = first_serve;
+    holds = holds_start;
+    fact = record {
+      size = ap (λ (w : World). w.size.frames) starts_as;
+      stages = λ r low. Waits (omega arith) (seen_at_start frames_alone r low) (channels_at_start frames_alone r low) (none_yet_told frames_alone r low);
+    };
+  }
+
+  all_step_spared : (m : Machine) (t : ℕ) → Stands inputs.image inputs.settings.budget workers (length inputs.requests) AllStages m → (IsShort m t → ⊥) → Stands inputs.image inputs.settings.budget workers (length inputs.requests) AllStages (step m t)
+  all_step_spared m t stands spared =
+      stands_step inputs.image inputs.settings.budget workers (length inputs.requests) AllStages AllStages m t stands (λ fact. fact)
+      (λ made. record {
+        size = size_after m stands.serve stands.holds t stands.fact.size made;
+        stages = λ r low. stage_after r low m stands.serve stands.holds t (stands.fact.stages r low) (λ x found job short. spared short) made;
+      })
+
+  -- what is in use while each request is as by itself
+  all_fits : (m : Machine) → Stands inputs.image inputs.settings.budget workers (length inputs.requests) AllStages m → frames_of m ≤ length inputs.image.pages + workers * most
+  all_fits m stands =
+      fits inputs.image workers inputs.settings.budget (length inputs.requests) m stands.serve stands.holds most (others m stands.serve stands.holds stands.fact)
+
+  max_least : (a b c : ℕ) → a ≤ c → b ≤ c → max a b ≤ c
+  max_least a b c low also = grind arith
+
+  had_bound_from : (m : Machine) (steps : List ℕ) → Stands inputs.image inputs.settings.budget workers (length inputs.requests) AllStages m → peak m steps + 2 ≤ inputs.settings.frames → peak m steps ≤ length inputs.image.pages + workers * most
+  had_bound_from m [] stands spare = all_fits m stands
+  had_bound_from m (t ∷ ts) stands spare =
+      let here = max_first (frames_of m) (peak (step m t) ts) in
+      let later = max_second (frames_of m) (peak (step m t) ts) in
+      let sized : Stands inputs.image inputs.settings.budget workers (length inputs.requests) HasSize m = record { serve = stands.serve; holds = stands.holds; fact = stands.fact.size } in
+      let next = all_step_spared m t stands (not_short m t sized (omega (arith, here, spare))) in
+      max_least (frames_of m) (peak (step m t) ts) (length inputs.image.pages + workers * most) (all_fits m stands) (had_bound_from (step m t) ts next (omega (arith, later, spare)))
+
+  pub had_bound : (steps : List ℕ) → HadFrames inputs steps → peak (start inputs) steps ≤ length inputs.image.pages + workers * most
+  had_bound steps had = had_bound_from (start inputs) steps all_start had
+
   -- with the frames that the requests by themselves take
   module _ (enough : HasFrames inputs) where
-    abbrev frames_alone : ℕ
-    frames_alone = ample inputs.image inputs.settings.budget
-
-    enough_alone : ample inputs.image inputs.settings.budget ≤ frames_alone
-    enough_alone = omega arith
-
-    abbrev most : ℕ
-    most = greatest_extra inputs.image inputs.settings.budget 0 inputs.requests
-
-    abbrev StageOf : (r : ℕ) → r < length inputs.requests → Machine → Serve → Type 0
-    StageOf r low m s =
-        Stage inputs.image inputs.settings.budget r (by_itself frames_alone r low) (alone_serve frames_alone r low) (holds_alone frames_alone r low enough_alone) refl (none_told frames_alone r low) (waits_alone frames_alone r low)
-        can.settings.budget.0 frames_alone (size_alone frames_alone r low) (names_alone frames_alone r low) m s
-
-    -- the stages of all requests, in a world with the frames of the settings
-    record AllStages (m : Machine) (s : Serve) : Type 0 where
-      size : m.environment.world.size.frames ≡ inputs.settings.frames
-      stages : (r : ℕ) (low : r < length inputs.requests) → StageOf r low m s
-
     frames_are : length inputs.image.pages + workers * most ≤ inputs.settings.frames
     frames_are = subst (HasFramesFor inputs) serve enough
 
-    greatest : (image : Image) (budget a : ℕ) (requests : List (List ℕ)) (r : ℕ) → r < length requests → extra image budget (a + r) (bytes_in requests r) ≤ greatest_extra image budget a requests
-    greatest image budget a [] r low = absurd (omega (arith, low))
-    greatest image budget a (bytes ∷ rest) zero low =
-        let same : a + 0 ≡ a = omega arith in
-        subst (λ (k : ℕ). extra image budget k bytes ≤ max (extra image budget a bytes) (greatest_extra image budget (a + 1) rest)) (sym same) (max_first (extra image budget a bytes) (greatest_extra image budget (a + 1) rest))
-    greatest image budget a (bytes ∷ rest) (suc r) low =
-        let later = greatest image budget (a + 1) rest r (omega (arith, low)) in
-        let same : a + 1 + r ≡ a + suc r = omega arith in
-        let most = max_second (extra image budget a bytes) (greatest_extra image budget (a + 1) rest) in
-        subst (λ (k : ℕ). extra image budget k (bytes_in rest r) ≤ max (extra image budget a bytes) (greatest_extra image budget (a + 1) rest)) same (omega (arith, later, most))
-
-    -- what a request by itself uses
-    used_alone : (r : ℕ) (low : r < length inputs.requests) → most_used (by_itself frames_alone r low) (steps_alone inputs.settings.budget) ≤ length inputs.image.pages + most
-    unfolding extra
-    used_alone r low =
-        let least = greatest inputs.image inputs.settings.budget 0 inputs.requests r low in
-        let same : 0 + r ≡ r = omega arith in
-        let one = ap (λ (k : ℕ). extra inputs.image inputs.settings.budget k (bytes_in inputs.requests r)) same in
-        omega (arith, least, one)
-
-    acted_running : (a : Machine) (sa : Serve) (x : Thread) → a.serve ≡ Some sa → slice_get a.threads 0 ≡ Some x → x.status ≡ Running → acted_world a 0 ≡ (acted_by a 0 x).environment.world
-    acted_running a sa x serve found running = by_end (has_ended (acted_by a 0 x).thread.status) refl
-      where
-        by_end : (b : Bool) → has_ended (acted_by a 0 x).thread.status ≡ b → acted_world a 0 ≡ (acted_by a 0 x).environment.world
-        by_end true ended = acted_is a sa 0 x _ serve found (how_made a sa 0 x _ _ _ (Finishes running ended))
-        by_end false going = acted_is a sa 0 x _ serve found (how_made a sa 0 x _ _ _ (Goes running going))
-
     module _ (m : Machine) (s : Serve) (holds : Holds inputs.image workers inputs.settings.budget (length inputs.requests) m s) (all : AllStages m s) where
-      -- what the other requests have
-      others : (j : ℕ) → IsServedBy m.threads j → used_by j m.environment.world ≤ most
-      others zero served = let some = served.some in absurd (omega (arith, some))
-      others (suc q) served = by_stage (all.stages q low)
-        where
-          begun : suc q ≤ s.next
-          begun = let own = (serving_now holds served.number served.thread served.found served.running).2 in let job = served.job_is in omega (arith, own, job)
-
-          low : q < length inputs.requests
-          low = let few = begun_few holds in let own = begun in omega (arith, few, own)
-
-          job_is : served.thread.job ≡ q + 1
-          job_is = let job = served.job_is in omega (arith, job)
-
-          by_stage : StageOf q low m s → used_by (suc q) m.environment.world ≤ most
-          by_stage (Waits waits views channels none) = let own = begun in absurd (omega (arith, own, waits))
-          by_stage (Told is) = absurd (is.nobody served.number served.thread served.found served.running job_is)
-          by_stage (Served k now none by) =
-              let some_job : q + 1 ≢ 0 = λ e. omega (arith, e) in
-              let bound = alike_bound inputs.image (q + 1) by.number 0 m.environment.world (by_one (by_itself frames_alone q low) k).environment.world can.image some_job holds.jobs by.like.second by.like.seen in
-              let most_alone = before_most (by_itself frames_alone q low) (inputs.settings.budget + 1) k (let left = by.left in let some = by.some in omega (arith, left, some)) in
-              let few = used_alone q low in
-              let same : q + 1 ≡ suc q = omega arith in
-              subst (λ (j : ℕ). used_by j m.environment.world ≤ most) same (omega (arith, bound, most_alone, few))
-
       -- a worker that serves a request has frames, and so has the request by itself
       has_enough : (r : ℕ) (low : r < length inputs.requests) (t : ℕ) (x : Thread) → slice_get m.threads t ≡ Some x → x.status ≡ Running → x.job ≡ r + 1 → (k : ℕ) →
           (served : IsServed inputs.image inputs.settings.budget r (by_itself frames_alone r low) (alone_serve frames_alone r low) (holds_alone frames_alone r low enough_alone) refl (none_told frames_alone r low) (waits_alone frames_alone r low)
@@ -474,7 +653,7 @@ module _ (inputs : Inputs) (workers : ℕ) (can : CanOpen inputs) (serve : input
           (ample-rises inputs.image.form k inputs.settings.budget (omega (arith, left, some))) in
           record {
             here = not_here inputs.image can.image workers inputs.settings.budget (length inputs.requests) m s holds t x found running r job a sa served.alone.holds found_a like served.channels
-                most inputs.settings.frames spared bound (λ j by apart. others j by) all.size frames_are;
+                most inputs.settings.frames spared bound (λ j by apart. others m s holds all j by) all.size frames_are;
             alone = spared;
           }
 
@@ -498,19 +677,15 @@ module _ (inputs : Inputs) (workers : ℕ) (can : CanOpen inputs) (serve : input
     all_run m [] stands = stands
     all_run m (t ∷ ts) stands = all_run (step m t) ts (all_step m t stands)
 
-    all_start : Stands inputs.image inputs.settings.budget workers (length inputs.requests) AllStages (start inputs)
-    unfolding start world_of first_serve
-    all_start = record {
-      serve = first_serve;
-      holds = holds_start;
-      fact = record {
-        size = ap (λ (w : World). w.size.frames) starts_as;
-        stages = λ r low. Waits (omega arith) (seen_at_start frames_alone r low) (channels_at_start frames_alone r low) (none_yet_told frames_alone r low);
-      };
-    }
-
     all_there : (steps : List ℕ) → Stands inputs.image inputs.settings.budget workers (length inputs.requests) AllStages (run (start inputs) steps)
     all_there steps = all_run (start inputs) steps all_start
+
+    has_bound_from : (m : Machine) (steps : List ℕ) → Stands inputs.image inputs.settings.budget workers (length inputs.requests) AllStages m → peak m steps ≤ length inputs.image.pages + workers * most
+    has_bound_from m [] stands = all_fits m stands
+    has_bound_from m (t ∷ ts) stands = max_least (frames_of m) (peak (step m t) ts) (length inputs.image.pages + workers * most) (all_fits m stands) (has_bound_from (step m t) ts (all_step m t stands))
+
+    pub has_bound : (steps : List ℕ) → peak (start inputs) steps ≤ length inputs.image.pages + workers * most
+    has_bound steps = has_bound_from (start inputs) steps all_start
 
     -- each reply is that of its request by itself
     apart : (r : ℕ) (steps : List ℕ) (told : Finished) → reply_of (run (start inputs) steps) r ≡ Some told → alone inputs.image inputs.settings.budget r (bytes_in inputs.requests r) ≡ Some told
@@ -588,3 +763,17 @@ module _ (inputs : Inputs) (can : CanOpen inputs) (steps : List ℕ) (r : ℕ) (
       by_job : (job : Job) → inputs.settings.job ≡ job → alone inputs.image inputs.settings.budget r (bytes_in inputs.requests r) ≡ Some told
       by_job jobs.Run runs = absurd (no_reply_in_run inputs steps r told runs is)
       by_job (jobs.Serve workers) serve = apart inputs workers can serve enough r steps told is
+
+  pub recorded_spared : IsSpared r (start inputs) steps → alone inputs.image inputs.settings.budget r (bytes_in inputs.requests r) ≡ Some told
+  recorded_spared spared = by_job inputs.settings.job refl
+    where
+      by_job : (job : Job) → inputs.settings.job ≡ job → alone inputs.image inputs.settings.budget r (bytes_in inputs.requests r) ≡ Some told
+      by_job jobs.Run runs = absurd (no_reply_in_run inputs steps r told runs is)
+      by_job (jobs.Serve workers) serve = reply_spared inputs workers can serve r steps told spared is
+
+  pub recorded_had : HadFrames inputs steps → alone inputs.image inputs.settings.budget r (bytes_in inputs.requests r) ≡ Some told
+  recorded_had had = by_job inputs.settings.job refl
+    where
+      by_job : (job : Job) → inputs.settings.job ≡ job → alone inputs.image inputs.settings.budget r (bytes_in inputs.requests r) ≡ Some told
+      by_job jobs.Run runs = absurd (no_reply_in_run inputs steps r told runs is)
+      by_job (jobs.Serve workers) serve = reply_spared inputs workers can serve r steps told (had_spared inputs workers can serve r steps had) is

@@ -12,8 +12,10 @@ pub mod Homes
 pub mod Isolated
 pub mod Reached
 pub mod Recorded
+pub mod Restored
 pub mod Roots
 pub mod Serves
+pub mod Silent
 pub mod Stages
 pub mod Tagged
 pub mod Taking

@@ -15,3 +15,4 @@ pub use Rattle.kernel_core.specs.Step
 pub mod Alone
 pub mod Needs
 pub mod Replies
+pub mod Restored

@@ -9,8 +9,8 @@ use Rattle.guest_machine.specs.Advances.{advanced}
 use Rattle.guest_machine.specs.declared.progress.Next.{Next}
 use Rattle.guest_machine.specs.declared.progress.Next.TheVariants.{Shared}
 use Rattle.kernel_core.specs.Machine.{Environment, Machine}
-use Rattle.kernel_core.specs.Runs.{frames_of}
-use Rattle.kernel_core.specs.Start.{Inputs}
+use Rattle.kernel_core.specs.Runs.{frames_of, peak}
+use Rattle.kernel_core.specs.Start.{Inputs, start}
 use Rattle.kernel_core.specs.Step.{AfterStep, address, args_of, guest_calls, is_aligned, step, thread_outcome, three_times, with_regs}
 use Rattle.kernel_core.specs.declared.calling.TheConstants.{LW_SYSCALL}
 use Rattle.kernel_core.specs.declared.settings.Job.{Job}
@@ -112,6 +112,16 @@ pub record IsShort (m : Machine) (t : ℕ) : Type 0 where
   pub runs : thread.status ≡ Running
   pub wants : WantsFrames m.environment (with_regs thread (advanced m.text thread.regs).after)
       (advanced m.text thread.regs).next
+
+-- none of these steps that is made for the request of a number finds too few frames
+abbrev pub IsSpared : ℕ → Machine → List ℕ → Type 0
+IsSpared r m [] = Unit {0}
+IsSpared r m (t ∷ ts) =
+    ((x : Thread) → slice_get m.threads t ≡ Some x → x.job ≡ r + 1 → IsShort m t → ⊥) × IsSpared r (step m t) ts
+
+-- two frames more than were ever in use: as many as a store may take
+abbrev pub HadFrames : Inputs → List ℕ → Type 0
+HadFrames inputs steps = peak (start inputs) steps + 2 ≤ inputs.settings.frames
 
 -- a call reads, in the thread's context or in chosen ones
 abbrev pub Reads : ℕ → Regs → Type 0

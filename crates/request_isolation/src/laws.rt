@@ -1,10 +1,10 @@
 //! Laws of serves: functions with empty bodies, each with a contract that is the law.
 
-ghost use Rattle.std.specs.Prelude.{◌≡◌, ◌≢◌, ◌⊎◌, ◌+◌, ◌<◌, ◌≤◌, ℕ, Contains, List, Some, length, replicate, true};
+ghost use Rattle.std.specs.Prelude.{◌≡◌, ◌≢◌, ◌⊎◌, ◌+◌, ◌*◌, ◌++◌, ◌<◌, ◌≤◌, ℕ, Contains, List, Some, length, replicate, true};
 ghost use Rattle.kernel_core.specs.Histories.{IsComplete, finishes_by};
 ghost use Rattle.kernel_core.specs.Kernel.{CanOpen};
 ghost use Rattle.kernel_core.specs.Machine.{reply_of};
-ghost use Rattle.kernel_core.specs.Runs.{frames_of, run};
+ghost use Rattle.kernel_core.specs.Runs.{frames_of, peak, run};
 ghost use Rattle.kernel_core.specs.Start.{Inputs, start, thread_count};
 ghost use Rattle.kernel_core.specs.declared.settings.Job.TheVariants as jobs;
 ghost use Rattle.world_views.specs.ByJob.{Home, KeepsJobs};
@@ -16,8 +16,9 @@ ghost use Rattle.request_isolation.specs.Alone.{alone, alone_in, ample, start_al
 ghost use Rattle.lwc_syscall.specs.Plain.{plain, world_after};
 ghost use Rattle.lwc_syscall.specs.declared.calls.CallContexts.{CallContexts};
 ghost use Rattle.lwc_syscall.specs.declared.plain_call.PlainCall.TheVariants as plain_calls;
-ghost use Rattle.request_isolation.specs.Needs.{HasFrames, IsShort, IsStoring, acted_world, store_of_read};
+ghost use Rattle.request_isolation.specs.Needs.{HadFrames, HasFrames, IsShort, IsSpared, IsStoring, acted_world, greatest_extra, store_of_read};
 ghost use Rattle.request_isolation.specs.Replies.{HasReply};
+ghost use Rattle.request_isolation.specs.Restored.{AllRest, IsRestored, KeepsHomes};
 ghost use Rattle.snapshot_host.specs.declared.finishing.Finished.{Finished};
 
 /// At the end of a serve each request has a reply, and there are as many requests as at its start.
@@ -73,6 +74,41 @@ pub fn each_reply_is_that_of_its_request_alone()
     ensures { (inputs : Inputs) (steps : List ℕ) (r : ℕ) (told : Finished) → CanOpen inputs →
         HasFrames inputs → reply_of (run (start inputs) steps) r ≡ Some told →
         alone inputs.image inputs.settings.budget r (bytes_in inputs.requests r) ≡ Some told }
+{}
+
+/// A recorded reply is the one that its request gets by itself, unless one of the request's own steps found too
+/// few frames; and none did where two frames more than the peak were there.
+pub fn a_reply_is_that_of_its_request_alone_unless_frames_ran_short()
+    ensures reply { (inputs : Inputs) (steps : List ℕ) (r : ℕ) (told : Finished) → CanOpen inputs →
+        IsSpared r (start inputs) steps → reply_of (run (start inputs) steps) r ≡ Some told →
+        alone inputs.image inputs.settings.budget r (bytes_in inputs.requests r) ≡ Some told }
+    ensures spared { (inputs : Inputs) (steps : List ℕ) (workers r : ℕ) → CanOpen inputs →
+        inputs.settings.job ≡ jobs.Serve workers → HadFrames inputs steps → IsSpared r (start inputs) steps }
+    ensures never_short { (inputs : Inputs) (before rest : List ℕ) (workers t : ℕ) → CanOpen inputs →
+        inputs.settings.job ≡ jobs.Serve workers → HadFrames inputs (before ++ rest) →
+        IsShort (run (start inputs) before) t → ⊥ }
+    ensures same { (a b : Inputs) (s u : List ℕ) (r : ℕ) (told other : Finished) → CanOpen a → CanOpen b →
+        a.image ≡ b.image → a.settings.budget ≡ b.settings.budget →
+        bytes_in a.requests r ≡ bytes_in b.requests r → IsSpared r (start a) s → IsSpared r (start b) u →
+        reply_of (run (start a) s) r ≡ Some told → reply_of (run (start b) u) r ≡ Some other → told ≡ other }
+{}
+
+/// At each moment of a serve its homes are as at the start, and what else lives is of a request that is served.
+/// While none is, contexts and groups are those of the start, and each frame in use is of a page of the image. So
+/// what was in use at most does not grow with the number of requests.
+pub fn a_request_leaves_nothing_behind()
+    ensures always { (inputs : Inputs) (steps : List ℕ) (workers : ℕ) → CanOpen inputs →
+        inputs.settings.job ≡ jobs.Serve workers → KeepsHomes inputs (run (start inputs) steps) }
+    ensures rest { (inputs : Inputs) (steps : List ℕ) (workers : ℕ) → CanOpen inputs →
+        inputs.settings.job ≡ jobs.Serve workers → AllRest (run (start inputs) steps) →
+        IsRestored inputs (run (start inputs) steps) }
+    ensures finished { (inputs : Inputs) (steps : List ℕ) (workers : ℕ) → CanOpen inputs →
+        inputs.settings.job ≡ jobs.Serve workers → IsComplete (start inputs) steps →
+        IsRestored inputs (run (start inputs) steps) }
+    ensures bounded { (inputs : Inputs) (steps : List ℕ) (workers : ℕ) → CanOpen inputs →
+        inputs.settings.job ≡ jobs.Serve workers → HasFrames inputs ⊎ HadFrames inputs steps →
+        peak (start inputs) steps ≤ length inputs.image.pages
+        + workers * greatest_extra inputs.image inputs.settings.budget 0 inputs.requests }
 {}
 
 /// With these frames no store of the serve finds too few.

@@ -92,24 +92,24 @@ nothing-covered pages cap (item ∷ rest) few lacks spec is =
     absurd (false≢true (sym (lacks k (within_most pages few k key)) ∙ (covers-all pages cap (item ∷ rest)).0 is k key
     (ap (λ b. is_some (option_map (λ (i : Item). i.mode) (cond b (Some item) (find (λ i. names i k) rest)))) named)))
 
-module _ (v : Name) (w : World) (c : Name) where
-  pub descriptor-blank : (n : ℕ) → descriptor_for (blank v w) c n ≡ descriptor_for w c n
+module _ (keep : Bool) (v : Name) (w : World) (c : Name) where
+  pub descriptor-blank : (n : ℕ) → descriptor_for (blank keep v w) c n ≡ descriptor_for w c n
   unfolding descriptor_for
-  descriptor-blank n = ap (λ d. cond (nat_lt n SLOTS) d Empty) ((blanks-alike v w).slot c n)
+  descriptor-blank n = ap (λ d. cond (nat_lt n SLOTS) d Empty) ((blanks-alike keep v w).slot c n)
 
-  pub slot_refusals-blank : (n : ℕ) → slot_refusals (blank v w) c n ≡ slot_refusals w c n
+  pub slot_refusals-blank : (n : ℕ) → slot_refusals (blank keep v w) c n ≡ slot_refusals w c n
   unfolding slot_refusals
   slot_refusals-blank n = λ i. (is_empty (descriptor-blank n i), BadFd) ∷ (is_none (link_of (descriptor-blank n i)), WrongKind) ∷ []
 
   module _ (outside : c ≢ v) where
-    pub items-blank : (call : SpecCall) (at count : ℕ) → items_of (blank v w) c call at count ≡ items_of w c call at count
+    pub items-blank : (call : SpecCall) (at count : ℕ) → items_of (blank keep v w) c call at count ≡ items_of w c call at count
     unfolding items_of item_bytes
-    items-blank call at count = ap (λ o. items_in call (unwrap_or o [])) ((asks-alike v w c outside).bytes at (count * ITEM_BYTES))
+    items-blank call at count = ap (λ o. items_in call (unwrap_or o [])) ((asks-alike keep v w c outside).bytes at (count * ITEM_BYTES))
 
-    pub item_refusals-blank : (call : SpecCall) (at count : ℕ) → item_refusals (blank v w) c call at count ≡ item_refusals w c call at count
+    pub item_refusals-blank : (call : SpecCall) (at count : ℕ) → item_refusals (blank keep v w) c call at count ≡ item_refusals w c call at count
     unfolding item_refusals items_of item_bytes
     item_refusals-blank call at count =
-        let bytes = (asks-alike v w c outside).bytes at (count * ITEM_BYTES) in
+        let bytes = (asks-alike keep v w c outside).bytes at (count * ITEM_BYTES) in
         λ i.
         (nat_lt MOST_ITEMS count, TooManyItems)
         ∷ (is_none (bytes i), BadAddress)

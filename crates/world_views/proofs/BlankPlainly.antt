@@ -45,124 +45,124 @@ use Rattle.world_views.specs.Outside.{AreOutside, IsOutside, LacksKeys, blank_ou
 use Rattle.world_views.specs.Blank.{blank, blank_stored}
 
 -- a call ends the same where its rows are the same and what it does is
-ended-blank : (v : Name) (w : World) (io : Channels) (rows others : List (Bool × Refusal)) (done original : Outcome) → rows ≡ others → done ≡ blank_outcome v original →
-    ended (blank v w) io rows done ≡ blank_outcome v (ended w io others original)
-ended-blank v w io rows others done original same is = ap (λ r. refused_or (blank v w) io done (first_refusal r)) same ∙ by (first_refusal others)
+ended-blank : (keep : Bool) (v : Name) (w : World) (io : Channels) (rows others : List (Bool × Refusal)) (done original : Outcome) → rows ≡ others → done ≡ blank_outcome keep v original →
+    ended (blank keep v w) io rows done ≡ blank_outcome keep v (ended w io others original)
+ended-blank keep v w io rows others done original same is = ap (λ r. refused_or (blank keep v w) io done (first_refusal r)) same ∙ by (first_refusal others)
   where
-    by : (first : Option Refusal) → refused_or (blank v w) io done first ≡ blank_outcome v (refused_or w io original first)
+    by : (first : Option Refusal) → refused_or (blank keep v w) io done first ≡ blank_outcome keep v (refused_or w io original first)
     by None = is
     by (Some refusal) = refl
 
-absent-blank : (v : Name) (s : Stored) → is_absent (blank_stored v s) ≡ is_absent s
-absent-blank v Absent = refl
-absent-blank v ReadOnly = refl
-absent-blank v Full = refl
-absent-blank v (Done w) = refl
+absent-blank : (keep : Bool) (v : Name) (s : Stored) → is_absent (blank_stored keep v s) ≡ is_absent s
+absent-blank keep v Absent = refl
+absent-blank keep v ReadOnly = refl
+absent-blank keep v Full = refl
+absent-blank keep v (Done w) = refl
 
-read_only-blank : (v : Name) (s : Stored) → is_read_only (blank_stored v s) ≡ is_read_only s
-read_only-blank v Absent = refl
-read_only-blank v ReadOnly = refl
-read_only-blank v Full = refl
-read_only-blank v (Done w) = refl
+read_only-blank : (keep : Bool) (v : Name) (s : Stored) → is_read_only (blank_stored keep v s) ≡ is_read_only s
+read_only-blank keep v Absent = refl
+read_only-blank keep v ReadOnly = refl
+read_only-blank keep v Full = refl
+read_only-blank keep v (Done w) = refl
 
-full-blank : (v : Name) (s : Stored) → is_full (blank_stored v s) ≡ is_full s
-full-blank v Absent = refl
-full-blank v ReadOnly = refl
-full-blank v Full = refl
-full-blank v (Done w) = refl
+full-blank : (keep : Bool) (v : Name) (s : Stored) → is_full (blank_stored keep v s) ≡ is_full s
+full-blank keep v Absent = refl
+full-blank keep v ReadOnly = refl
+full-blank keep v Full = refl
+full-blank keep v (Done w) = refl
 
-after-blank : (v : Name) (w : World) (s : Stored) → world_after (blank v w) (blank_stored v s) ≡ blank v (world_after w s)
-after-blank v w Absent = refl
-after-blank v w ReadOnly = refl
-after-blank v w Full = refl
-after-blank v w (Done u) = refl
+after-blank : (keep : Bool) (v : Name) (w : World) (s : Stored) → world_after (blank keep v w) (blank_stored keep v s) ≡ blank keep v (world_after w s)
+after-blank keep v w Absent = refl
+after-blank keep v w ReadOnly = refl
+after-blank keep v w Full = refl
+after-blank keep v w (Done u) = refl
 
-module _ (v : Name) (w : World) (io : Channels) (job : ℕ) (targets : CallContexts) (outside : AreOutside v targets) where
-  value-blank : (n : ℕ) → descriptor_for (blank v w) targets.slots n ≡ descriptor_for w targets.slots n
-  value-blank n = descriptor-blank v w targets.slots n
+module _ (keep : Bool) (v : Name) (w : World) (io : Channels) (job : ℕ) (targets : CallContexts) (outside : AreOutside v targets) where
+  value-blank : (n : ℕ) → descriptor_for (blank keep v w) targets.slots n ≡ descriptor_for w targets.slots n
+  value-blank n = descriptor-blank keep v w targets.slots n
 
-  lowest-blank : lowest_empty (blank v w) targets.slots ≡ lowest_empty w targets.slots
-  lowest-blank = (blanks-alike v w).lowest targets.slots
+  lowest-blank : lowest_empty (blank keep v w) targets.slots ≡ lowest_empty w targets.slots
+  lowest-blank = (blanks-alike keep v w).lowest targets.slots
 
-  uid-blank : uid_at (blank v w) targets.cred ≡ uid_at w targets.cred
-  uid-blank = (asks-alike v w targets.cred outside.cred).value Cred
+  uid-blank : uid_at (blank keep v w) targets.cred ≡ uid_at w targets.cred
+  uid-blank = (asks-alike keep v w targets.cred outside.cred).value Cred
 
-  put-blank : (u : World) (n : ℕ) (value : Descriptor) → put_slot (blank v u) targets.slots n value ≡ blank v (put_slot u targets.slots n value)
-  put-blank u n value = (changes-alike v u targets.slots outside.slots).put (Slot n) value
+  put-blank : (u : World) (n : ℕ) (value : Descriptor) → put_slot (blank keep v u) targets.slots n value ≡ blank keep v (put_slot u targets.slots n value)
+  put-blank u n value = (changes-alike keep v u targets.slots outside.slots).put (Slot n) value
 
-  placed-blank : (value : Descriptor) → placed (blank v w) io targets.slots value ≡ blank_outcome v (placed w io targets.slots value)
+  placed-blank : (value : Descriptor) → placed (blank keep v w) io targets.slots value ≡ blank_outcome keep v (placed w io targets.slots value)
   placed-blank value =
-      ap (λ o. answering (unwrap_or o 0) (put_slot (blank v w) targets.slots (unwrap_or o 0) value) io) lowest-blank
+      ap (λ o. answering (unwrap_or o 0) (put_slot (blank keep v w) targets.slots (unwrap_or o 0) value) io) lowest-blank
       ∙ ap (λ u. answering (unwrap_or (lowest_empty w targets.slots) 0) u io) (put-blank w (unwrap_or (lowest_empty w targets.slots) 0) value)
 
-  opening-blank : (file : ℕ) → calls.opening (blank v w) io targets file ≡ blank_outcome v (calls.opening w io targets file)
+  opening-blank : (file : ℕ) → calls.opening (blank keep v w) io targets file ≡ blank_outcome keep v (calls.opening w io targets file)
   opening-blank file =
-      ended-blank v w io _ _ _ _
+      ended-blank keep v w io _ _ _ _
       (λ i. (nat_le (length io.files) file, NoFile) ∷ (not (option_map_or (may_open (uid-blank i)) (slice_get io.files file) false), NotPermitted) ∷ (is_none (lowest-blank i), NoSlot) ∷ [])
       (placed-blank (File file 0))
 
-  closing-blank : (n : ℕ) → calls.closing (blank v w) io targets.slots n ≡ blank_outcome v (calls.closing w io targets.slots n)
-  closing-blank n = ended-blank v w io _ _ _ _ (λ i. (is_empty (value-blank n i), BadFd) ∷ []) (ap (λ u. answering 0 u io) (put-blank w n Empty))
+  closing-blank : (n : ℕ) → calls.closing (blank keep v w) io targets.slots n ≡ blank_outcome keep v (calls.closing w io targets.slots n)
+  closing-blank n = ended-blank keep v w io _ _ _ _ (λ i. (is_empty (value-blank n i), BadFd) ∷ []) (ap (λ u. answering 0 u io) (put-blank w n Empty))
 
-  copying-blank : (n : ℕ) → calls.copying (blank v w) io targets.slots n ≡ blank_outcome v (calls.copying w io targets.slots n)
+  copying-blank : (n : ℕ) → calls.copying (blank keep v w) io targets.slots n ≡ blank_outcome keep v (calls.copying w io targets.slots n)
   copying-blank n =
-      ended-blank v w io _ _ _ _ (λ i. (is_empty (value-blank n i), BadFd) ∷ (is_none (lowest-blank i), NoSlot) ∷ [])
-      (ap (placed (blank v w) io targets.slots) (value-blank n) ∙ placed-blank (descriptor_for w targets.slots n))
+      ended-blank keep v w io _ _ _ _ (λ i. (is_empty (value-blank n i), BadFd) ∷ (is_none (lowest-blank i), NoSlot) ∷ [])
+      (ap (placed (blank keep v w) io targets.slots) (value-blank n) ∙ placed-blank (descriptor_for w targets.slots n))
 
-  store_at-blank : (from : ℕ) (bytes : List ℕ) → store_at (blank v w) targets.memory job from bytes ≡ blank_stored v (store_at w targets.memory job from bytes)
+  store_at-blank : (from : ℕ) (bytes : List ℕ) → store_at (blank keep v w) targets.memory job from bytes ≡ blank_stored keep v (store_at w targets.memory job from bytes)
   unfolding store_at
   store_at-blank from bytes = by (eqb (length bytes) 0) (nat_le (from + length bytes) (w.size.pages * PAGE_BYTES))
     where
-      by : (a b : Bool) → cond a (Done (blank v w)) (cond b (store (blank v w) targets.memory job (record { at = from; bytes = bytes })) Absent)
-          ≡ blank_stored v (cond a (Done w) (cond b (store w targets.memory job (record { at = from; bytes = bytes })) Absent))
+      by : (a b : Bool) → cond a (Done (blank keep v w)) (cond b (store (blank keep v w) targets.memory job (record { at = from; bytes = bytes })) Absent)
+          ≡ blank_stored keep v (cond a (Done w) (cond b (store w targets.memory job (record { at = from; bytes = bytes })) Absent))
       by true b = refl
-      by false true = (changes-alike v w targets.memory outside.memory).store job (record { at = from; bytes = bytes })
+      by false true = (changes-alike keep v w targets.memory outside.memory).store job (record { at = from; bytes = bytes })
       by false false = refl
 
-  reading-blank : (n from count : ℕ) → calls.reading (blank v w) io targets job n from count ≡ blank_outcome v (calls.reading w io targets job n from count)
+  reading-blank : (n from count : ℕ) → calls.reading (blank keep v w) io targets job n from count ≡ blank_outcome keep v (calls.reading w io targets job n from count)
   unfolding calls.reading
   reading-blank n from count =
       let value = descriptor_for w targets.slots n in
       let bytes = moved io value count in
       let stored = store_at w targets.memory job from bytes in
-      ap (λ d. ended (blank v w) io (calls.read_refusals io d count (store_at (blank v w) targets.memory job from (moved io d count)))
-      (answering (length (moved io d count)) (put_slot (world_after (blank v w) (store_at (blank v w) targets.memory job from (moved io d count))) targets.slots n (read_on (length (moved io d count)) d)) io))
+      ap (λ d. ended (blank keep v w) io (calls.read_refusals io d count (store_at (blank keep v w) targets.memory job from (moved io d count)))
+      (answering (length (moved io d count)) (put_slot (world_after (blank keep v w) (store_at (blank keep v w) targets.memory job from (moved io d count))) targets.slots n (read_on (length (moved io d count)) d)) io))
       (value-blank n)
-      ∙ ap (λ s. ended (blank v w) io (calls.read_refusals io value count s) (answering (length bytes) (put_slot (world_after (blank v w) s) targets.slots n (read_on (length bytes) value)) io))
+      ∙ ap (λ s. ended (blank keep v w) io (calls.read_refusals io value count s) (answering (length bytes) (put_slot (world_after (blank keep v w) s) targets.slots n (read_on (length bytes) value)) io))
       (store_at-blank from bytes)
-      ∙ ended-blank v w io _ _ _ _
-      (λ i. (is_empty value, BadFd) ∷ (is_none (left io value), WrongKind) ∷ (nat_lt MOST_BYTES_OF_CALL count, TooLong) ∷ (absent-blank v stored i, BadAddress) ∷ (read_only-blank v stored i, refusal.ReadOnly) ∷ (full-blank v stored i, NoFrame) ∷ [])
-      (ap (λ u. answering (length bytes) (put_slot u targets.slots n (read_on (length bytes) value)) io) (after-blank v w stored)
+      ∙ ended-blank keep v w io _ _ _ _
+      (λ i. (is_empty value, BadFd) ∷ (is_none (left io value), WrongKind) ∷ (nat_lt MOST_BYTES_OF_CALL count, TooLong) ∷ (absent-blank keep v stored i, BadAddress) ∷ (read_only-blank keep v stored i, refusal.ReadOnly) ∷ (full-blank keep v stored i, NoFrame) ∷ [])
+      (ap (λ u. answering (length bytes) (put_slot u targets.slots n (read_on (length bytes) value)) io) (after-blank keep v w stored)
       ∙ ap (λ u. answering (length bytes) u io) (put-blank (world_after w stored) n (read_on (length bytes) value)))
 
-  writing-blank : (n from count : ℕ) → calls.writing (blank v w) io targets n from count ≡ blank_outcome v (calls.writing w io targets n from count)
+  writing-blank : (n from count : ℕ) → calls.writing (blank keep v w) io targets n from count ≡ blank_outcome keep v (calls.writing w io targets n from count)
   unfolding calls.writing
   writing-blank n from count =
-      let bytes = (asks-alike v w targets.memory outside.memory).bytes from count in
-      ended-blank v w io _ _ _ _
+      let bytes = (asks-alike keep v w targets.memory outside.memory).bytes from count in
+      ended-blank keep v w io _ _ _ _
       (λ i. calls.write_refusals io (value-blank n i) count (bytes i))
-      (λ i. answering count (blank v w) (written io (value-blank n i) (unwrap_or (bytes i) [])))
+      (λ i. answering count (blank keep v w) (written io (value-blank n i) (unwrap_or (bytes i) [])))
 
-  mapped-blank : (from to : ℕ) (present : Bool) → mapped_or_not (blank v w) targets.memory from to present ≡ blank v (mapped_or_not w targets.memory from to present)
-  mapped-blank = (changes-alike v w targets.memory outside.memory).map
+  mapped-blank : (from to : ℕ) (present : Bool) → mapped_or_not (blank keep v w) targets.memory from to present ≡ blank keep v (mapped_or_not w targets.memory from to present)
+  mapped-blank = (changes-alike keep v w targets.memory outside.memory).map
 
-  mapping-blank : (from to : ℕ) (present : Bool) → calls.mapping (blank v w) io targets.memory from to present ≡ blank_outcome v (calls.mapping w io targets.memory from to present)
+  mapping-blank : (from to : ℕ) (present : Bool) → calls.mapping (blank keep v w) io targets.memory from to present ≡ blank_outcome keep v (calls.mapping w io targets.memory from to present)
   mapping-blank from to present =
-      ended-blank v w io _ _ _ _
+      ended-blank keep v w io _ _ _ _
       (λ i. (nat_le to from || nat_lt w.size.pages to, BadRange)
-      ∷ (nat_lt MOST_RANGES ((ap (λ u. ranges_of u targets.memory) (mapped-blank from to present) ∙ (blanks-alike v (mapped_or_not w targets.memory from to present)).ranges targets.memory) i), TooManyRanges) ∷ [])
+      ∷ (nat_lt MOST_RANGES ((ap (λ u. ranges_of u targets.memory) (mapped-blank from to present) ∙ (blanks-alike keep v (mapped_or_not w targets.memory from to present)).ranges targets.memory) i), TooManyRanges) ∷ [])
       (ap (λ u. answering 0 u io) (mapped-blank from to present))
 
-  becoming-blank : (uid : ℕ) → calls.becoming (blank v w) io targets.cred uid ≡ blank_outcome v (calls.becoming w io targets.cred uid)
+  becoming-blank : (uid : ℕ) → calls.becoming (blank keep v w) io targets.cred uid ≡ blank_outcome keep v (calls.becoming w io targets.cred uid)
   becoming-blank uid =
-      ended-blank v w io _ _ _ _
+      ended-blank keep v w io _ _ _ _
       (λ i. (nat_le (2 ^ 32) uid, BadRange) ∷ (not (may_set (uid-blank i) uid), NotPermitted) ∷ [])
-      (ap (λ u. answering 0 u io) ((changes-alike v w targets.cred outside.cred).put Cred uid))
+      (ap (λ u. answering 0 u io) ((changes-alike keep v w targets.cred outside.cred).put Cred uid))
 
-  telling-blank : answering (uid_at (blank v w) targets.cred) (blank v w) io ≡ blank_outcome v (answering (uid_at w targets.cred) w io)
-  telling-blank = ap (λ n. answering n (blank v w) io) uid-blank
+  telling-blank : answering (uid_at (blank keep v w) targets.cred) (blank keep v w) io ≡ blank_outcome keep v (answering (uid_at w targets.cred) w io)
+  telling-blank = ap (λ n. answering n (blank keep v w) io) uid-blank
 
-  pub plain-blank : (call : Option PlainCall) (args : List ℕ) → plain (blank v w) io targets job call args ≡ blank_outcome v (plain w io targets job call args)
+  pub plain-blank : (call : Option PlainCall) (args : List ℕ) → plain (blank keep v w) io targets job call args ≡ blank_outcome keep v (plain w io targets job call args)
   unfolding plain
   plain-blank None args = refl
   plain-blank (Some plain_calls.Open) args = opening-blank (slice_index args 0)
@@ -176,21 +176,21 @@ module _ (v : Name) (w : World) (io : Channels) (job : ℕ) (targets : CallConte
   plain-blank (Some plain_calls.SetUid) args = becoming-blank (slice_index args 0)
   plain-blank (Some plain_calls.Exit) args = refl
 
-module _ (v c : Name) (job : ℕ) (w : World) (io : Channels) (outside : IsOutside v c job w) (regs : Regs) where
-  links : syscalls.link (blank v w) c regs ≡ syscalls.link w c regs
-  links = ap (link_or c) (descriptor-blank v w c (slice_index regs.r 1))
+module _ (keep : Bool) (v c : Name) (job : ℕ) (w : World) (io : Channels) (outside : IsOutside v c job w) (regs : Regs) where
+  links : syscalls.link (blank keep v w) c regs ≡ syscalls.link w c regs
+  links = ap (link_or c) (descriptor-blank keep v w c (slice_index regs.r 1))
 
-  threes : syscalls.targets_of (blank v w) c regs ≡ syscalls.targets_of w c regs
+  threes : syscalls.targets_of (blank keep v w) c regs ≡ syscalls.targets_of w c regs
   threes = λ i. record {
     memory = cond (is_chosen (syscalls.mask_in regs) kinds.Page) (links i).0 c;
     slots = cond (is_chosen (syscalls.mask_in regs) kinds.Slot) (links i).0 c;
     cred = cond (is_chosen (syscalls.mask_in regs) kinds.Cred) (links i).0 c;
   }
 
-  refusals-blank : syscalls.refusals (blank v w) c regs ≡ syscalls.refusals w c regs
+  refusals-blank : syscalls.refusals (blank keep v w) c regs ≡ syscalls.refusals w c regs
   unfolding syscalls.refusals
   refusals-blank = λ i.
-      slot_refusals-blank v w c (slice_index regs.r 1) i
+      slot_refusals-blank keep v w c (slice_index regs.r 1) i
       ++ ((nat_lt 7 (syscalls.mask_in regs), BadMode)
       ∷ (not (has_kinds w.size.pages (links i).1 (syscalls.mask_in regs)), NotCovered)
       ∷ (nat_lt (syscalls.inner_number regs) 1 || nat_lt 9 (syscalls.inner_number regs), BadCall) ∷ [])
@@ -230,17 +230,17 @@ module _ (v c : Name) (job : ℕ) (w : World) (io : Channels) (outside : IsOutsi
           let shut = link-shut v c (descriptor_for w c (slice_index regs.r 1)) outside.context (outside.shut (slice_index regs.r 1)) same in
           false≢true (sym (lacks_kind (syscalls.link w c regs).1 shut kind is) ∙ has_kinds-then none)
 
-  pub syscall-blank : syscalls.lw_syscall (blank v w) io c job regs ≡ blank_outcome v (syscalls.lw_syscall w io c job regs)
+  pub syscall-blank : syscalls.lw_syscall (blank keep v w) io c job regs ≡ blank_outcome keep v (syscalls.lw_syscall w io c job regs)
   unfolding syscalls.lw_syscall
   syscall-blank =
-      (λ i. refused_or (blank v w) io (plain (blank v w) io (threes i) job (syscalls.inner_call regs) (syscalls.inner_args regs)) (first_refusal (refusals-blank i)))
+      (λ i. refused_or (blank keep v w) io (plain (blank keep v w) io (threes i) job (syscalls.inner_call regs) (syscalls.inner_args regs)) (first_refusal (refusals-blank i)))
       ∙ by (first_refusal (syscalls.refusals w c regs)) refl
     where
       by : (first : Option Refusal) → first_refusal (syscalls.refusals w c regs) ≡ first →
-          refused_or (blank v w) io (plain (blank v w) io (syscalls.targets_of w c regs) job (syscalls.inner_call regs) (syscalls.inner_args regs)) first
-          ≡ blank_outcome v (refused_or w io (plain w io (syscalls.targets_of w c regs) job (syscalls.inner_call regs) (syscalls.inner_args regs)) first)
+          refused_or (blank keep v w) io (plain (blank keep v w) io (syscalls.targets_of w c regs) job (syscalls.inner_call regs) (syscalls.inner_args regs)) first
+          ≡ blank_outcome keep v (refused_or w io (plain w io (syscalls.targets_of w c regs) job (syscalls.inner_call regs) (syscalls.inner_args regs)) first)
       by (Some refusal) is = refl
       by None is =
           let taken = taken-outside is in
-          plain-blank v w io job (syscalls.targets_of w c regs) (record { memory = taken kinds.Page; slots = taken kinds.Slot; cred = taken kinds.Cred })
+          plain-blank keep v w io job (syscalls.targets_of w c regs) (record { memory = taken kinds.Page; slots = taken kinds.Slot; cred = taken kinds.Cred })
           (syscalls.inner_call regs) (syscalls.inner_args regs)

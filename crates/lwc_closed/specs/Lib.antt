@@ -1,0 +1,2 @@
+pub use Rattle.kernel_core.specs.Start
+pub mod Bytes

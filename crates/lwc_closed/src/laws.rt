@@ -1,0 +1,30 @@
+//! Laws of closed contexts: functions with empty bodies, each with a contract that is the law.
+
+ghost use Rattle.std.specs.Prelude.{◌≡◌, ℕ, All, List, None};
+ghost use Rattle.confinement.specs.Closed.{IsClosed, StayIn};
+ghost use Rattle.confinement.specs.Fences.{Fence, KeepsTo, StayInside};
+ghost use Rattle.confinement.specs.May.{world_of};
+ghost use Rattle.kernel_core.specs.Kernel.{CanOpen};
+ghost use Rattle.kernel_core.specs.Runs.{run};
+ghost use Rattle.kernel_core.specs.Start.{Inputs, start};
+ghost use Rattle.kernel_core.specs.declared.settings.Job.TheVariants as jobs;
+ghost use Rattle.lwc_base.specs.declared.name.Name.{Name};
+ghost use Rattle.lwc_closed.specs.Bytes.{IsAnother, IsShutOff, LearnNothing};
+
+/// Steps that are made inside a fence learn nothing of the bytes in the own pages of a context outside of which no key is
+/// opened.
+pub fn steps_inside_a_fence_learn_nothing_of_others()
+    ensures { (inputs : Inputs) (before during : List ℕ) (f : Fence) (others : List Name) → CanOpen inputs →
+        inputs.settings.job ≡ jobs.Run → KeepsTo f (run (start inputs) before) →
+        StayInside f (run (start inputs) before) during → All (IsShutOff f) others →
+        LearnNothing (run (start inputs) before) during others }
+{}
+
+/// What stays in a closed context learns nothing of the bytes in other contexts' own pages.
+pub fn a_closed_context_learns_nothing_of_others()
+    ensures { (inputs : Inputs) (before during : List ℕ) (c : Name) (others : List Name) → CanOpen inputs →
+        inputs.settings.job ≡ jobs.Run → IsClosed (world_of (run (start inputs) before)) c →
+        StayIn (world_of (run (start inputs) before)) c (run (start inputs) before) during →
+        All (IsAnother (run (start inputs) before) c) others →
+        LearnNothing (run (start inputs) before) during others }
+{}

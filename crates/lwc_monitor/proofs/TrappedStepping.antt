@@ -1,0 +1,217 @@
+-- Each step under traps leaves contexts as it should.
+use Rattle.std.proofs.Common.{◌≡◌, ◌⊎◌, inl, inr, ℕ, ◌+◌, ◌-◌, zero, suc, true, Option, None, Some, List, [], ◌∷◌, ◌++◌, refl, ap, sym, subst, ◌∙◌, length}
+use Rattle.std.specs.Prelude.{slice_get, slice_set}
+use Rattle.std.specs.FinMap as fm
+use Rattle.confinement.proofs.Confining.{Leaves, confined, empty_slot, leaves_reaped, ready_thread}
+use Rattle.confinement.proofs.Stages.{Allowance, none, store_on}
+use Rattle.confinement.specs.Confined.{IsConfined}
+use Rattle.confinement.specs.May.{regs_at, world_of}
+use Rattle.confinement.specs.One.{IsOneValue}
+use Rattle.guest_isa.specs.declared.instr.Instr.{Instr}
+use Rattle.guest_machine.specs.Advances.{advanced}
+use Rattle.kernel_core.specs.Kernel.{CanOpen}
+use Rattle.kernel_core.specs.Machine.{Environment, Machine, Serve}
+use Rattle.kernel_core.specs.Ready.{IsReady}
+use Rattle.kernel_core.specs.Refused.{advanced_thread}
+use Rattle.kernel_core.specs.Start.{Inputs}
+use Rattle.kernel_core.specs.Step.{AfterStep, Calls, Outcome, advance_outcome, after_outcome, after_thread, contexts_of, counted, guest_calls, next_outcome, only, roots, step, step_by, thread_outcome, unchanged, with_status, with_world}
+use Rattle.kernel_core.specs.declared.settings.Job.TheVariants as jobs
+use Rattle.kernel_core.specs.declared.thread.Thread.{Thread}
+use Rattle.lwc_base.proofs.Puts.{takes-after_store}
+use Rattle.lwc_base.proofs.Reaped.{reap-reaped}
+use Rattle.lwc_base.proofs.Rights.{store-right}
+use Rattle.lwc_base.proofs.StillReaped.{reaped-after_store}
+use Rattle.lwc_base.proofs.Stored.{is_done}
+use Rattle.lwc_base.proofs.Slots.{lowest_is_empty_slot}
+use Rattle.lwc_base.specs.Capabilities.{empty_cap}
+use Rattle.lwc_base.specs.Cells.{slot_at, value_at}
+use Rattle.lwc_base.specs.Rights.{right_at}
+use Rattle.lwc_base.specs.Store.{Done, Piece, store}
+use Rattle.lwc_base.specs.declared.descriptor.Cap.{Cap}
+use Rattle.lwc_base.specs.declared.key.Key.{Key}
+use Rattle.lwc_base.specs.declared.key.Key.TheVariants.{Page}
+use Rattle.lwc_base.specs.Modes.{IsKey}
+use Rattle.lwc_base.specs.Life as life
+use Rattle.lwc_base.specs.Life.{IsReaped}
+use Rattle.lwc_base.specs.World.{World, context, is_live}
+use Rattle.lwc_base.specs.declared.fault.ThreadStatus.{ThreadStatus}
+use Rattle.lwc_base.specs.declared.fault.ThreadStatus.TheVariants as status
+use Rattle.lwc_base.specs.declared.name.Name.{Name}
+use Rattle.lwc_base.specs.Slots.{lowest_empty}
+use Rattle.lwc_monitor.proofs.Keeping.{IsKept}
+use Rattle.lwc_monitor.specs.Calls.{calls_under}
+use Rattle.lwc_monitor.specs.Reports.{begun}
+use Rattle.lwc_monitor.specs.Steps.{Monitored, monitored_step, run_under}
+use Rattle.lwc_switch.specs.Switch.{switched}
+use Rattle.lwc_monitor.proofs.TrappedArriving.{enters, registers}
+use Rattle.lwc_monitor.proofs.TrappedCourses.{Arrives, Course, Goes, Kernel, Rests, Stays, Stores, TrappedCourse, next_course, trapped_course}
+use Rattle.lwc_monitor.specs.Contexts.{GoesToIt, LeavesAllBut, LeavesButPages, LeavesContexts, OfTheKernel, OfTheThread, StaysThere, ToTheMonitor}
+
+-- a thread of the same context leaves the contexts of threads
+same_contexts : (threads : List Thread) (t : ℕ) (x y : Thread) → slice_get threads t ≡ Some x → y.context ≡ x.context → contexts_of (slice_set threads t y) ≡ contexts_of threads
+same_contexts [] t x y found is = cc
+same_contexts (z ∷ zs) zero x y found is = let same : z ≡ x = cc in ap (λ c. c ∷ contexts_of zs) (is ∙ ap (λ (u : Thread). u.context) (sym same))
+same_contexts (z ∷ zs) (suc t) x y found is = ap (λ l. z.context ∷ l) (same_contexts zs t x y found is)
+
+module _ (inputs : Inputs) (steps : ℕ) (s : Monitored) (t : ℕ) (kept : IsKept inputs steps s) where
+  abbrev m : Machine
+  m = s.machine
+
+  abbrev w : World
+  w = world_of m
+
+  abbrev calls : Calls
+  calls = calls_under s.traps
+
+  kernel : (after : Machine) → after ≡ step m t → LeavesContexts s after t
+  kernel after is = OfTheKernel is (subst (λ (k : Machine). IsConfined m t k) (sym is) (confined inputs steps m t kept.ready))
+
+  module _ (x : Thread) (found : slice_get m.threads t ≡ Some x) where
+    abbrev by : Calls → ThreadStatus → Machine
+    by table st = after_outcome m t (thread_outcome table t m.environment None m.text x st)
+
+    abbrev outcome : Calls → Outcome
+    outcome table = next_outcome table t m.environment (advanced_thread m x) (advanced m.text x.regs).next
+
+    -- a running thread's outcome
+    abbrev left : Outcome → Machine
+    left o = after_outcome m t (Some (only None (counted (x.budget - 1) o)))
+
+    is_left : (table : Calls) → by table status.Running ≡ left (outcome table)
+    unfolding advance_outcome
+    is_left table = refl
+
+    stays_world : (o : Outcome) → o.environment ≡ m.environment → o.thread.context ≡ x.context → (left o).environment ≡ m.environment
+    stays_world o same here =
+        let names : roots (slice_set m.threads t (counted (x.budget - 1) o).thread) None ≡ roots m.threads m.serve =
+        ap (λ l. l ++ []) (same_contexts m.threads t x (counted (x.budget - 1) o).thread found here) ∙ ap (roots m.threads) (sym kept.run) in
+        ap (λ (e : Environment). with_world e (life.reap e.world (roots (slice_set m.threads t (counted (x.budget - 1) o).thread) None))) same
+        ∙ (ap (λ l. with_world m.environment (life.reap w l)) names
+        ∙ ap (with_world m.environment) (reap-reaped w (roots m.threads m.serve) kept.ready.reaped))
+
+    by_course : (o k : Outcome) → Course s.traps t m.environment (advanced_thread m x) o k → left k ≡ step m t → LeavesContexts s (left o) t
+    by_course o k (Kernel same) is = kernel (left o) (ap left same ∙ is)
+    by_course o k (Stays same here) is = OfTheThread (stays_world o same here)
+    by_course o k (Goes d slot trapped live lowest made) is =
+        let names : List Name = roots (slice_set m.threads t (counted (x.budget - 1) o).thread) None in
+        let v : World = switched w x.context t (regs_at m x) d slot in
+        let there = lowest_is_empty_slot w d slot lowest in
+        let empty = empty_slot inputs steps m t kept.ready (slot_at w d slot) there.1 in
+        let reached : Leaves v (world_of (left o)) = subst (λ (e : Environment). Leaves v (life.reap e.world names)) (sym made) (leaves_reaped v names) in
+        ToTheMonitor x d found trapped
+        (enters m (left o) t x (regs_at m x) d slot kept.ready.sound live there.0 lowest empty reached)
+        (registers m (left o) t x (regs_at m x) d slot kept.ready.sound live there.0 lowest empty reached)
+        (ap (λ (e : Environment). e.channels) made)
+
+    by_status : (st : ThreadStatus) → by guest_calls st ≡ step m t → LeavesContexts s (by calls st) t
+    by_status status.Running is =
+        subst (λ (k : Machine). LeavesContexts s k t) (sym (is_left calls))
+        (by_course (outcome calls) (outcome guest_calls) (next_course s.traps t m.environment (advanced_thread m x) (advanced m.text x.regs).next) (sym (is_left guest_calls) ∙ is))
+    by_status status.Idle is = kernel _ is
+    by_status (status.Done code) is = kernel _ is
+    by_status (status.Faulted f) is = kernel _ is
+
+    with_serve : (table : Calls) → step_by table m t ≡ by table x.status
+    unfolding step_by
+    with_serve table = ap (after_thread table m t) found ∙ ap (λ (serve : Option Serve). after_outcome m t (thread_outcome table t m.environment serve m.text x x.status)) kept.run
+
+    pub some_thread : LeavesContexts s (step_by calls m t) t
+    some_thread = subst (λ (k : Machine). LeavesContexts s k t) (sym (with_serve calls)) (by_status x.status (sym (with_serve guest_calls)))
+
+    -- a thread in a trapped context
+    module _ (d : Name) (trapped : fm.get s.traps x.context ≡ Some d) where
+      stays_all : (after : Machine) → after.environment ≡ m.environment → LeavesButPages m after x.context
+      stays_all after same = record {
+        live = λ e. ap (λ (k : Environment). is_live k.world e) same;
+        cells = λ e k lives key. inl (ap (λ (u : Environment). (context u.world e).cell k) same);
+        rights = λ e p. ap (λ (u : Environment). right_at u.world e p) same;
+        values = λ e k lives key. inl (ap (λ (u : Environment). value_at u.world e k) same);
+        entries = λ e lives. ap (λ (u : Environment). (context u.world e).entry) same;
+        saved = λ e s lives. ap (λ (u : Environment). (context u.world e).saved s) same;
+        channels = ap (λ (u : Environment). u.channels) same;
+      }
+
+      -- what a store in the context may change
+      abbrev pages_alone : Allowance
+      pages_alone = record { change = λ e k. (e ≡ x.context) × (p : ℕ) × (k ≡ Page p); saving = λ e s. ⊥; capability = λ d cap. ⊥ }
+
+      x_lives : is_live w x.context ≡ true
+      x_lives = (ready_thread inputs steps t m x kept.ready found).live
+
+      stores_pages : (piece : Piece) (v : World) → store w x.context x.job piece ≡ Done v → (after : Machine) → after.environment ≡ with_world m.environment v → LeavesButPages m after x.context
+      stores_pages piece v is after made =
+          let confines = (store_on pages_alone w kept.ready.sound.groups x.context x.job piece v (none pages_alone w kept.ready.sound.groups) x_lives (λ p key. (refl, p, refl)) is).confines in
+          let done = is_done w x.context x.job piece v is in
+          let world : world_of after ≡ v = ap (λ (u : Environment). u.world) made in
+          let at : (P : World → Type 0) → P v → P (world_of after) = λ P here. subst P (sym world) here in
+          record {
+            live = λ e. ap (λ (u : World). is_live u e) (world ∙ done.after) ∙ (takes-after_store w x.context x.job piece).live e;
+            cells = λ e k lives key. at (λ u. ((context u e).cell k ≡ (context w e).cell k) ⊎ ((e ≡ x.context) × (p : ℕ) × (k ≡ Page p))) (confines.cells e k lives key);
+            rights = λ e p. at (λ u. right_at u e p ≡ right_at w e p) (store-right w v x.context x.job piece is e p);
+            values = λ e k lives key. at (λ u. (value_at u e k ≡ value_at w e k) ⊎ (IsOneValue w x.context e k × (p : ℕ) × (k ≡ Page p))) (elim (confines.values e k lives key) [
+              | inl same ↦ inl same
+              | inr seen ↦ inr (subst (λ (n : Name). IsOneValue w n e k) seen.1.0 seen.2, seen.1.1, seen.1.2)
+            ]);
+            entries = λ e lives. at (λ u. (context u e).entry ≡ (context w e).entry) (confines.entries e lives);
+            saved = λ e s lives. at (λ u. (context u e).saved s ≡ (context w e).saved s) (elim (confines.saved e s lives) [ inl same ↦ same | inr never ↦ absurd never ]);
+            channels = ap (λ (u : Environment). u.channels) made;
+          }
+
+      -- a store leaves nothing to drop
+      stored_left : (o : Outcome) (piece : Piece) (v : World) → store w x.context x.job piece ≡ Done v → o.environment ≡ with_world m.environment v → o.thread.context ≡ x.context →
+          (left o).environment ≡ with_world m.environment v
+      stored_left o piece v is made here =
+          let names : roots (slice_set m.threads t (counted (x.budget - 1) o).thread) None ≡ roots m.threads m.serve =
+          ap (λ l. l ++ []) (same_contexts m.threads t x (counted (x.budget - 1) o).thread found here) ∙ ap (roots m.threads) (sym kept.run) in
+          let reaped : IsReaped v (roots m.threads m.serve) =
+          subst (λ (u : World). IsReaped u (roots m.threads m.serve)) (sym (is_done w x.context x.job piece v is).after) (reaped-after_store w (roots m.threads m.serve) x.context x.job piece kept.ready.reaped) in
+          ap (λ (e : Environment). with_world e (life.reap e.world (roots (slice_set m.threads t (counted (x.budget - 1) o).thread) None))) made
+          ∙ (ap (λ l. with_world m.environment (life.reap v l)) names ∙ ap (with_world m.environment) (reap-reaped v (roots m.threads m.serve) reaped))
+
+      by_trapped : (o : Outcome) → TrappedCourse t m.environment (advanced_thread m x) d o → LeavesAllBut s (left o) t x d
+      by_trapped o (Rests same here) = StaysThere (stays_all (left o) (stays_world o same here))
+      by_trapped o (Stores piece v is made here) = StaysThere (stores_pages piece v is (left o) (stored_left o piece v is made here))
+      by_trapped o (Arrives slot live lowest made) =
+          let names : List Name = roots (slice_set m.threads t (counted (x.budget - 1) o).thread) None in
+          let v : World = switched w x.context t (regs_at m x) d slot in
+          let there = lowest_is_empty_slot w d slot lowest in
+          let empty = empty_slot inputs steps m t kept.ready (slot_at w d slot) there.1 in
+          let reached : Leaves v (world_of (left o)) = subst (λ (e : Environment). Leaves v (life.reap e.world names)) (sym made) (leaves_reaped v names) in
+          GoesToIt (enters m (left o) t x (regs_at m x) d slot kept.ready.sound live there.0 lowest empty reached)
+          (registers m (left o) t x (regs_at m x) d slot kept.ready.sound live there.0 lowest empty reached)
+          (ap (λ (e : Environment). e.channels) made)
+
+      -- a thread that is idle ends, as a run serves nothing
+      idle_rests : (left_by : AfterStep) → left_by ≡ only None (unchanged m.environment (with_status x (status.Done 0))) → (after_outcome m t (Some left_by)).environment ≡ m.environment
+      idle_rests left_by is =
+          let names : roots (slice_set m.threads t (with_status x (status.Done 0))) None ≡ roots m.threads m.serve =
+          ap (λ l. l ++ []) (same_contexts m.threads t x (with_status x (status.Done 0)) found refl) ∙ ap (roots m.threads) (sym kept.run) in
+          ap (λ a. (after_outcome m t (Some a)).environment) is
+          ∙ (ap (λ l. with_world m.environment (life.reap w l)) names ∙ ap (with_world m.environment) (reap-reaped w (roots m.threads m.serve) kept.ready.reaped))
+
+      trapped_status : (st : ThreadStatus) → LeavesAllBut s (by calls st) t x d
+      trapped_status status.Running =
+          subst (λ (k : Machine). LeavesAllBut s k t x d) (sym (is_left calls))
+          (by_trapped (outcome calls) (trapped_course s.traps t m.environment (advanced_thread m x) d trapped (advanced m.text x.regs).next))
+      trapped_status status.Idle = StaysThere (stays_all _ (idle_rests _ refl))
+      trapped_status (status.Done code) = StaysThere (stays_all _ refl)
+      trapped_status (status.Faulted f) = StaysThere (stays_all _ refl)
+
+      trapped_leaves : LeavesAllBut s (step_by calls m t) t x d
+      trapped_leaves = subst (λ (k : Machine). LeavesAllBut s k t x d) (sym (with_serve calls)) (trapped_status x.status)
+
+      pub trapped_step : LeavesAllBut s (monitored_step s t).machine t x d
+      unfolding monitored_step
+      trapped_step = trapped_leaves
+
+  no_thread : slice_get m.threads t ≡ None → LeavesContexts s (step_by calls m t) t
+  unfolding step_by
+  no_thread none = kernel _ (ap (after_thread calls m t) none ∙ sym (ap (after_thread guest_calls m t) none))
+
+  by_thread : (o : Option Thread) → slice_get m.threads t ≡ o → LeavesContexts s (step_by calls m t) t
+  by_thread None none = no_thread none
+  by_thread (Some x) found = some_thread x found
+
+  pub leaves_contexts : LeavesContexts s (monitored_step s t).machine t
+  unfolding monitored_step
+  leaves_contexts = by_thread (slice_get m.threads t) refl
