@@ -1,8 +1,9 @@
-"""The definitions, types and public calls of the crates, as they stand in the sources: what the pages about them are made of."""
+"""The definitions, types and public calls of the crates, as they stand in the sources, for the pages about them."""
 
 from __future__ import annotations
 
 import re
+import textwrap
 from dataclasses import dataclass, field
 from functools import cache
 from pathlib import Path
@@ -70,14 +71,9 @@ def module_name(file: Path) -> str:
     return str(file.relative_to(CRATES).with_suffix(""))
 
 
-def wrapped(line: str) -> str:
-    """The line in lines of under 120 columns, the later ones indented."""
-    lines = [""]
-    for word in line.split(" "):
-        if len(lines[-1]) + len(word) > 116:
-            lines.append(" ")
-        lines[-1] += (" " if lines[-1] else "") + word
-    return "\n".join(lines)
+def wrapped(text: str, later: str = "") -> str:
+    """A paragraph in lines of under 120 columns, the later ones with an indentation."""
+    return textwrap.fill(text, 118, subsequent_indent=later, break_long_words=False, break_on_hyphens=False)
 
 
 # Definitions
