@@ -248,10 +248,10 @@ of_read files (Err rejection) next work h = absurd cc
 -- a plan that reads a known file and leads to a work has accepted the file, and goes on by its value
 leads_by : {A : Type 0} (files : FileContents) (grammar : List ℕ → Result A Rejection) (limit : ℕ) (name : List ℕ) (next : A → Plan Rejection Work) (work : Work) (known : List ℕ) → files name ≡ Some known → LeadsTo files (read_by grammar limit name next) (Ok work)
     → (x : A) × (grammar known ≡ Ok x) × All (λ b. b < 256) known × LeadsTo files (next x) (Ok work)
-leads_by files grammar limit name next work known is (bytes, may, fits, leads) =
-    let same : known ≡ bytes = known_bytes (files name) known bytes is may in
+leads_by files grammar limit name next work known is (bytes, read_as, leads) =
+    let same : known ≡ bytes = known_bytes (files name) known bytes is read_as.contents in
     let read = of_read files (grammar bytes) next work leads in
-    (read.0, ap grammar same ∙ read.1, subst (All (λ b. b < 256)) (sym same) fits, read.2)
+    (read.0, ap grammar same ∙ read.1, subst (All (λ b. b < 256)) (sym same) read_as.range, read.2)
 
 -- this is what is told of a complete history
 abbrev TellsSteps : (Inputs → List ℕ → List ℕ) → Inputs → List ℕ → Type 0
