@@ -37,7 +37,7 @@ use Rattle.guest_call.specs.Guest.{with_answer}
 use Rattle.lwc_syscall.specs.Changes.{holder}
 use Rattle.lwc_syscall.specs.Plain.{plain, plain_call}
 use Rattle.lwc_syscall.specs.Syscall as syscalls
-use Rattle.lwc_syscall.specs.Syscall.{inner_args, inner_call, link, mask_in, taken_from, targets_of}
+use Rattle.lwc_syscall.specs.Syscall.{inner_args, inner_call, link, mask_in, targets_of}
 use Rattle.res_spec.specs.declared.items.SpecCall.TheVariants as call
 use Rattle.snapshot_host.specs.Begin.{begin, begun_context}
 use Rattle.confinement.proofs.Making.{add_on, clone_on, named_old, overlay_on, share_on}

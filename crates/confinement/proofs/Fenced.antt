@@ -133,7 +133,7 @@ module _ (w : World) (c : Name) where
   is_seen : (d : Name) (k : Key) → HaveInCommon w c d k → (closed_fence w c).seen d k ≡ true
   is_seen d k both = let one = name-itself both.group in grind (arith, both.first, both.second)
 
-one_cell : {A : Type 0} (x y : Cell A) → is_one_cell x y ≡ true → (g : Name) × (x ≡ Common g) × (y ≡ Common g)
+pub one_cell : {A : Type 0} (x y : Cell A) → is_one_cell x y ≡ true → (g : Name) × (x ≡ Common g) × (y ≡ Common g)
 one_cell (Common g) (Common h) is = (g, refl, ap Common (sym (same_name g h is)))
 one_cell (Common g) (Own y) is = absurd cc
 one_cell (Own x) y is = absurd cc

@@ -34,7 +34,7 @@ use Rattle.lwc_base.specs.Refusals.{first_refusal}
 use Rattle.lwc_base.specs.World.{World, context, is_live, next_context}
 use Rattle.lwc_overlay.specs.OverlayCall as overlaying
 use Rattle.lwc_syscall.specs.Syscall as syscalls
-use Rattle.lwc_syscall.specs.Syscall.{inner_args, inner_call, link, lw_syscall, targets_of}
+use Rattle.lwc_syscall.specs.Syscall.{inner_args, inner_call, lw_syscall, targets_of}
 use Rattle.lwc_syscall.specs.Plain.{is_written, plain}
 use Rattle.confinement.proofs.Confining.{confined, Leads, leads, ready_thread}
 use Rattle.confinement.proofs.Decide.{number_or_not}

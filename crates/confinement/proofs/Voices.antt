@@ -25,10 +25,10 @@ use Rattle.lwc_base.specs.Sharing.{clone_context, share}
 use Rattle.lwc_base.specs.Slots.{lowest_empty}
 use Rattle.lwc_base.specs.Sound.{HasItsGroups}
 use Rattle.lwc_base.specs.Store as stores
-use Rattle.lwc_base.specs.Store.{Piece, Stored, after_store, store}
+use Rattle.lwc_base.specs.Store.{Piece, Stored, store}
 use Rattle.lwc_base.specs.World.{World, Context, context, is_live, next_context}
 use Rattle.lwc_syscall.specs.Plain as calls
-use Rattle.lwc_syscall.specs.Plain.{Outcome, answering, is_written, left, moved, placed, plain, read_on, store_at, world_after, written}
+use Rattle.lwc_syscall.specs.Plain.{Outcome, answering, is_written, moved, placed, plain, read_on, store_at, world_after, written}
 use Rattle.lwc_syscall.specs.declared.calls.CallContexts.{CallContexts}
 use Rattle.lwc_syscall.specs.declared.plain_call.PlainCall.{PlainCall}
 use Rattle.lwc_syscall.specs.declared.plain_call.PlainCall.TheVariants as call

@@ -2,7 +2,7 @@
 use Rattle.std.proofs.Common.{◌≡◌, ℕ, suc, ◌+◌, ◌<◌, List, [], ◌∷◌, length, drop, get_or, Result, Ok, Err, refl, sym, ◌∙◌, arith, drop-cons}
 use Rattle.guest_asm.specs.declared.error.SourceRule.{SourceRule}
 use Rattle.guest_asm.specs.declared.error.SourceRule.TheVariants.{BadLine}
-use Rattle.guest_asm.specs.declared.operand.Field.{Field}
+use Rattle.guest_isa.specs.declared.op.Field.{Field}
 use Rattle.guest_asm.specs.Statements.{Coded, with_field, with_fields}
 
 -- how far a loop over fields has come: total is what all fields and words give

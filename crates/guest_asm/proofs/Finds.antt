@@ -7,8 +7,8 @@ use Rattle.std.specs.Str.{bytes_eq}
 use Rattle.std.proofs.lemmas.Bool.Decides.{nat_tests}
 use Rattle.std.proofs.lemmas.Bool.{and_parts, false≢true}
 use Rattle.guest_isa.specs.declared.op.Op.{Op}
-use Rattle.guest_isa.specs.Opcodes.{ops}
-use Rattle.guest_asm.specs.Statements.{Once, instruction_by, mnemonic, named, op_named}
+use Rattle.guest_isa.specs.Opcodes.{mnemonic, ops}
+use Rattle.guest_asm.specs.Statements.{Once, instruction_by, named, op_named}
 
 -- a name that passes a test which a word does not pass
 apart_by : (word : List ℕ) (q : List ℕ → Bool) → q word ≡ false → (name : List ℕ) (t : Bool) → bytes_eq name word ≡ t → q name ≡ true → t ≡ false

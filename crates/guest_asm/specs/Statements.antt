@@ -8,13 +8,12 @@ use Rattle.guest_image.specs.declared.image.Form.{Form}
 use Rattle.guest_image.specs.declared.image.Form.TheVariants.{One, Two}
 use Rattle.guest_isa.specs.declared.instr.Instr.{Instr}
 use Rattle.guest_isa.specs.declared.op.Op.{Op}
-use Rattle.guest_isa.specs.declared.op.Op.TheVariants.{Li, Lih, Mov, Add, Sub, Mul, Divu, Remu, And, Or, Xor, Shl, Shr, Ltu, Eq, Addi, Jmp, Jz, Jnz, Jal, Jr, Ldb, Ldw, Stb, Stw, Sys, Halt}
-use Rattle.guest_isa.specs.Opcodes.{ops}
+use Rattle.guest_isa.specs.Opcodes.{fields_of, mnemonic, ops}
 use Rattle.hex.specs.Hex.{decode_of, is_hex_digit}
 use Rattle.guest_asm.specs.declared.error.SourceRule.{SourceRule}
 use Rattle.guest_asm.specs.declared.error.SourceRule.TheVariants.{BadLine, BadOperand}
-use Rattle.guest_asm.specs.declared.operand.Field.{Field}
-use Rattle.guest_asm.specs.declared.operand.Field.TheVariants.{Rd, Ra, Rb, Imm}
+use Rattle.guest_isa.specs.declared.op.Field.{Field}
+use Rattle.guest_isa.specs.declared.op.Field.TheVariants.{Rd, Ra, Rb, Imm}
 use Rattle.guest_asm.specs.declared.parts.PageDraft.{PageDraft}
 use Rattle.guest_asm.specs.declared.parts.FileDraft.{FileDraft}
 use Rattle.guest_asm.specs.declared.parts.SlotDraft.{SlotDraft}
@@ -61,58 +60,9 @@ immediate_by word None = if is_name word then Ok (Label word) else Err BadOperan
 abbrev pub immediate_of : List ℕ → Result Immediate SourceRule
 immediate_of word = immediate_by word (number_of word)
 
--- the mnemonics
-abbrev pub mnemonic : Op → List ℕ
-mnemonic Li = codes "LI"
-mnemonic Lih = codes "LIH"
-mnemonic Mov = codes "MOV"
-mnemonic Add = codes "ADD"
-mnemonic Sub = codes "SUB"
-mnemonic Mul = codes "MUL"
-mnemonic Divu = codes "DIVU"
-mnemonic Remu = codes "REMU"
-mnemonic And = codes "AND"
-mnemonic Or = codes "OR"
-mnemonic Xor = codes "XOR"
-mnemonic Shl = codes "SHL"
-mnemonic Shr = codes "SHR"
-mnemonic Ltu = codes "LTU"
-mnemonic Eq = codes "EQ"
-mnemonic Addi = codes "ADDI"
-mnemonic Jmp = codes "JMP"
-mnemonic Jz = codes "JZ"
-mnemonic Jnz = codes "JNZ"
-mnemonic Jal = codes "JAL"
-mnemonic Jr = codes "JR"
-mnemonic Ldb = codes "LDB"
-mnemonic Ldw = codes "LDW"
-mnemonic Stb = codes "STB"
-mnemonic Stw = codes "STW"
-mnemonic Sys = codes "SYS"
-mnemonic Halt = codes "HALT"
-
 -- the operation with a mnemonic, if there is one
 unfoldable pub op_named : List ℕ → Option Op
 op_named word = find (λ op. bytes_eq (mnemonic op) word) ops
-
--- the fields of each operation, in the order of its operands
-abbrev pub fields_of : Op → List Field
-fields_of Li = Rd ∷ Imm ∷ []
-fields_of Lih = Rd ∷ Imm ∷ []
-fields_of Mov = Rd ∷ Ra ∷ []
-fields_of Addi = Rd ∷ Ra ∷ Imm ∷ []
-fields_of Jmp = Imm ∷ []
-fields_of Jz = Ra ∷ Imm ∷ []
-fields_of Jnz = Ra ∷ Imm ∷ []
-fields_of Jal = Rd ∷ Imm ∷ []
-fields_of Jr = Ra ∷ []
-fields_of Ldb = Rd ∷ Ra ∷ Imm ∷ []
-fields_of Ldw = Rd ∷ Ra ∷ Imm ∷ []
-fields_of Stb = Rb ∷ Ra ∷ Imm ∷ []
-fields_of Stw = Rb ∷ Ra ∷ Imm ∷ []
-fields_of Sys = Imm ∷ []
-fields_of Halt = []
-fields_of _ = Rd ∷ Ra ∷ Rb ∷ []
 
 -- an instruction, and what its immediate is
 abbrev pub Coded : Type 0

@@ -14,6 +14,4 @@ mod words;
 
 pub use assembly::assemble;
 pub use error::{SourceError, SourceRule};
-pub use mnemonics::{fields_of, mnemonic};
-pub use operand::Field;
 pub use parts::{FileDraft, PageDraft, SlotDraft};

@@ -1,9 +1,8 @@
-//! The mnemonics of instructions, and their operands.
+//! The mnemonics of instructions, read.
 
 ghost use Rattle.std.specs.Prelude.{◌≡◌, ◌∷◌, []};
 ghost use Rattle.guest_asm.specs.Statements as spec;
 
-use crate::operand::Field;
 use guest_isa::Op;
 
 /// The operation with a mnemonic.
@@ -72,59 +71,5 @@ fn op_of_four(a: u8, b: u8, c: u8, d: u8) -> Option<Op>
         (b'R', b'E', b'M', b'U') => Some(Op::Remu),
         (b'H', b'A', b'L', b'T') => Some(Op::Halt),
         _ => None,
-    }
-}
-
-/// The fields of an operation, in the order of its operands.
-pub fn fields_of(op: Op) -> &'static [Field]
-    ensures { result.now ≡ spec.fields_of op }
-{
-    match op {
-        Op::Li | Op::Lih | Op::Jal => &[Field::Rd, Field::Imm],
-        Op::Mov => &[Field::Rd, Field::Ra],
-        Op::Addi | Op::Ldb | Op::Ldw => &[Field::Rd, Field::Ra, Field::Imm],
-        Op::Jmp | Op::Sys => &[Field::Imm],
-        Op::Jz | Op::Jnz => &[Field::Ra, Field::Imm],
-        Op::Jr => &[Field::Ra],
-        Op::Stb | Op::Stw => &[Field::Rb, Field::Ra, Field::Imm],
-        Op::Halt => &[],
-        Op::Add | Op::Sub | Op::Mul | Op::Divu | Op::Remu => &[Field::Rd, Field::Ra, Field::Rb],
-        Op::And | Op::Or | Op::Xor | Op::Shl | Op::Shr => &[Field::Rd, Field::Ra, Field::Rb],
-        Op::Ltu | Op::Eq => &[Field::Rd, Field::Ra, Field::Rb],
-    }
-}
-
-/// The mnemonic of an operation, in upper case.
-pub fn mnemonic(op: Op) -> &'static [u8]
-    ensures { result.now ≡ spec.mnemonic op }
-{
-    match op {
-        Op::Li => b"LI",
-        Op::Lih => b"LIH",
-        Op::Mov => b"MOV",
-        Op::Add => b"ADD",
-        Op::Sub => b"SUB",
-        Op::Mul => b"MUL",
-        Op::Divu => b"DIVU",
-        Op::Remu => b"REMU",
-        Op::And => b"AND",
-        Op::Or => b"OR",
-        Op::Xor => b"XOR",
-        Op::Shl => b"SHL",
-        Op::Shr => b"SHR",
-        Op::Ltu => b"LTU",
-        Op::Eq => b"EQ",
-        Op::Addi => b"ADDI",
-        Op::Jmp => b"JMP",
-        Op::Jz => b"JZ",
-        Op::Jnz => b"JNZ",
-        Op::Jal => b"JAL",
-        Op::Jr => b"JR",
-        Op::Ldb => b"LDB",
-        Op::Ldw => b"LDW",
-        Op::Stb => b"STB",
-        Op::Stw => b"STW",
-        Op::Sys => b"SYS",
-        Op::Halt => b"HALT",
     }
 }

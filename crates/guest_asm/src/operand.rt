@@ -12,19 +12,6 @@ use crate::error::SourceRule;
 use crate::numbers::{number_of, register_of};
 use crate::words::{is_name, next_word};
 
-/// A field of an instruction, which an operand gives.
-#[derive(Clone, Copy, PartialEq, Eq)]
-pub enum Field {
-    /// The register that is written.
-    Rd,
-    /// The first register that is read.
-    Ra,
-    /// The second register that is read.
-    Rb,
-    /// The number.
-    Imm,
-}
-
 /// A number, or the label that stands for one.
 #[derive(Clone, Copy)]
 pub(crate) enum Immediate<'a> {

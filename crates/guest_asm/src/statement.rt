@@ -8,15 +8,15 @@ ghost use Rattle.guest_asm.specs.Statements as spec;
 ghost use Rattle.guest_asm.specs.Views.{Gives, coded_in, immediate_in, line_in, statement_in};
 
 use crate::error::SourceRule;
-use crate::mnemonics::{fields_of, op_named};
+use crate::mnemonics::op_named;
 use crate::operand::{
-    Field, Immediate, has_words, is_bytes_text, one_word, read_immediate, read_number,
-    read_register, three_words, two_words,
+    Immediate, has_words, is_bytes_text, one_word, read_immediate, read_number, read_register,
+    three_words, two_words,
 };
 use crate::parts::SlotDraft;
 use crate::words::{FirstLine, all_plain, labelled, next_word};
 use guest_image::Form;
-use guest_isa::{Instr, Op};
+use guest_isa::{Field, Instr, Op};
 use lwc_base::PAGE_BYTES;
 
 /// What a line says beside its label. The bytes of a page and of a file are still hexadecimal.
@@ -221,7 +221,7 @@ fn read_slot(text: &[u8]) -> Result<Statement<'_>, SourceRule>
 fn read_instruction(op: Op, text: &[u8]) -> Result<Statement<'_>, SourceRule>
     ensures { Gives statement_in result (spec.instruction_of op (words text.now)) }
 {
-    let fields = fields_of(op);
+    let fields = op.fields();
     match read_fields(op, fields, text) {
         Ok((instr, imm, rest)) => {
             if next_word(rest).is_some() {

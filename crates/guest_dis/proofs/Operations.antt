@@ -8,11 +8,11 @@ use Rattle.std.proofs.lemmas.Bool.Decides.{nat_tests}
 use Rattle.guest_isa.specs.declared.instr.Instr.{Instr}
 use Rattle.guest_isa.specs.declared.op.Op.{Op}
 use Rattle.guest_isa.specs.declared.op.Op.TheVariants.{Li, Lih, Mov, Add, Sub, Mul, Divu, Remu, And, Or, Xor, Shl, Shr, Ltu, Eq, Addi, Jmp, Jz, Jnz, Jal, Jr, Ldb, Ldw, Stb, Stw, Sys, Halt}
-use Rattle.guest_isa.specs.Opcodes.{form_of}
+use Rattle.guest_isa.specs.Opcodes.{fields_of, form_of, mnemonic}
 use Rattle.guest_isa.specs.Instructions.{IsInstruction, is_instruction, fits, HasFieldsInRange}
-use Rattle.guest_asm.specs.declared.operand.Field.{Field}
-use Rattle.guest_asm.specs.declared.operand.Field.TheVariants.{Rd, Ra, Rb, Imm}
-use Rattle.guest_asm.specs.Statements.{Once, Coded, Value, Statement, Instruction, mnemonic, fields_of, blank, named, op_named, instruction_of, with_fields, statement_of, line_of}
+use Rattle.guest_isa.specs.declared.op.Field.{Field}
+use Rattle.guest_isa.specs.declared.op.Field.TheVariants.{Rd, Ra, Rb, Imm}
+use Rattle.guest_asm.specs.Statements.{Once, Coded, Value, Statement, Instruction, blank, named, op_named, instruction_of, with_fields, statement_of, line_of}
 use Rattle.guest_asm.specs.Drafts.{instruction_with}
 use Rattle.guest_dis.specs.Listing.{operand_for, operands_of, operands_after, instruction_line}
 use Rattle.guest_asm.specs.Lexis.{lines, has_bytes, is_separator}

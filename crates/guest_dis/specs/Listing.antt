@@ -9,9 +9,9 @@ use Rattle.guest_image.specs.declared.image.Image.{Image}
 use Rattle.guest_image.specs.declared.image.PageImage.{PageImage}
 use Rattle.guest_image.specs.declared.image.SlotImage.{SlotImage}
 use Rattle.hex.specs.Hex.{encode_lower}
-use Rattle.guest_asm.specs.declared.operand.Field.{Field}
-use Rattle.guest_asm.specs.declared.operand.Field.TheVariants.{Rd, Ra, Rb, Imm}
-use Rattle.guest_asm.specs.Statements.{mnemonic, fields_of}
+use Rattle.guest_isa.specs.declared.op.Field.{Field}
+use Rattle.guest_isa.specs.declared.op.Field.TheVariants.{Rd, Ra, Rb, Imm}
+use Rattle.guest_isa.specs.Opcodes.{fields_of, mnemonic}
 
 -- the operand of a field: a register, or a decimal
 abbrev pub operand_for : Instr → Field → List ℕ

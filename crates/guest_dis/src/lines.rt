@@ -3,9 +3,8 @@
 ghost use Rattle.std.specs.Prelude.{◌≡◌, ◌<◌, ◌++◌, All, OnOk, IfOk, codes, decimal, string_bytes};
 ghost use Rattle.guest_dis.specs.Listing as spec;
 
-use guest_asm::{Field, fields_of, mnemonic};
 use guest_image::{Form, PageImage, SlotImage};
-use guest_isa::Instr;
+use guest_isa::{Field, Instr};
 use lwc_base::{FileImage, OutOfMemory};
 use std::alloc::Global;
 
@@ -41,7 +40,7 @@ pub(crate) fn put_entry(out: &mut Vec<u8>, entry: u32) -> Result<(), OutOfMemory
 pub(crate) fn put_instruction(out: &mut Vec<u8>, instr: &Instr) -> Result<(), OutOfMemory>
     ensures { OnOk result (out.new.items ≡ out.old.items ++ spec.instruction_line instr.now) }
 {
-    out.extend_from_slice(mnemonic(instr.op))?;
+    out.extend_from_slice(instr.op.mnemonic())?;
     put_operands(out, instr)?;
     out.extend_from_slice(b"\n")?;
     Ok(())
@@ -53,7 +52,7 @@ fn put_operands(out: &mut Vec<u8>, instr: &Instr) -> Result<(), OutOfMemory>
         ≡ out.old.items ++ spec.operands_after (codes " ") (spec.operands_of instr.now)) }
 {
     let mut separator = b" ".as_slice();
-    for field in fields_of(instr.op) {
+    for field in instr.op.fields() {
         out.extend_from_slice(separator)?;
         put_operand(out, instr, *field)?;
         separator = b", ";

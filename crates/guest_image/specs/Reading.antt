@@ -238,10 +238,12 @@ abbrev pub begins_as_one : List ℕ → Bool
 begins_as_one (a ∷ b ∷ c ∷ d ∷ rest) = a == 0x4c && b == 0x57 && c == 0x43 && d == 0x31
 begins_as_one _ = false
 
--- the most bytes that a file may have; those of form 1 are asked for only where it is not too long for each image
+-- the most bytes that a file may have. One that is longer than every image is refused at the limit of them all, whatever
+-- it begins with; else a file that begins as form 1 has a limit of its own
 unfoldable pub limit_of : List ℕ → ℕ
 limit_of bytes =
-    if begins_as_one bytes && nat_le (length bytes) MOST_IMAGE_BYTES then MOST_BYTES_OF_FORM_ONE
+    if nat_lt MOST_IMAGE_BYTES (length bytes) then MOST_IMAGE_BYTES
+    else if begins_as_one bytes then MOST_BYTES_OF_FORM_ONE
     else MOST_IMAGE_BYTES
 
 -- the image that the bytes spell, or the first refusal

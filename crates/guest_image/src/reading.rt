@@ -84,7 +84,7 @@ fn limit_of(bytes: &[u8]) -> usize
     ensures limit { result ≡ limit_of bytes.now }
     ensures most { result ≤ MOST_IMAGE_BYTES }
 {
-    if begins_as_one(bytes) && bytes.len() <= MOST_IMAGE_BYTES {
+    if bytes.len() <= MOST_IMAGE_BYTES && begins_as_one(bytes) {
         MOST_BYTES_OF_FORM_ONE
     } else {
         MOST_IMAGE_BYTES

@@ -7,6 +7,6 @@ mod spelling;
 mod text;
 
 pub use instr::{Instr, fields_are_in_range};
-pub use op::{Form, Op};
+pub use op::{Field, Form, Op};
 pub use spelling::{decode, encode, spelling_is_inverse};
 pub use text::Text;

@@ -1,5 +1,5 @@
 ghost use Rattle.std.specs.Prelude.{◌≡◌, ℕ, not, find};
-ghost use Rattle.guest_isa.specs.Opcodes.{number_of, op_of, form_of, is_private, is_shared, has_target};
+ghost use Rattle.guest_isa.specs.Opcodes.{number_of, fields_of, mnemonic, op_of, form_of, is_private, is_shared, has_target};
 
 /// What an instruction does: one variant for each mnemonic, numbered by its opcode.
 #[derive(Clone, Copy, Debug, PartialEq, Eq)]
@@ -58,6 +58,19 @@ pub enum Op {
     Sys = 36,
     /// `HALT`: the thread ends.
     Halt = 37,
+}
+
+/// A field of an instruction, which an operand of a source gives.
+#[derive(Clone, Copy, PartialEq, Eq)]
+pub enum Field {
+    /// The register that is written.
+    Rd,
+    /// The first register that is read.
+    Ra,
+    /// The second register that is read.
+    Rb,
+    /// The number.
+    Imm,
 }
 
 /// The fields of an instruction that its opcode uses. A field that is not used is 0.
@@ -119,7 +132,61 @@ impl Op {
         Some(op)
     }
 
-    /// The fields that an instruction of this operation uses.
+    /// The mnemonic, in upper case.
+    pub fn mnemonic(self) -> &'static [u8]
+        ensures { result.now ≡ mnemonic self }
+    {
+        match self {
+            Op::Li => b"LI",
+            Op::Lih => b"LIH",
+            Op::Mov => b"MOV",
+            Op::Add => b"ADD",
+            Op::Sub => b"SUB",
+            Op::Mul => b"MUL",
+            Op::Divu => b"DIVU",
+            Op::Remu => b"REMU",
+            Op::And => b"AND",
+            Op::Or => b"OR",
+            Op::Xor => b"XOR",
+            Op::Shl => b"SHL",
+            Op::Shr => b"SHR",
+            Op::Ltu => b"LTU",
+            Op::Eq => b"EQ",
+            Op::Addi => b"ADDI",
+            Op::Jmp => b"JMP",
+            Op::Jz => b"JZ",
+            Op::Jnz => b"JNZ",
+            Op::Jal => b"JAL",
+            Op::Jr => b"JR",
+            Op::Ldb => b"LDB",
+            Op::Ldw => b"LDW",
+            Op::Stb => b"STB",
+            Op::Stw => b"STW",
+            Op::Sys => b"SYS",
+            Op::Halt => b"HALT",
+        }
+    }
+
+    /// The fields that an instruction of this operation uses, in the order of its operands.
+    pub fn fields(self) -> &'static [Field]
+        ensures { result.now ≡ fields_of self }
+    {
+        match self {
+            Op::Li | Op::Lih | Op::Jal => &[Field::Rd, Field::Imm],
+            Op::Mov => &[Field::Rd, Field::Ra],
+            Op::Addi | Op::Ldb | Op::Ldw => &[Field::Rd, Field::Ra, Field::Imm],
+            Op::Jmp | Op::Sys => &[Field::Imm],
+            Op::Jz | Op::Jnz => &[Field::Ra, Field::Imm],
+            Op::Jr => &[Field::Ra],
+            Op::Stb | Op::Stw => &[Field::Rb, Field::Ra, Field::Imm],
+            Op::Halt => &[],
+            Op::Add | Op::Sub | Op::Mul | Op::Divu | Op::Remu => &[Field::Rd, Field::Ra, Field::Rb],
+            Op::And | Op::Or | Op::Xor | Op::Shl | Op::Shr => &[Field::Rd, Field::Ra, Field::Rb],
+            Op::Ltu | Op::Eq => &[Field::Rd, Field::Ra, Field::Rb],
+        }
+    }
+
+    /// Which fields an instruction of this operation uses.
     pub fn form(self) -> Form
         ensures { result ≡ form_of self }
     {

@@ -1,3 +1,4 @@
 pub mod Stepping
 pub mod Telling
 pub mod Learning
+pub mod Serving

@@ -1,2 +1,3 @@
 pub use Rattle.kernel_core.specs.Start
 pub mod Bytes
+pub mod Requests

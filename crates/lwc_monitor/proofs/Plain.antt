@@ -10,7 +10,6 @@ use Rattle.guest_isa.specs.declared.op.Op.TheVariants.{Sys}
 use Rattle.guest_machine.specs.Advances.{advanced}
 use Rattle.guest_machine.specs.declared.progress.Next.{Next}
 use Rattle.guest_machine.specs.declared.progress.Next.TheVariants as next
-use Rattle.kernel_core.proofs.Runs.{step_of_ended}
 use Rattle.kernel_core.specs.Machine.{Environment, Machine, Serve, is_ended}
 use Rattle.kernel_core.specs.Refused.{advanced_thread}
 use Rattle.kernel_core.specs.Runs.{frames_of, kept, peak, run}
@@ -32,7 +31,7 @@ use Rattle.lwc_monitor.specs.Steps.{Monitored, call_by, call_in, call_next, call
 use Rattle.lwc_monitor.specs.Traps.{Traps, is_trapped, trap_rows}
 use Rattle.lwc_monitor.specs.declared.numbers.TheConstants.{LW_TRAP}
 use Rattle.lwc_text.specs.Lines.{groups_line, tail_lines, trap_line}
-use Rattle.lwc_text.specs.Report.{contexts_text, replies_text, report_after, report_of, threads_text}
+use Rattle.lwc_text.specs.Report.{contexts_text, replies_text, report_of, report_of_schedule, threads_text}
 
 abbrev nothing : Traps
 nothing = fm.empty
@@ -104,42 +103,45 @@ record AreSame (m : Machine) (ts : List ℕ) : Type 0 where
   state : run_under (unmonitored m) (kept m ts) ≡ unmonitored (run m (kept m ts))
   most : peak_under (unmonitored m) (kept m ts) ≡ peak m (kept m ts)
 
-module _ (m : Machine) (t : ℕ) (ts : List ℕ) (quiet : QuietRun m (t ∷ ts)) where
-  next-is : monitored_step (unmonitored m) t ≡ unmonitored (step m t)
-  next-is = first m t ts quiet
+-- none of the steps traps that are kept from here on
+abbrev QuietKept : Machine → List ℕ → Type 0
+QuietKept m ts = QuietRun m (kept_under (unmonitored m) ts)
+
+module _ (m : Machine) (t : ℕ) (ts : List ℕ) where
+  abbrev next : Monitored
+  next = monitored_step (unmonitored m) t
 
   -- the thread had ended, or it had not
   ended : is_ended m t ≡ true → AreSame m ts → AreSame m (t ∷ ts)
   ended is here =
       let skips : kept m (t ∷ ts) ≡ kept m ts = ap (λ b. cond b (kept m ts) (t ∷ kept (step m t) ts)) is in
       record {
-        steps = ap (λ b. cond b (kept_under (unmonitored m) ts) (t ∷ kept_under (monitored_step (unmonitored m) t) ts)) is ∙ here.steps ∙ sym skips;
+        steps = ap (λ b. cond b (kept_under (unmonitored m) ts) (t ∷ kept_under next ts)) is ∙ here.steps ∙ sym skips;
         state = subst (λ (l : List ℕ). run_under (unmonitored m) l ≡ unmonitored (run m l)) (sym skips) here.state;
         most = subst (λ (l : List ℕ). peak_under (unmonitored m) l ≡ peak m l) (sym skips) here.most;
       }
 
-  going : is_ended m t ≡ false → AreSame (step m t) ts → AreSame m (t ∷ ts)
-  going is there =
+  going : is_ended m t ≡ false → next ≡ unmonitored (step m t) → AreSame (step m t) ts → AreSame m (t ∷ ts)
+  going is next_is there =
       let ks : List ℕ = kept (step m t) ts in
       let keeps : kept m (t ∷ ts) ≡ t ∷ ks = ap (λ b. cond b (kept m ts) (t ∷ kept (step m t) ts)) is in
       record {
-        steps = ap (λ b. cond b (kept_under (unmonitored m) ts) (t ∷ kept_under (monitored_step (unmonitored m) t) ts)) is
-            ∙ ap (λ (s : Monitored). t ∷ kept_under s ts) next-is ∙ ap (λ l. t ∷ l) there.steps ∙ sym keeps;
-        state = subst (λ (l : List ℕ). run_under (unmonitored m) l ≡ unmonitored (run m l)) (sym keeps) (ap (λ (s : Monitored). run_under s ks) next-is ∙ there.state);
+        steps = ap (λ b. cond b (kept_under (unmonitored m) ts) (t ∷ kept_under next ts)) is
+            ∙ ap (λ (s : Monitored). t ∷ kept_under s ts) next_is ∙ ap (λ l. t ∷ l) there.steps ∙ sym keeps;
+        state = subst (λ (l : List ℕ). run_under (unmonitored m) l ≡ unmonitored (run m l)) (sym keeps) (ap (λ (s : Monitored). run_under s ks) next_is ∙ there.state);
         most = subst (λ (l : List ℕ). peak_under (unmonitored m) l ≡ peak m l) (sym keeps)
-            (ap (λ (s : Monitored). max (frames_of m) (peak_under s ks)) next-is ∙ ap (max (frames_of m)) there.most);
+            (ap (λ (s : Monitored). max (frames_of m) (peak_under s ks)) next_is ∙ ap (max (frames_of m)) there.most);
       }
 
-  still : is_ended m t ≡ true → QuietRun m ts
-  still is = subst (λ (k : Machine). QuietRun k ts) (step_of_ended m t is) (later m t ts quiet)
+  by_end : (b : Bool) → is_ended m t ≡ b → QuietRun m (cond b (kept_under (unmonitored m) ts) (t ∷ kept_under next ts)) → (QuietKept m ts → AreSame m ts) → (QuietKept (step m t) ts → AreSame (step m t) ts) → AreSame m (t ∷ ts)
+  by_end true is quiet here there = ended is (here quiet)
+  by_end false is quiet here there =
+      let next_is = first m t (kept_under next ts) quiet in
+      going is next_is (there (subst (λ (s : Monitored). QuietRun (step m t) (kept_under s ts)) next_is (later m t (kept_under next ts) quiet)))
 
-  by_end : (b : Bool) → is_ended m t ≡ b → (QuietRun m ts → AreSame m ts) → (QuietRun (step m t) ts → AreSame (step m t) ts) → AreSame m (t ∷ ts)
-  by_end true is here there = ended is (here (still is))
-  by_end false is here there = going is (there (later m t ts quiet))
-
-all-same : (ts : List ℕ) (m : Machine) → QuietRun m ts → AreSame m ts
+all-same : (ts : List ℕ) (m : Machine) → QuietKept m ts → AreSame m ts
 all-same [] m quiet = record { steps = refl; state = refl; most = refl }
-all-same (t ∷ ts) m quiet = by_end m t ts quiet (is_ended m t) refl (all-same ts m) (all-same ts (step m t))
+all-same (t ∷ ts) m quiet = by_end m t ts (is_ended m t) refl quiet (all-same ts m) (all-same ts (step m t))
 
 nil_of_length : {X : Type 0} (xs : List X) → length xs ≡ 0 → xs ≡ []
 nil_of_length [] none = refl
@@ -158,8 +160,8 @@ plain-report m most steps =
     (ap (λ (l : List ℕ). front ++ l) no-lines ∙ append-nil front)
 
 -- without a step that traps, the text is the kernel's
-pub plain_text : (inputs : Inputs) (schedule : List ℕ) → TrapsNone inputs schedule → monitored_text inputs schedule ≡ report_after inputs (kept (start inputs) schedule)
-unfolding monitored_text
+pub plain_text : (inputs : Inputs) (schedule : List ℕ) → TrapsNone inputs (kept_under (begun inputs) schedule) → monitored_text inputs schedule ≡ report_of_schedule inputs schedule
+unfolding monitored_text report_of_schedule
 plain_text inputs schedule quiet =
     let same = all-same schedule (start inputs) quiet in
     let ks : List ℕ = kept (start inputs) schedule in

@@ -13,9 +13,9 @@ use Rattle.lwc_monitor.proofs.Keeping.{IsKept, kept-run, leaves-step}
 use Rattle.lwc_monitor.proofs.Plain.{plain_text}
 use Rattle.lwc_monitor.proofs.TrappedStepping.{leaves_contexts, trapped_step}
 use Rattle.lwc_monitor.specs.Guards.{AreGuarded}
-use Rattle.lwc_monitor.specs.Promises.{IsMonitoredRun}
+use Rattle.lwc_monitor.specs.Promises.{AreMonitored, IsMonitoredRun}
 use Rattle.lwc_monitor.specs.Reports.{begun}
-use Rattle.lwc_monitor.specs.Steps.{run_under}
+use Rattle.lwc_monitor.specs.Steps.{kept_under, run_under}
 
 none_guarded : (w : World) → AreGuarded fm.empty w
 none_guarded w = record {
@@ -40,11 +40,16 @@ kept-start inputs can run = record {
 pub kept-after : (inputs : Inputs) (steps : List ℕ) → CanOpen inputs → inputs.settings.job ≡ job.Run → IsKept inputs (0 + length steps) (run_under (begun inputs) steps)
 kept-after inputs steps can run = kept-run inputs 0 steps (begun inputs) (kept-start inputs can run)
 
-pub monitored_run : (inputs : Inputs) (steps : List ℕ) → CanOpen inputs → inputs.settings.job ≡ job.Run → IsMonitoredRun inputs steps
-monitored_run inputs steps can run = record {
+pub are_monitored : (inputs : Inputs) (steps : List ℕ) → CanOpen inputs → inputs.settings.job ≡ job.Run → AreMonitored inputs steps
+are_monitored inputs steps can run = record {
   guarded = λ before rest is. (kept-after inputs before can run).guarded;
   leaves = λ before rest t is. leaves-step inputs (0 + length before) (run_under (begun inputs) before) t (kept-after inputs before can run);
   contexts = λ before rest t is. leaves_contexts inputs (0 + length before) (run_under (begun inputs) before) t (kept-after inputs before can run);
   trapped = λ before rest t x m is found trapped. trapped_step inputs (0 + length before) (run_under (begun inputs) before) t (kept-after inputs before can run) x found m trapped;
-  plain = plain_text inputs steps;
+}
+
+pub monitored_run : (inputs : Inputs) (schedule : List ℕ) → CanOpen inputs → inputs.settings.job ≡ job.Run → IsMonitoredRun inputs schedule
+monitored_run inputs schedule can run = record {
+  steps = are_monitored inputs (kept_under (begun inputs) schedule) can run;
+  plain = plain_text inputs schedule;
 }

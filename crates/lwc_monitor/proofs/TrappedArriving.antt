@@ -1,8 +1,8 @@
 -- What a thread's arrival in another context changes: one slot there, and the registers that its own one keeps.
-use Rattle.std.proofs.Common.{◌≡◌, ◌≢◌, ◌⊎◌, inl, inr, ℕ, ◌<◌, true, Some, refl, ap, sym, subst, ◌∙◌}
+use Rattle.std.proofs.Common.{◌≡◌, ◌⊎◌, inl, inr, ℕ, ◌<◌, true, Some, refl, ap, sym, subst, ◌∙◌}
 use Rattle.confinement.proofs.Confining.{Leaves}
 use Rattle.confinement.proofs.Decide.{apart_or_one, key_or_not, name_or_not, number_or_not, same_then}
-use Rattle.confinement.specs.Confined.{Enters, IsLiveInBoth}
+use Rattle.confinement.specs.Confined.{Enters}
 use Rattle.confinement.specs.May.{world_of}
 use Rattle.confinement.specs.One.{IsOneValue}
 use Rattle.guest_call.proofs.Changes.{putting, saving}
@@ -27,7 +27,7 @@ use Rattle.lwc_base.specs.declared.cell.Cell.TheVariants.{Common, Own}
 use Rattle.lwc_base.specs.declared.descriptor.Descriptor.TheVariants.{Ctx, Empty}
 use Rattle.lwc_base.specs.declared.descriptor.TheConstants.{SLOTS}
 use Rattle.lwc_base.specs.declared.key.Key.{Key}
-use Rattle.lwc_base.specs.declared.key.Key.TheVariants.{Page, Slot}
+use Rattle.lwc_base.specs.declared.key.Key.TheVariants.{Slot}
 use Rattle.lwc_base.specs.declared.name.Name.{Name}
 use Rattle.lwc_base.specs.declared.regs.Regs.{Regs}
 use Rattle.lwc_base.specs.declared.right.Right.{Right}

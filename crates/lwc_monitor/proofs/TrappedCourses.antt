@@ -1,5 +1,5 @@
 -- What becomes of a step under traps: it is the kernel's, or stays, or goes to the monitor.
-use Rattle.std.proofs.Common.{◌≡◌, ℕ, ◌+◌, ◌*◌, ◌%◌, Bool, true, false, cond, eqb, List, [], ◌∷◌, length, Option, None, Some, refl, ap, sym, subst, ◌∙◌}
+use Rattle.std.proofs.Common.{◌≡◌, ℕ, ◌+◌, ◌*◌, ◌%◌, Bool, true, false, cond, eqb, [], ◌∷◌, length, Option, None, Some, refl, sym, subst}
 use Rattle.std.proofs.lemmas.Bool.{eqb-true}
 use Rattle.std.specs.Int.{w64, to_le_bytes}
 use Rattle.std.specs.Prelude.{nat_le, slice_index}
@@ -19,9 +19,9 @@ use Rattle.lwc_base.specs.World.{World, is_live}
 use Rattle.lwc_base.specs.declared.page.TheConstants.{PAGE_BYTES}
 use Rattle.lwc_syscall.specs.Plain.{plain}
 use Rattle.lwc_base.specs.declared.name.Name.{Name}
-use Rattle.lwc_monitor.specs.Calls.{by_monitor, calls_under, free_outcome, is_forbidden, refused_by, trapped_outcome, trapped_to, trapping}
+use Rattle.lwc_monitor.specs.Calls.{by_monitor, calls_under, is_forbidden, trapped_outcome, trapped_to, trapping}
 use Rattle.lwc_monitor.specs.Traps.{Traps, trap_rows}
-use Rattle.lwc_monitor.specs.declared.numbers.TheConstants.{EXIT, LW_TRAP, TRAPPED}
+use Rattle.lwc_monitor.specs.declared.numbers.TheConstants.{EXIT, LW_TRAP}
 use Rattle.lwc_monitor.specs.declared.trapping.TrapRefusal.{TrapRefusal}
 use Rattle.lwc_switch.specs.Switch.{switched}
 

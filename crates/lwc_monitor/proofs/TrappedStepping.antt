@@ -1,5 +1,5 @@
 -- Each step under traps leaves contexts as it should.
-use Rattle.std.proofs.Common.{◌≡◌, ◌⊎◌, inl, inr, ℕ, ◌+◌, ◌-◌, zero, suc, true, Option, None, Some, List, [], ◌∷◌, ◌++◌, refl, ap, sym, subst, ◌∙◌, length}
+use Rattle.std.proofs.Common.{◌≡◌, ◌⊎◌, inl, inr, ℕ, ◌+◌, ◌-◌, zero, suc, true, Option, None, Some, List, [], ◌∷◌, ◌++◌, refl, ap, sym, subst, ◌∙◌}
 use Rattle.std.specs.Prelude.{slice_get, slice_set}
 use Rattle.std.specs.FinMap as fm
 use Rattle.confinement.proofs.Confining.{Leaves, confined, empty_slot, leaves_reaped, ready_thread}
@@ -7,15 +7,11 @@ use Rattle.confinement.proofs.Stages.{Allowance, none, store_on}
 use Rattle.confinement.specs.Confined.{IsConfined}
 use Rattle.confinement.specs.May.{regs_at, world_of}
 use Rattle.confinement.specs.One.{IsOneValue}
-use Rattle.guest_isa.specs.declared.instr.Instr.{Instr}
 use Rattle.guest_machine.specs.Advances.{advanced}
-use Rattle.kernel_core.specs.Kernel.{CanOpen}
 use Rattle.kernel_core.specs.Machine.{Environment, Machine, Serve}
-use Rattle.kernel_core.specs.Ready.{IsReady}
 use Rattle.kernel_core.specs.Refused.{advanced_thread}
 use Rattle.kernel_core.specs.Start.{Inputs}
 use Rattle.kernel_core.specs.Step.{AfterStep, Calls, Outcome, advance_outcome, after_outcome, after_thread, contexts_of, counted, guest_calls, next_outcome, only, roots, step, step_by, thread_outcome, unchanged, with_status, with_world}
-use Rattle.kernel_core.specs.declared.settings.Job.TheVariants as jobs
 use Rattle.kernel_core.specs.declared.thread.Thread.{Thread}
 use Rattle.lwc_base.proofs.Puts.{takes-after_store}
 use Rattle.lwc_base.proofs.Reaped.{reap-reaped}
@@ -23,25 +19,19 @@ use Rattle.lwc_base.proofs.Rights.{store-right}
 use Rattle.lwc_base.proofs.StillReaped.{reaped-after_store}
 use Rattle.lwc_base.proofs.Stored.{is_done}
 use Rattle.lwc_base.proofs.Slots.{lowest_is_empty_slot}
-use Rattle.lwc_base.specs.Capabilities.{empty_cap}
 use Rattle.lwc_base.specs.Cells.{slot_at, value_at}
 use Rattle.lwc_base.specs.Rights.{right_at}
 use Rattle.lwc_base.specs.Store.{Done, Piece, store}
-use Rattle.lwc_base.specs.declared.descriptor.Cap.{Cap}
-use Rattle.lwc_base.specs.declared.key.Key.{Key}
 use Rattle.lwc_base.specs.declared.key.Key.TheVariants.{Page}
-use Rattle.lwc_base.specs.Modes.{IsKey}
 use Rattle.lwc_base.specs.Life as life
 use Rattle.lwc_base.specs.Life.{IsReaped}
 use Rattle.lwc_base.specs.World.{World, context, is_live}
 use Rattle.lwc_base.specs.declared.fault.ThreadStatus.{ThreadStatus}
 use Rattle.lwc_base.specs.declared.fault.ThreadStatus.TheVariants as status
 use Rattle.lwc_base.specs.declared.name.Name.{Name}
-use Rattle.lwc_base.specs.Slots.{lowest_empty}
 use Rattle.lwc_monitor.proofs.Keeping.{IsKept}
 use Rattle.lwc_monitor.specs.Calls.{calls_under}
-use Rattle.lwc_monitor.specs.Reports.{begun}
-use Rattle.lwc_monitor.specs.Steps.{Monitored, monitored_step, run_under}
+use Rattle.lwc_monitor.specs.Steps.{Monitored, monitored_step}
 use Rattle.lwc_switch.specs.Switch.{switched}
 use Rattle.lwc_monitor.proofs.TrappedArriving.{enters, registers}
 use Rattle.lwc_monitor.proofs.TrappedCourses.{Arrives, Course, Goes, Kernel, Rests, Stays, Stores, TrappedCourse, next_course, trapped_course}

@@ -3,7 +3,7 @@ use Rattle.std.specs.Prelude.{◌≡◌, ◌≢◌, ◌⊎◌, ℕ, List, ◌∷
 use Rattle.std.specs.FinMap as fm
 use Rattle.kernel_core.specs.Machine.{Machine}
 use Rattle.kernel_core.specs.Refused.{advanced_thread}
-use Rattle.kernel_core.specs.Runs.{kept, run}
+use Rattle.kernel_core.specs.Runs.{run}
 use Rattle.kernel_core.specs.Start.{Inputs, start}
 use Rattle.kernel_core.specs.declared.thread.Thread.{Thread}
 use Rattle.lwc_base.specs.World.{is_live}
@@ -12,9 +12,9 @@ use Rattle.lwc_monitor.specs.Calls.{calls_under, trapped_outcome}
 use Rattle.lwc_monitor.specs.Contexts.{LeavesAllBut, LeavesContexts}
 use Rattle.lwc_monitor.specs.Guards.{AreGuarded, HasOwnSlots, SameSlots}
 use Rattle.lwc_monitor.specs.Reports.{begun, monitored_text}
-use Rattle.lwc_monitor.specs.Steps.{Monitored, call_of, monitored_step, run_under}
+use Rattle.lwc_monitor.specs.Steps.{Monitored, call_of, kept_under, monitored_step, run_under}
 use Rattle.lwc_monitor.specs.declared.numbers.TheConstants.{EXIT, LW_TRAP}
-use Rattle.lwc_text.specs.Report.{report_after}
+use Rattle.lwc_text.specs.Report.{report_of_schedule}
 
 -- the thread of a number is in a context
 abbrev pub IsIn : Machine → ℕ → Name → Type 0
@@ -39,17 +39,16 @@ LeavesEachTrapped s t =
     let after = monitored_step s t in
     is_live after.machine.environment.world d ≡ true → LeavesTrapped s after t d m
 
--- no step of a schedule comes to the call that traps a context
+-- no step of these comes to the call that traps a context
 abbrev pub TrapsNone : Inputs → List ℕ → Type 0
-TrapsNone inputs schedule = (before rest : List ℕ) (t : ℕ) (x : Thread) → schedule ≡ before ++ t ∷ rest →
+TrapsNone inputs steps = (before rest : List ℕ) (t : ℕ) (x : Thread) → steps ≡ before ++ t ∷ rest →
     slice_get (run (start inputs) before).threads t ≡ Some x →
     call_of (run (start inputs) before) x ≢ Some LW_TRAP
 
--- of a run under traps: after any of its steps each trapped context lives and has its own slots, and no
--- monitor is trapped; each step leaves the trapped contexts, and of all contexts what it should; by itself a
--- trapped context changes only values of its pages; and where no step comes to the call that traps, the text is
--- the kernel's
-pub record IsMonitoredRun (inputs : Inputs) (steps : List ℕ) : Type 0 where
+-- of steps under traps: after any of them each trapped context lives and has its own slots, and no monitor is
+-- trapped; each step leaves the trapped contexts, and of all contexts what it should; by itself a trapped context
+-- changes only values of its pages
+pub record AreMonitored (inputs : Inputs) (steps : List ℕ) : Type 0 where
   pub guarded : (before rest : List ℕ) → steps ≡ before ++ rest →
       let s = run_under (begun inputs) before in AreGuarded s.traps s.machine.environment.world
   pub leaves : (before rest : List ℕ) (t : ℕ) → steps ≡ before ++ t ∷ rest →
@@ -60,5 +59,10 @@ pub record IsMonitoredRun (inputs : Inputs) (steps : List ℕ) : Type 0 where
       let s = run_under (begun inputs) before in
       slice_get s.machine.threads t ≡ Some x → fm.get s.traps x.context ≡ Some m →
       LeavesAllBut s (monitored_step s t).machine t x m
-  pub plain : TrapsNone inputs steps →
-      monitored_text inputs steps ≡ report_after inputs (kept (start inputs) steps)
+
+-- of a run of a schedule under traps: the steps that it keeps are monitored; and where none of them comes to the
+-- call that traps, the text is the kernel's for the schedule
+pub record IsMonitoredRun (inputs : Inputs) (schedule : List ℕ) : Type 0 where
+  pub steps : AreMonitored inputs (kept_under (begun inputs) schedule)
+  pub plain : TrapsNone inputs (kept_under (begun inputs) schedule) →
+      monitored_text inputs schedule ≡ report_of_schedule inputs schedule

@@ -19,8 +19,9 @@ use Rattle.kernel_core.specs.declared.calling.TheConstants.{LW_SWITCH}
 use Rattle.kernel_core.specs.declared.thread.Thread.{Thread}
 use Rattle.kernel_core.proofs.Others.{found_set}
 use Rattle.lwc_base.specs.Capabilities.{empty_cap}
-use Rattle.lwc_base.specs.Cells.{uid_at, put_slot}
+use Rattle.lwc_base.specs.Cells.{uid_at, put_slot, put_uid}
 use Rattle.lwc_base.specs.Frames.{is_parting, used}
+use Rattle.lwc_base.specs.Mapping.{mapped_or_not}
 use Rattle.lwc_base.specs.Memory.{bytes_for, is_present, touched}
 use Rattle.lwc_base.specs.Rights.{is_writable}
 use Rattle.lwc_base.specs.Store.{Absent, Done, Full, Piece, ReadOnly, after_store, page_value_at, parting_count, store}
@@ -35,21 +36,21 @@ use Rattle.lwc_base.specs.Refusals.{first_refusal}
 use Rattle.lwc_base.specs.Registers.{fresh_registers}
 use Rattle.lwc_base.specs.Saved.{entered}
 use Rattle.lwc_base.specs.Slots.{lowest_empty}
-use Rattle.lwc_base.specs.Summaries.{is_empty}
 use Rattle.lwc_base.specs.World.{World, context}
 use Rattle.lwc_base.specs.declared.answer.Moved.{Moved}
 use Rattle.lwc_base.specs.declared.descriptor.Descriptor.{Descriptor}
-use Rattle.lwc_base.specs.declared.descriptor.Descriptor.TheVariants.{Ctx, Empty}
+use Rattle.lwc_base.specs.declared.descriptor.Descriptor.TheVariants.{Ctx, Empty, File}
 use Rattle.lwc_base.specs.declared.fault.ThreadStatus.{ThreadStatus}
 use Rattle.lwc_base.specs.declared.fault.ThreadStatus.TheVariants as status
 use Rattle.lwc_base.specs.declared.name.Name.{Name}
 use Rattle.lwc_base.specs.declared.refusal.Refusal.{Refusal}
-use Rattle.lwc_base.specs.declared.refusal.Refusal.TheVariants.{BadFd, NoSlotThere}
+use Rattle.lwc_base.specs.declared.refusal.Refusal.TheVariants.{NoSlotThere}
 use Rattle.lwc_base.specs.declared.regs.Regs.{Regs}
 use Rattle.lwc_base.proofs.Orders.{same_name}
 use Rattle.lwc_switch.specs.Switch as switching
 use Rattle.lwc_syscall.specs.Plain as plain
 use Rattle.lwc_syscall.specs.Plain.{plain_call}
+use Rattle.lwc_syscall.specs.declared.calls.CallContexts.{CallContexts}
 use Rattle.lwc_syscall.specs.declared.plain_call.PlainCall.{PlainCall}
 use Rattle.lwc_syscall.specs.declared.plain_call.PlainCall.TheVariants as calls
 use Rattle.confinement.specs.May.{regs_at}
@@ -57,8 +58,10 @@ use Rattle.lwc_vault.proofs.Hiding.{after-hide, cover-inside, hide, hide_threads
 use Rattle.lwc_vault.proofs.Stores.{parted, store-hide, stored_as}
 use Rattle.lwc_vault.proofs.Stepping.{blank_env, blank_out, cover}
 use Rattle.lwc_vault.specs.Blanks.{ActsOutside}
-use Rattle.lwc_vault.specs.Told.{Parts, Writes, Told, Outside, Nothing, Closes, Leaves, Other, IsPlain, ended_inside, stands_inside, told, told_by, told_by_call, told_by_cell, told_by_pages, told_by_next, told_by_op, told_by_plain}
+use Rattle.lwc_vault.specs.Told.{Parts, Writes, Told, Outside, Nothing, Makes, Leaves, Other, IsPlain, ended_inside, stands_inside, told, told_by, told_by_call, told_by_cell, told_by_pages, told_by_next, told_by_op, told_by_plain}
 use Rattle.world_views.proofs.BlankChanges.{blanks-alike}
+use Rattle.world_views.proofs.BlankPlainly.{becoming-blank, closing-blank, copying-blank, mapping-blank, opening-blank}
+use Rattle.world_views.specs.Outside.{blank_outcome}
 use Rattle.world_views.proofs.BlankNamed.{descriptor-blank, slot_refusals-blank}
 use Rattle.world_views.specs.Blank.{blank, tells_registers}
 
@@ -79,10 +82,9 @@ abbrev leaving : Environment → ℕ → Thread → Name → ℕ → ℕ → Opt
 leaving e t x d slot a (Some refusal) = unchanged e x
 leaving e t x d slot a None = record { thread = gone e t x d slot a; environment = with_world e (put_slot e.world d slot (Ctx vault_name empty_cap)) }
 
--- what closing a slot of the vault does, hidden
-abbrev closing : Environment → Thread → ℕ → Option Refusal → Outcome
-closing e x n (Some refusal) = unchanged e x
-closing e x n None = unchanged (with_world e (put_slot e.world vault_name n Empty)) x
+-- what a plain call of the vault does, hidden
+abbrev making : Environment → Thread → plain.Outcome → Outcome
+making e x ended = unchanged (beside ended.world ended.io) x
 
 -- what a write from the vault does, hidden
 abbrev writing : Environment → Thread → ℕ → ℕ → Option (List ℕ) → Option Refusal → Outcome
@@ -95,7 +97,7 @@ done (Leaves n a) t e x =
     leaving e t x (aim e.world n) (unwrap_or (lowest_empty e.world (aim e.world n)) 0) a (first_refusal (rows e.world n (aim e.world n)))
 done (Parts p) t e x = unchanged (with_world e (parted e.world x.job p)) x
 done (Writes n count bytes) t e x = writing e x n count bytes (first_refusal (plain.write_refusals e.channels (descriptor_for e.world vault_name n) count bytes))
-done (Closes n) t e x = closing e x n (first_refusal (plain.close_refusals e.world vault_name n))
+done (Makes call args) t e x = making e x (plain.plain e.world e.channels (three_times vault_name) x.job (Some call) args)
 done _ t e x = unchanged e x
 
 -- the number of each plain call that is told of
@@ -190,22 +192,72 @@ module _ (t : ℕ) (e : Environment) (x : Thread) (inside : stands_inside x ≡ 
   unfolding guest_calls
   leaves_so = leaves
 
-  -- it closes a slot
-  closes_by : (n : ℕ) (first : Option Refusal) →
-      blank_out false (ended_outcome x (plain.refused_or w e.channels (plain.answering 0 (put_slot w vault_name n Empty) e.channels) first)) ≡ closing (blank_env false e) (cover false x) n first
-  closes_by n (Some refusal) = λ i. record { thread = covers (refused x refusal).regs i; environment = blank_env false e }
-  closes_by n None = λ i. record {
-    thread = covers (with_result x.regs 0 0) i;
-    environment = with_world (blank_env false e) (sym ((blanks-alike false vault_name w).put_slot vault_name n Empty) i);
+  -- a plain call that gives a value, or is refused
+  abbrev ending : ℕ → World → Option Refusal → plain.Outcome
+  ending value after first = plain.refused_or w e.channels (plain.answering value after e.channels) first
+
+  covers_ended : (value : ℕ) (after : World) (first : Option Refusal) → cover false (plainly x (ending value after first).answer) ≡ cover false x
+  covers_ended value after (Some refusal) = covers (refused x refusal).regs
+  covers_ended value after None = covers (with_result x.regs 0 value)
+
+  makes : (value : ℕ) (after : World) (first : Option Refusal) (hidden : plain.Outcome) → hidden ≡ blank_outcome false vault_name (ending value after first) →
+      blank_out false (ended_outcome x (ending value after first)) ≡ making (blank_env false e) (cover false x) hidden
+  makes value after first hidden is = λ i. record {
+    thread = covers_ended value after first i;
+    environment = beside (sym is i).world (sym is i).io;
   }
 
-  close : blank_out false (guest_calls 2 t e x) ≡ done (Closes (slice_index x.regs.r 1)) t (blank_env false e) (cover false x)
+  abbrev three : CallContexts
+  three = three_times vault_name
+
+  abbrev first_arg : ℕ
+  first_arg = slice_index x.regs.r 1
+
+  abbrev second_arg : ℕ
+  second_arg = slice_index x.regs.r 2
+
+  abbrev MakesIt : PlainCall → Type 0
+  MakesIt call = blank_out false (guest_calls (number_of call) t e x) ≡ done (told_by_plain w x.regs (Some call)) t (blank_env false e) (cover false x)
+
+  opens : MakesIt calls.Open
   unfolding guest_calls plain.plain
-  close =
-      let n = slice_index x.regs.r 1 in
-      ap (λ c. blank_out false (ended_outcome x (plain.closing w e.channels c n))) here
-      ∙ closes_by n (first_refusal (plain.close_refusals w vault_name n))
-      ∙ (λ i. closing (blank_env false e) (cover false x) n (first_refusal ((is_empty (sym (descriptor-blank false vault_name w vault_name n) i), BadFd) ∷ [])))
+  opens =
+      ap (λ c. blank_out false (ended_outcome x (plain.opening w e.channels (three_times c) first_arg))) here
+      ∙ makes (unwrap_or (lowest_empty w vault_name) 0) (put_slot w vault_name (unwrap_or (lowest_empty w vault_name) 0) (File first_arg 0))
+      (first_refusal (plain.open_refusals w e.channels three first_arg)) _ (opening-blank false vault_name w e.channels three first_arg)
+
+  closes : MakesIt calls.Close
+  unfolding guest_calls plain.plain
+  closes =
+      ap (λ c. blank_out false (ended_outcome x (plain.closing w e.channels c first_arg))) here
+      ∙ makes 0 (put_slot w vault_name first_arg Empty) (first_refusal (plain.close_refusals w vault_name first_arg)) _ (closing-blank false vault_name w e.channels three first_arg)
+
+  copies : MakesIt calls.Dup
+  unfolding guest_calls plain.plain
+  copies =
+      ap (λ c. blank_out false (ended_outcome x (plain.copying w e.channels c first_arg))) here
+      ∙ makes (unwrap_or (lowest_empty w vault_name) 0) (put_slot w vault_name (unwrap_or (lowest_empty w vault_name) 0) (descriptor_for w vault_name first_arg))
+      (first_refusal (plain.copy_refusals w vault_name first_arg)) _ (copying-blank false vault_name w e.channels three first_arg)
+
+  becomes : MakesIt calls.SetUid
+  unfolding guest_calls plain.plain
+  becomes =
+      ap (λ c. blank_out false (ended_outcome x (plain.becoming w e.channels c first_arg))) here
+      ∙ makes 0 (put_uid w vault_name first_arg) (first_refusal (plain.uid_refusals w vault_name first_arg)) _ (becoming-blank false vault_name w e.channels three first_arg)
+
+  maps : MakesIt calls.Map
+  unfolding guest_calls plain.plain
+  maps =
+      ap (λ c. blank_out false (ended_outcome x (plain.mapping w e.channels c first_arg second_arg true))) here
+      ∙ makes 0 (mapped_or_not w vault_name first_arg second_arg true) (first_refusal (plain.map_refusals w vault_name first_arg second_arg true)) _
+      (mapping-blank false vault_name w e.channels three first_arg second_arg true)
+
+  unmaps : MakesIt calls.Unmap
+  unfolding guest_calls plain.plain
+  unmaps =
+      ap (λ c. blank_out false (ended_outcome x (plain.mapping w e.channels c first_arg second_arg false))) here
+      ∙ makes 0 (mapped_or_not w vault_name first_arg second_arg false) (first_refusal (plain.map_refusals w vault_name first_arg second_arg false)) _
+      (mapping-blank false vault_name w e.channels three first_arg second_arg false)
 
   -- it writes
   writes_by : (n count : ℕ) (bytes : Option (List ℕ)) (first : Option Refusal) →
@@ -235,16 +287,20 @@ module _ (t : ℕ) (e : Environment) (x : Thread) (inside : stands_inside x ≡ 
   call-inside : (number : ℕ) → IsPlain (told_by_call w x.regs number) → blank_out false (guest_calls number t e x) ≡ done (told_by_call w x.regs number) t (blank_env false e) (cover false x)
   call-inside number plainly = by (eqb number LW_SWITCH) refl plainly
     where
+      -- a plain call that is told of, by its number
+      by_number : (c : PlainCall) → plain_call number ≡ Some c → MakesIt c → blank_out false (guest_calls number t e x) ≡ done (told_by_plain w x.regs (Some c)) t (blank_env false e) (cover false x)
+      by_number c is made = subst (λ k. blank_out false (guest_calls k t e x) ≡ done (told_by_plain w x.regs (Some c)) t (blank_env false e) (cover false x)) (sym (numbers number c is)) made
+
       by_plain : (c : Option PlainCall) → plain_call number ≡ c → IsPlain (told_by_plain w x.regs c) → blank_out false (guest_calls number t e x) ≡ done (told_by_plain w x.regs c) t (blank_env false e) (cover false x)
-      by_plain (Some calls.Close) is some = subst (λ k. blank_out false (guest_calls k t e x) ≡ done (Closes (slice_index x.regs.r 1)) t (blank_env false e) (cover false x)) (sym (numbers number calls.Close is)) close
-      by_plain (Some calls.Open) is some = absurd some
-      by_plain (Some calls.Dup) is some = absurd some
+      by_plain (Some calls.Open) is some = by_number calls.Open is opens
+      by_plain (Some calls.Close) is some = by_number calls.Close is closes
+      by_plain (Some calls.Dup) is some = by_number calls.Dup is copies
       by_plain (Some calls.Read) is some = absurd some
-      by_plain (Some calls.Write) is some = subst (λ k. blank_out false (guest_calls k t e x) ≡ done (told_by_plain w x.regs (Some calls.Write)) t (blank_env false e) (cover false x)) (sym (numbers number calls.Write is)) write
-      by_plain (Some calls.Map) is some = absurd some
-      by_plain (Some calls.Unmap) is some = absurd some
-      by_plain (Some calls.GetUid) is some = subst (λ k. blank_out false (guest_calls k t e x) ≡ unchanged (blank_env false e) (cover false x)) (sym (numbers number calls.GetUid is)) asks
-      by_plain (Some calls.SetUid) is some = absurd some
+      by_plain (Some calls.Write) is some = by_number calls.Write is write
+      by_plain (Some calls.Map) is some = by_number calls.Map is maps
+      by_plain (Some calls.Unmap) is some = by_number calls.Unmap is unmaps
+      by_plain (Some calls.GetUid) is some = by_number calls.GetUid is asks
+      by_plain (Some calls.SetUid) is some = by_number calls.SetUid is becomes
       by_plain (Some calls.Exit) is some = absurd some
       by_plain None is some = absurd some
 
@@ -352,9 +408,14 @@ told-inside u regs (next.Shared i) = by_op i.op
   where
     by_plain : (c : Option PlainCall) → is_outside (told_by_plain u regs c) ≡ false
     by_plain None = refl
+    by_plain (Some calls.Open) = refl
     by_plain (Some calls.Close) = refl
+    by_plain (Some calls.Dup) = refl
     by_plain (Some calls.Write) = refl
+    by_plain (Some calls.Map) = refl
+    by_plain (Some calls.Unmap) = refl
     by_plain (Some calls.GetUid) = refl
+    by_plain (Some calls.SetUid) = refl
     by_plain (Some _) = refl
 
     by_call : (b : Bool) → is_outside (cond b (Leaves (slice_index regs.r 1) (slice_index regs.r 2)) (told_by_plain u regs (plain_call i.imm))) ≡ false

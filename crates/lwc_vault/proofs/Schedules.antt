@@ -10,7 +10,7 @@ use Rattle.kernel_core.specs.Start.{Inputs, start}
 use Rattle.kernel_core.specs.Step.{step}
 use Rattle.kernel_core.specs.declared.thread.Thread.{Thread}
 use Rattle.lwc_text.specs.Report.{report_of_schedule}
-use Rattle.lwc_vault.proofs.Handing.{schedule-handed}
+use Rattle.lwc_vault.proofs.Handing.{kept-told, schedule-handed}
 use Rattle.lwc_vault.proofs.Never.{outside_by_switches}
 use Rattle.lwc_vault.proofs.Shapes.{start-shape, text-shape}
 use Rattle.lwc_vault.proofs.Staying.{all-outside, no_serve}
@@ -67,7 +67,13 @@ module _ (a b : Vault) (shape : HaveOneShape a b) (inputs : Inputs) (schedule : 
 
 pub keeps_secret : (inputs : Inputs) (v : Vault) (schedule : List ℕ) → CanOpen (beside inputs v) → KeepsSecret inputs v schedule
 keeps_secret inputs v schedule can = record {
-  same = λ stand other shape. schedule-shape v other shape inputs schedule can stand;
+  same = λ stand other shape. record {
+    steps = kept-shape v other shape inputs schedule can stand;
+    text = schedule-shape v other shape inputs schedule can stand;
+  };
   entered = outside_by_switches inputs v (kept (start (beside inputs v)) schedule) can;
-  handed = λ other shape hand. schedule-handed inputs v other schedule can shape hand;
+  handed = λ other shape hand. record {
+    steps = kept-told v other shape inputs can schedule hand;
+    text = schedule-handed inputs v other schedule can shape hand;
+  };
 }

@@ -55,13 +55,18 @@ pub record HandOutTheSame (inputs : Inputs) (a b : Vault) (steps : List ℕ) : T
   pub plain : All IsPlain (told_in (start (beside inputs a)) steps)
   pub left : (t : ℕ) → StandsOutside (run (start (beside inputs a)) steps) t
 
+-- beside two vaults the same steps of a schedule are kept, and the whole text is the same
+pub record PrintTheSame (inputs : Inputs) (a b : Vault) (schedule : List ℕ) : Type 0 where
+  pub steps : kept (start (beside inputs b)) schedule ≡ kept (start (beside inputs a)) schedule
+  pub text : report_of_schedule (beside inputs b) schedule ≡ report_of_schedule (beside inputs a) schedule
+
 -- a schedule beside a vault keeps its secret: where no step that is kept is made by a thread that stands in the
--- vault, the text is the same beside each other vault of its shape; and none is made by such a thread, where none
--- is an accepted switch to the vault; and the text is the same beside each one of its shape that hands out the same
+-- vault, each other vault of its shape prints the same; and none is made by such a thread, where none is an accepted
+-- switch to the vault; and each one of its shape that hands out the same prints the same
 pub record KeepsSecret (inputs : Inputs) (v : Vault) (schedule : List ℕ) : Type 0 where
-  pub same : StandOutside (start (beside inputs v)) (kept (start (beside inputs v)) schedule) → (other : Vault) →
-      HaveOneShape v other → report_of_schedule (beside inputs other) schedule ≡ report_of_schedule (beside inputs v) schedule
+  pub same : StandOutside (start (beside inputs v)) (kept (start (beside inputs v)) schedule) →
+      (other : Vault) → HaveOneShape v other → PrintTheSame inputs v other schedule
   pub entered : NoneEnters (start (beside inputs v)) (kept (start (beside inputs v)) schedule) →
       StandOutside (start (beside inputs v)) (kept (start (beside inputs v)) schedule)
   pub handed : (other : Vault) → HaveOneShape v other → HandOutTheSame inputs v other schedule →
-      report_of_schedule (beside inputs other) schedule ≡ report_of_schedule (beside inputs v) schedule
+      PrintTheSame inputs v other schedule

@@ -1,5 +1,5 @@
 -- What steps in the vault hand out.
-use Rattle.std.specs.Prelude.{◌==◌, ◌&&◌, if◌then◌else◌, ℕ, Bool, false, not, List, [], ◌∷◌, Option, None, Some, slice_get, slice_index}
+use Rattle.std.specs.Prelude.{◌==◌, ◌&&◌, if◌then◌else◌, ℕ, Bool, false, not, List, [], ◌∷◌, Option, None, Some, slice_get, slice_index, take}
 use Rattle.std.specs.Ordering.{eq_by_cmp}
 use Rattle.confinement.specs.May.{regs_at}
 use Rattle.guest_isa.specs.declared.instr.Instr.{Instr}
@@ -10,7 +10,7 @@ use Rattle.guest_machine.specs.declared.progress.Next.{Next}
 use Rattle.guest_machine.specs.declared.progress.Next.TheVariants as next
 use Rattle.kernel_core.specs.Machine.{Machine, has_ended}
 use Rattle.kernel_core.specs.Start.{vault_name}
-use Rattle.kernel_core.specs.Step.{address, step}
+use Rattle.kernel_core.specs.Step.{address, args_of, step}
 use Rattle.kernel_core.specs.declared.calling.TheConstants.{LW_SWITCH}
 use Rattle.kernel_core.specs.declared.thread.Thread.{Thread}
 use Rattle.lwc_base.specs.Frames.{is_parting}
@@ -27,20 +27,30 @@ use Rattle.lwc_syscall.specs.declared.plain_call.PlainCall.{PlainCall}
 use Rattle.lwc_syscall.specs.declared.plain_call.PlainCall.TheVariants as calls
 
 -- what one step hands out: it is not made in the vault; nothing; the number of a page of the vault that takes a frame
--- of its own; the number of a slot that it closes; the number of a slot that it writes to, how many bytes, and these;
--- the number of the slot by which it leaves, and the argument; or it does something else, or ends its thread there
+-- of its own; a plain call that opens, closes or copies a descriptor, maps or unmaps pages or sets the uid, with its
+-- arguments; the number of a slot that it writes to, how many bytes, and these; the number of the slot by which it
+-- leaves, and the argument; or it does something else, or ends its thread there
 pub data Told : Type 0 where
   Outside : Told
   Nothing : Told
   Parts : ℕ → Told
-  Closes : ℕ → Told
+  Makes : PlainCall → List ℕ → Told
   Writes : ℕ → ℕ → Option (List ℕ) → Told
   Leaves : ℕ → ℕ → Told
   Other : Told
 
+-- by a call that takes its arguments from these registers, from r1 on
+abbrev pub told_by_args : PlainCall → Regs → ℕ → Told
+told_by_args call regs count = Makes call (take count (args_of regs))
+
 -- by the plain call of a number, if it has one
 abbrev pub told_by_plain : World → Regs → Option PlainCall → Told
-told_by_plain w regs (Some calls.Close) = Closes (slice_index regs.r 1)
+told_by_plain w regs (Some calls.Open) = told_by_args calls.Open regs 1
+told_by_plain w regs (Some calls.Close) = told_by_args calls.Close regs 1
+told_by_plain w regs (Some calls.Dup) = told_by_args calls.Dup regs 1
+told_by_plain w regs (Some calls.SetUid) = told_by_args calls.SetUid regs 1
+told_by_plain w regs (Some calls.Map) = told_by_args calls.Map regs 2
+told_by_plain w regs (Some calls.Unmap) = told_by_args calls.Unmap regs 2
 told_by_plain w regs (Some calls.Write) =
     Writes (slice_index regs.r 1) (slice_index regs.r 3)
     (bytes_for w vault_name (slice_index regs.r 2) (slice_index regs.r 3))

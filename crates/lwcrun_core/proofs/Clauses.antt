@@ -1,5 +1,5 @@
 -- What the exit status of a call says, from how the call ended.
-use Rattle.std.proofs.Common.{◌≡◌, ◌≢◌, ◌⊎◌, ◌<◌, ◌≤◌, ◌+◌, ◌*◌, ◌^◌, inl, inr, ℕ, zero, suc, List, [], ◌∷◌, ◌++◌, map, ap₂, get_or, Bool, true, false, Option, None, Some, Result, Ok, Err, length, refl, sym, subst, ap, ◌∙◌, arith, All}
+use Rattle.std.proofs.Common.{◌≡◌, ◌≢◌, ◌⊎◌, ◌<◌, ◌≤◌, ◌+◌, ◌*◌, ◌^◌, inl, inr, ℕ, suc, List, [], ◌∷◌, ◌++◌, map, ap₂, get_or, Bool, true, false, Option, None, Some, Result, Ok, Err, length, refl, sym, subst, ap, ◌∙◌, arith, All}
 use Rattle.std.proofs.lemmas.Bool.{ltb-false, ltb-true}
 use Rattle.std.proofs.lemmas.List.{get_or_past}
 use Rattle.std.proofs.lemmas.List.Elements.{All-append, All-get_or, All-nil, All-same, All-weaker}
@@ -65,8 +65,9 @@ use Rattle.lwcrun_modes.specs.declared.ending.Rejection.{Rejection}
 use Rattle.lwcrun_modes.specs.declared.ending.Rejection.TheVariants as rejections
 use Rattle.lwcrun_core.specs.declared.status.ExitStatus.{ExitStatus}
 use Rattle.lwcrun_core.specs.declared.status.ExitStatus.TheVariants as statuses
-use Rattle.lwcrun_core.specs.Calls.{AreContents, AreRequestsIn, CallEnded, CommandEnded, FetchesNamed, FetchesPlan, FileFailed, Headline, IsFitting, IsListed, IsNameIn, IsOrNoMemory, IsRejected, IsRunnable, IsServe, IsUndisturbed, IsVaultReplay, Names, NoFault, WroteOnlyReplies, WroteServe, status_by}
-use Rattle.lwcrun_modes.specs.Ends.{End, Outside, Ended, FetchFailed, IsUnwritten, NothingFailed, WriteFailed}
+use Rattle.lwcrun_core.specs.Calls.{AreContents, CallEnded, CommandEnded, FetchesNamed, FetchesPlan, FileFailed, IsNameIn, IsOrNoMemory, IsRejected, IsUndisturbed, Names, NoFault, WroteOnlyReplies, status_by}
+use Rattle.lwcrun_core.specs.Headlines.{AreRequestsIn, Headline, IsFitting, IsListed, IsRunnable, IsServe, IsVaultReplay, WroteServe}
+use Rattle.lwcrun_modes.specs.Ends.{End, Outside, Ended, IsUnwritten, NothingFailed, WriteFailed}
 use Rattle.lwcrun_modes.specs.Ends as ends
 use Rattle.lwc_text.specs.Report.{report_of_schedule, stream_text}
 use Rattle.lwcrun_modes.specs.Works.{IsText, Work, after_replay_image, after_monitor_image, after_replay_schedule, after_server, after_debug_schedule, after_debug_image, after_vault, after_vault_image, asm_plan, debug_plan, dis_plan, gen_plan, inputs_of, lift_plan, monitor_plan, plan_of, read_by, replay_plan, run_plan, serve_plan, stream_plan, vault_plan}
@@ -247,10 +248,10 @@ of_read files (Err rejection) next work h = absurd cc
 -- a plan that reads a known file and leads to a work has accepted the file, and goes on by its value
 leads_by : {A : Type 0} (files : FileContents) (grammar : List ℕ → Result A Rejection) (limit : ℕ) (name : List ℕ) (next : A → Plan Rejection Work) (work : Work) (known : List ℕ) → files name ≡ Some known → LeadsTo files (read_by grammar limit name next) (Ok work)
     → (x : A) × (grammar known ≡ Ok x) × All (λ b. b < 256) known × LeadsTo files (next x) (Ok work)
-leads_by files grammar limit name next work known is (bytes, may, fits, leads) =
-    let same : known ≡ bytes = known_bytes (files name) known bytes is may in
+leads_by files grammar limit name next work known is (bytes, read_as, leads) =
+    let same : known ≡ bytes = known_bytes (files name) known bytes is read_as.contents in
     let read = of_read files (grammar bytes) next work leads in
-    (read.0, ap grammar same ∙ read.1, subst (All (λ b. b < 256)) (sym same) fits, read.2)
+    (read.0, ap grammar same ∙ read.1, subst (All (λ b. b < 256)) (sym same) read_as.range, read.2)
 
 -- this is what is told of a complete history
 abbrev TellsSteps : (Inputs → List ℕ → List ℕ) → Inputs → List ℕ → Type 0
@@ -478,7 +479,17 @@ is_listed inputs steps can complete few = complete_listed inputs steps can compl
 
 -- the text of a serve is that of a complete history in which the requests are served
 wrote_serve : (tell : Inputs → List ℕ → List ℕ) (o : Outside) (inputs : Inputs) (workers : ℕ) → CanOpen inputs → inputs.settings.job ≡ jobs.Serve workers → machine.work (start inputs) ≤ MOST_STEPS → WroteSteps tell o inputs → WroteServe tell o inputs
-wrote_serve tell o inputs workers can job few h = (h.0, h.1, each_replied inputs h.0 workers can job h.1, each_alone inputs h.0 can, none_short inputs h.0 can, restored inputs workers can job h.0 (ended_rest (run (start inputs) h.0) h.1.ended), run_confined inputs can h.0, is_listed inputs h.0 can h.1 few, h.2)
+wrote_serve tell o inputs workers can job few h = record {
+  steps = h.0;
+  complete = h.1;
+  replied = each_replied inputs h.0 workers can job h.1;
+  alone = each_alone inputs h.0 can;
+  spared = none_short inputs h.0 can;
+  restored = restored inputs workers can job h.0 (ended_rest (run (start inputs) h.0) h.1.ended);
+  confined = run_confined inputs can h.0;
+  listed = is_listed inputs h.0 can h.1 few;
+  text = h.2;
+}
 
 -- a reply adds the same under each number
 unnumbered : (r : ℕ) (told : Option Finished) → recorded_reply (option_map (numbered r) told) ≡ recorded_reply told
@@ -542,71 +553,88 @@ headline_of o (commands.Replay image schedule requests settings) bytes work text
     let guest = fitting_found settings (bytes image) read.0 read.2 read.1 in
     let inputs = inputs_of read.0 asked.0 settings in
     let can = replay_opens requests settings bytes (bytes image) read.0 asked.0 within guest asked.1 in
-    let steps_kept = kept (start inputs) steps.0 in (
-      read.0,
-      steps.0,
-      asked.0,
-      record { guest = guest; scheduled = schedule_found _ _ (bytes schedule) steps.0 steps.1; requested = asked.1 },
-      each_alone inputs steps_kept can,
-      none_short inputs steps_kept can,
-      run_confined inputs can steps_kept,
-      taken ∙ ap (appended o.out.taken) (let P : Work → Type 0 = λ w. IsText w text in subst P asked.2 is),
-    )
+    let steps_kept = kept (start inputs) steps.0 in record {
+      guest = read.0;
+      steps = steps.0;
+      asked = asked.0;
+      accepted = record { guest = guest; scheduled = schedule_found _ _ (bytes schedule) steps.0 steps.1; requested = asked.1 };
+      alone = each_alone inputs steps_kept can;
+      spared = none_short inputs steps_kept can;
+      confined = run_confined inputs can steps_kept;
+      text = taken ∙ ap (appended o.out.taken) (let P : Work → Type 0 = λ w. IsText w text in subst P asked.2 is);
+    }
 headline_of o (commands.Run image settings) bytes work text within known leads is taken =
     let read = leads_by o.files.contents (fitting_image_of settings.frames) MOST_IMAGE_BYTES image (ran settings) work (bytes image) (known image refl) leads in
     let guest = fitting_found settings (bytes image) read.0 read.2 read.1 in
     let h = wrote report_of_schedule o (inputs_of read.0 [] settings) works.Running work text (λ told. told) (work_is work _ read.3) is taken in
     let inputs = inputs_of read.0 [] settings in
     let can = replay_opens None settings bytes (bytes image) read.0 [] within guest refl in
-    (read.0, guest, (h.0, h.1, run_confined inputs can h.0, is_listed inputs h.0 can h.1 (run_few inputs can within.job), h.2))
+    record {
+      guest = read.0;
+      accepted = guest;
+      history = record {
+        steps = h.0;
+        complete = h.1;
+        confined = run_confined inputs can h.0;
+        listed = is_listed inputs h.0 can h.1 (run_few inputs can within.job);
+        text = h.2;
+      };
+    }
 headline_of o (commands.Serve image requests settings) bytes work text within known leads is taken =
-    let found = serve_found o.files.contents bytes image requests settings works.Running work known leads in (
-      found.0,
-      found.1,
-      found.2,
-      wrote_serve report_of_schedule o _ within.workers (serve_opens settings (bytes image) (bytes requests) found.0 found.1 within found.2.guest found.2.requested) within.job
+    let found = serve_found o.files.contents bytes image requests settings works.Running work known leads in record {
+      guest = found.0;
+      asked = found.1;
+      accepted = found.2;
+      serve = wrote_serve report_of_schedule o _ within.workers (serve_opens settings (bytes image) (bytes requests) found.0 found.1 within found.2.guest found.2.requested) within.job
           (serve_few settings found.0 found.1 within.workers within.job found.2.few)
-          (wrote report_of_schedule o _ works.Running work text (λ told. told) found.3 is taken),
-    )
+          (wrote report_of_schedule o _ works.Running work text (λ told. told) found.3 is taken);
+    }
 headline_of o (commands.Asm source) bytes work text within known leads is taken =
-    let read = leads_by o.files.contents source_of MOST_SOURCE_BYTES source made work (bytes source) (known source refl) leads in (
-      read.0,
-      source_found (bytes source) read.0 read.1,
-      taken ∙ ap (appended o.out.taken) (let P : Work → Type 0 = λ w. IsText w text in subst P (work_is work _ read.3) is),
-    )
+    let read = leads_by o.files.contents source_of MOST_SOURCE_BYTES source made work (bytes source) (known source refl) leads in record {
+      guest = read.0;
+      accepted = source_found (bytes source) read.0 read.1;
+      text = taken ∙ ap (appended o.out.taken) (let P : Work → Type 0 = λ w. IsText w text in subst P (work_is work _ read.3) is);
+    }
 headline_of o (commands.Dis image) bytes work text within known leads is taken =
     let read = leads_by o.files.contents image_of MOST_IMAGE_BYTES image listed work (bytes image) (known image refl) leads in
-    let spelled = image_found (bytes image) read.0 read.2 read.1 in (
-      read.0,
-      spelled.0,
-      spelled.1,
-      taken ∙ ap (appended o.out.taken) (let P : Work → Type 0 = λ w. IsText w text in subst P (work_is work _ read.3) is),
-    )
+    let spelled = image_found (bytes image) read.0 read.2 read.1 in record {
+      guest = read.0;
+      image = spelled.0;
+      spelled = spelled.1;
+      text = taken ∙ ap (appended o.out.taken) (let P : Work → Type 0 = λ w. IsText w text in subst P (work_is work _ read.3) is);
+    }
 headline_of o (commands.Gen number) bytes work text within known leads is taken =
     let h : IsText (works.Generating number) text = (let P : Work → Type 0 = λ w. IsText w text in subst P (work_is work _ leads) is) in
-    (h.0, h.1, run_confined (generated number) (can_open number within.1) h.0, none_short (generated number) h.0 (can_open number within.1), summed_alone number h.0 within.1 h.1, taken ∙ ap (appended o.out.taken) h.2)
+    record {
+      steps = h.0;
+      complete = h.1;
+      confined = run_confined (generated number) (can_open number within.1) h.0;
+      spared = none_short (generated number) h.0 (can_open number within.1);
+      alone = summed_alone number h.0 within.1 h.1;
+      text = taken ∙ ap (appended o.out.taken) h.2;
+    }
 headline_of o (commands.Lift image) bytes work text within known leads is taken =
     let read = leads_by o.files.contents image_of MOST_IMAGE_BYTES image raised work (bytes image) (known image refl) leads in
-    let spelled = image_found (bytes image) read.0 read.2 read.1 in (
-      read.0,
-      spelled.0,
-      spelled.1,
-      runs_lifted read.0,
-      taken ∙ ap (appended o.out.taken) (let P : Work → Type 0 = λ w. IsText w text in subst P (work_is work _ read.3) is),
-    )
+    let spelled = image_found (bytes image) read.0 read.2 read.1 in record {
+      guest = read.0;
+      image = spelled.0;
+      spelled = spelled.1;
+      same = runs_lifted read.0;
+      text = taken ∙ ap (appended o.out.taken) (let P : Work → Type 0 = λ w. IsText w text in subst P (work_is work _ read.3) is);
+    }
 headline_of o (commands.Monitor image schedule settings) bytes work text within known leads is taken =
     let files = o.files.contents in
     let read = leads_by files (fitting_image_of settings.frames) MOST_IMAGE_BYTES image (after_monitor_image schedule settings) work (bytes image) (known image (inl refl)) leads in
     let steps = leads_by files (schedule_of (threads_for read.0 settings.job) MOST_STEPS) MOST_SCHEDULE_BYTES schedule (monitored settings read.0) work (bytes schedule) (known schedule (inr refl)) read.3 in
     let guest = fitting_found settings (bytes image) read.0 read.2 read.1 in
     let inputs = inputs_of read.0 [] settings in
-    let can = replay_opens None settings bytes (bytes image) read.0 [] within guest refl in (
-      read.0,
-      steps.0,
-      record { guest = guest; scheduled = schedule_found _ _ (bytes schedule) steps.0 steps.1; requested = refl },
-      monitored_run inputs steps.0 can within.job,
-      taken ∙ ap (appended o.out.taken) (let P : Work → Type 0 = λ w. IsText w text in subst P (work_is work _ steps.3) is),
-    )
+    let can = replay_opens None settings bytes (bytes image) read.0 [] within guest refl in record {
+      guest = read.0;
+      steps = steps.0;
+      accepted = record { guest = guest; scheduled = schedule_found _ _ (bytes schedule) steps.0 steps.1; requested = refl };
+      monitored = monitored_run inputs steps.0 can within.job;
+      text = taken ∙ ap (appended o.out.taken) (let P : Work → Type 0 = λ w. IsText w text in subst P (work_is work _ steps.3) is);
+    }
 headline_of o (commands.Vault image vault schedule settings) bytes work text within known leads is taken =
     let files = o.files.contents in
     let read = leads_by files image_of MOST_IMAGE_BYTES image (after_vault_image vault schedule settings) work (bytes image) (known image (inl refl)) leads in
@@ -617,22 +645,22 @@ headline_of o (commands.Vault image vault schedule settings) bytes work text wit
     let found = fitting_vault_found settings (bytes vault) x v secret.2 secret.1 in
     let steps = leads_by files (schedule_of (threads_for x settings.job) MOST_STEPS) MOST_SCHEDULE_BYTES schedule (kept_beside settings x v) work (bytes schedule) (known schedule (inr (inr refl))) secret.3 in
     let inputs = inputs_of x [] settings in
-    let can = vault_opens settings (bytes vault) x v within spelled.0 found in (
-      x,
-      v,
-      steps.0,
-      record {
+    let can = vault_opens settings (bytes vault) x v within spelled.0 found in record {
+      guest = x;
+      kept_vault = v;
+      steps = steps.0;
+      accepted = record {
         guest = spelled.0;
         spelled = spelled.1;
         secret = found.secret;
         free = found.free;
         fits = found.fits;
         scheduled = schedule_found _ _ (bytes schedule) steps.0 steps.1;
-      },
-      keeps_secret inputs v steps.0 can,
-      run_confined (beside inputs v) can (kept (start (beside inputs v)) steps.0),
-      taken ∙ ap (appended o.out.taken) (let P : Work → Type 0 = λ w. IsText w text in subst P (work_is work _ steps.3) is),
-    )
+      };
+      secret = keeps_secret inputs v steps.0 can;
+      confined = run_confined (beside inputs v) can (kept (start (beside inputs v)) steps.0);
+      text = taken ∙ ap (appended o.out.taken) (let P : Work → Type 0 = λ w. IsText w text in subst P (work_is work _ steps.3) is);
+    }
 headline_of o (commands.Debug image schedule script settings) bytes work text within known leads is taken =
     let files = o.files.contents in
     let read = leads_by files (fitting_image_of settings.frames) MOST_IMAGE_BYTES image (after_debug_image schedule script settings) work (bytes image) (known image (inl refl)) leads in
@@ -640,23 +668,23 @@ headline_of o (commands.Debug image schedule script settings) bytes work text wi
     let asked = leads_by files script_of MOST_SCRIPT_BYTES script (answered settings read.0 steps.0) work (bytes script) (known script (inr (inr refl))) steps.3 in
     let guest = fitting_found settings (bytes image) read.0 read.2 read.1 in
     let inputs = inputs_of read.0 [] settings in
-    let can = replay_opens None settings bytes (bytes image) read.0 [] within guest refl in (
-      read.0,
-      steps.0,
-      asked.0,
-      record { guest = guest; scheduled = schedule_found _ _ (bytes schedule) steps.0 steps.1; scripted = script_found (bytes script) asked.0 asked.1 },
-      run_confined inputs can (kept (start inputs) steps.0),
-      taken ∙ ap (appended o.out.taken) (let P : Work → Type 0 = λ w. IsText w text in subst P (work_is work _ asked.3) is),
-    )
+    let can = replay_opens None settings bytes (bytes image) read.0 [] within guest refl in record {
+      guest = read.0;
+      steps = steps.0;
+      asked = asked.0;
+      accepted = record { guest = guest; scheduled = schedule_found _ _ (bytes schedule) steps.0 steps.1; scripted = script_found (bytes script) asked.0 asked.1 };
+      confined = run_confined inputs can (kept (start inputs) steps.0);
+      text = taken ∙ ap (appended o.out.taken) (let P : Work → Type 0 = λ w. IsText w text in subst P (work_is work _ asked.3) is);
+    }
 headline_of o (commands.Stream image requests settings) bytes work text within known leads is taken =
-    let found = serve_found o.files.contents bytes image requests settings works.Streaming work known leads in (
-      found.0,
-      found.1,
-      found.2,
-      wrote_serve stream_text o _ within.workers (serve_opens settings (bytes image) (bytes requests) found.0 found.1 within found.2.guest found.2.requested) within.job
+    let found = serve_found o.files.contents bytes image requests settings works.Streaming work known leads in record {
+      guest = found.0;
+      asked = found.1;
+      accepted = found.2;
+      serve = wrote_serve stream_text o _ within.workers (serve_opens settings (bytes image) (bytes requests) found.0 found.1 within found.2.guest found.2.requested) within.job
           (serve_few settings found.0 found.1 within.workers within.job found.2.few)
-          (wrote stream_text o _ works.Streaming work text (λ told. told) found.3 is taken),
-    )
+          (wrote stream_text o _ works.Streaming work text (λ told. told) found.3 is taken);
+    }
 
 -- a line that is not accepted reads no file and writes no text
 

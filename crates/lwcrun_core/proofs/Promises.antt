@@ -27,8 +27,8 @@ known_bytes contents known bytes e may = subst (λ t. IfSome t (λ k. k ≡ byte
 -- over known files the plan leads to its outcome
 pub leads_known : {R W : Type 0} (files : FileContents) (bytes : List ℕ → List ℕ) (p : Plan R W) (end : Result W R) → AreKnown files p bytes → LeadsTo files p end → end ≡ outcome bytes p
 leads_known files bytes (plans.Read name limit next) end known leads =
-    let is : bytes name ≡ leads.0 = known_bytes (files name) (bytes name) leads.0 (known name (inl refl)) leads.1 in
-    leads_known files bytes (next leads.0) end (λ q reads. known q (inr (leads.0, leads.1, reads))) leads.3 ∙ ap (λ b. outcome bytes (next b)) (sym is)
+    let is : bytes name ≡ leads.0 = known_bytes (files name) (bytes name) leads.0 (known name (inl refl)) leads.1.contents in
+    leads_known files bytes (next leads.0) end (λ q reads. known q (inr (leads.0, leads.1.contents, reads))) leads.2 ∙ ap (λ b. outcome bytes (next b)) (sym is)
 leads_known files bytes (plans.Refuse refusal) end known leads = leads
 leads_known files bytes (plans.Write work) end known leads = leads
 

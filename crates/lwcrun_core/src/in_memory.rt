@@ -1,6 +1,7 @@
 ghost use Rattle.std.specs.Prelude.{◌≡◌, ◌≤◌, None, Some, length, map, string_bytes};
 ghost use Rattle.lwc_base.specs.declared.limits.TheConstants.{MOST_THREADS};
-ghost use Rattle.lwcrun_core.specs.Calls.{IsOrNoMemory, IsRunnable, status_by};
+ghost use Rattle.lwcrun_core.specs.Calls.{IsOrNoMemory, status_by};
+ghost use Rattle.lwcrun_core.specs.Headlines.{IsRunnable};
 ghost use Rattle.lwcrun_modes.specs.Works.{plan_of};
 ghost use Rattle.lwcrun_core.specs.InMemory.{contents};
 ghost use Rattle.lwcrun_line.specs.Lines.{Command, RunsThreads, command_of};

@@ -24,17 +24,17 @@ module _ {A R W : Type 0} (IsText : W → List ℕ → Type 0) (grammar : List �
   stops_reading o ends.Usage h same = absurd h
   stops_reading o (ends.Unread asked) h same = (inl h.0, subst (FetchFailed o) (sym h.0) h.1, same)
   stops_reading o ends.Unwritten h same = absurd h
-  stops_reading o (ends.Refused refusal) h same = ((h.0, h.1, tt, subst (λ x. LeadsTo o.files.contents (accepted x next) (Err refusal)) (sym h.2) refl), same, h.3)
+  stops_reading o (ends.Refused refusal) h same = ((h.0, record { contents = h.1; range = tt }, subst (λ x. LeadsTo o.files.contents (accepted x next) (Err refusal)) (sym h.2) refl), same, h.3)
 
   -- behind a file that was read, the end of what follows is the end of the plan
   pub continues : (o : Outside) (e : End R) (x : A) (bytes : List ℕ) → MayBeContents (o.files.contents name) bytes → All (λ b. b < 256) bytes → grammar bytes ≡ Ok x → Ended IsText o (next x) e → Ended IsText o reading e
   unfolding Ended
-  continues o ends.Done x bytes may fits is h = (h.0, (bytes, may, fits, subst (λ y. LeadsTo o.files.contents (accepted y next) (Ok h.0)) (sym is) h.1), h.2, h.3)
+  continues o ends.Done x bytes may fits is h = (h.0, (bytes, record { contents = may; range = fits }, subst (λ y. LeadsTo o.files.contents (accepted y next) (Ok h.0)) (sym is) h.1), h.2, h.3)
   continues o ends.NoMemory x bytes may fits is h = h
   continues o ends.Usage x bytes may fits is h = h
   continues o (ends.Unread asked) x bytes may fits is h = (inr (bytes, may, subst (λ y. Reads o.files.contents (accepted y next) asked) (sym is) h.0), h.1, h.2)
-  continues o ends.Unwritten x bytes may fits is h = (h.0, (bytes, may, fits, subst (λ y. LeadsTo o.files.contents (accepted y next) (Ok h.0)) (sym is) h.1), h.2, h.3, h.4)
-  continues o (ends.Refused refusal) x bytes may fits is h = ((bytes, may, tt, subst (λ y. LeadsTo o.files.contents (accepted y next) (Err refusal)) (sym is) h.0), h.1, h.2)
+  continues o ends.Unwritten x bytes may fits is h = (h.0, (bytes, record { contents = may; range = fits }, subst (λ y. LeadsTo o.files.contents (accepted y next) (Ok h.0)) (sym is) h.1), h.2, h.3, h.4)
+  continues o (ends.Refused refusal) x bytes may fits is h = ((bytes, record { contents = may; range = tt }, subst (λ y. LeadsTo o.files.contents (accepted y next) (Err refusal)) (sym is) h.0), h.1, h.2)
 
 -- what ended since some time ended since an earlier one
 since : {R W : Type 0} (IsText : W → List ℕ → Type 0) (files mid after : FilesView) (out out_after : SinkView) (p : Plan R W) (e : End R) → mid.contents ≡ files.contents → mid.faults ≡ files.faults
@@ -73,7 +73,7 @@ module _ {A R W : Type 0} (IsText : W → List ℕ → Type 0) (grammar : List �
   unfolding ReadsBy
   comes_on files mid x h same comes =
       let follows : LeadsTo files.contents (next x) (Ok comes.0) = subst (λ f. LeadsTo f (next x) (Ok comes.0)) same comes.1 in
-      (comes.0, (h.0, h.1, h.2, subst (λ y. LeadsTo files.contents (accepted y next) (Ok comes.0)) (sym h.3) follows))
+      (comes.0, (h.0, record { contents = h.1; range = h.2 }, subst (λ y. LeadsTo files.contents (accepted y next) (Ok comes.0)) (sym h.3) follows))
 
   -- behind a file that was read, what follows is fetched
   pub fetches_on : (files mid : FilesView) (after : List Fetch) (x : A) → ReadsBy grammar files mid name (parts.Value x) → mid.contents ≡ files.contents → Fetched (ReadsToTheEnd name limit) files.fetches mid.fetches →

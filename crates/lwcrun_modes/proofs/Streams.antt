@@ -36,7 +36,7 @@ module _ {A : Type 0} (logs logs_after : List (List Visit)) (grammar : List ℕ 
         (
           inputs,
           steps,
-          (h.0, h.1, h.2, subst (λ y. LeadsTo files.contents (accepted y next) (Ok work)) (sym h.3) here),
+          (h.0, record { contents = h.1; range = h.2 }, subst (λ y. LeadsTo files.contents (accepted y next) (Ok work)) (sym h.3) here),
           complete,
           taken,
           record { files = fine.files ∙ h.4; out = fine.out },

@@ -14,12 +14,16 @@ pub data Plan (R W : Type 0) : Type 0 where
 abbrev pub FileContents : Type 0
 FileContents = List ℕ → Option (List ℕ)
 
--- over contents that the files may have, the plan leads to this work or this refusal; before a work, each
--- file is known to have bytes
+-- what the file of a name may be read as, on the way to an end of a plan: its contents, where they are known; and on
+-- the way to a work, bytes
+pub record MayBeReadAs {R W : Type 0} (files : FileContents) (name : List ℕ) (end : Result W R) (bytes : List ℕ) : Type 0 where
+  pub contents : MayBeContents (files name) bytes
+  pub range : OnOk end (All (λ b. b < 256) bytes)
+
+-- a plan leads to this work, or to this refusal: by what each file that it comes to may be read as
 abbrev pub LeadsTo : {R W : Type 0} → FileContents → Plan R W → Result W R → Type 0
 LeadsTo files (Read name limit next) end =
-    (bytes : List ℕ) × MayBeContents (files name) bytes × OnOk end (All (λ b. b < 256) bytes)
-    × LeadsTo files (next bytes) end
+    (bytes : List ℕ) × MayBeReadAs files name end bytes × LeadsTo files (next bytes) end
 LeadsTo files (Refuse refusal) end = end ≡ Err refusal
 LeadsTo files (Write work) end = end ≡ Ok work
 

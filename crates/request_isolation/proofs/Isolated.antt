@@ -146,7 +146,7 @@ run_by_one m (suc k) = run_more m k ∙ ap (λ (a : Machine). step a 0) (run_by_
 
 -- what is recorded of a request that there is not
 module _ (image : Image) (workers budget n : ℕ) where
-  stands_run : (m : Machine) (steps : List ℕ) → Stands image budget workers n (λ m s. Unit {0}) m → Stands image budget workers n (λ m s. Unit {0}) (run m steps)
+  pub stands_run : (m : Machine) (steps : List ℕ) → Stands image budget workers n (λ m s. Unit {0}) m → Stands image budget workers n (λ m s. Unit {0}) (run m steps)
   stands_run m [] stands = stands
   stands_run m (t ∷ ts) stands = stands_run (step m t) ts (stands_step image budget workers n (λ m s. Unit {0}) (λ m s. Unit {0}) m t stands (λ fact. fact) (λ made. tt))
 

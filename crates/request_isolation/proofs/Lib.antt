@@ -12,6 +12,7 @@ pub mod Homes
 pub mod Isolated
 pub mod Reached
 pub mod Recorded
+pub mod Refuted
 pub mod Restored
 pub mod Roots
 pub mod Serves

@@ -48,7 +48,7 @@ Nobody threads r = (t : ℕ) (x : Thread) → slice_get threads t ≡ Some x →
 -- a worker is put elsewhere
 module _ (threads : List Thread) (t : ℕ) (x y : Thread) (found : slice_get threads t ≡ Some x) where
   -- who is found afterwards
-  who : (u : ℕ) (z : Thread) → slice_get (slice_set threads t y) u ≡ Some z → ((u ≡ t) × (y ≡ z)) ⊎ ((u ≢ t) × (slice_get threads u ≡ Some z))
+  pub who : (u : ℕ) (z : Thread) → slice_get (slice_set threads t y) u ≡ Some z → ((u ≡ t) × (y ≡ z)) ⊎ ((u ≢ t) × (slice_get threads u ≡ Some z))
   who u z is =
       elim (cases_eq u t) [
         | inl same ↦ inl (same, (let both : Some y ≡ Some z = sym (found_set threads t x y found) ∙ ap (slice_get (slice_set threads t y)) (sym same) ∙ is in cc))

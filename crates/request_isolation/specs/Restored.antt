@@ -6,7 +6,7 @@ use Rattle.kernel_core.specs.Runs.{frames_of}
 use Rattle.kernel_core.specs.Start.{Inputs, start}
 use Rattle.kernel_core.specs.declared.thread.Thread.{Thread}
 use Rattle.lwc_base.specs.Holders.{IsGroup}
-use Rattle.lwc_base.specs.World.{is_live}
+use Rattle.lwc_base.specs.World.{Context, is_live}
 use Rattle.lwc_base.specs.declared.fault.ThreadStatus.TheVariants.{Running}
 use Rattle.lwc_base.specs.declared.name.Name.{Name}
 
@@ -35,3 +35,9 @@ pub record IsRestored (inputs : Inputs) (m : Machine) : Type 0 where
   pub contexts : m.environment.world.contexts ≡ (start inputs).environment.world.contexts
   pub groups : m.environment.world.groups ≡ fm.empty
   pub frames : frames_of m ≡ length inputs.image.pages
+
+-- a machine whose world has this context under a name
+abbrev pub with_context : Machine → Name → Context → Machine
+with_context m c x =
+    let w = m.environment.world in
+    record m { environment = record m.environment { world = record w { contexts = fm.insert w.contexts c x } } }

@@ -3,14 +3,15 @@
 ghost use Rattle.std.specs.Prelude.{◌≡◌, ◌≢◌, ◌⊎◌, ◌+◌, ◌*◌, ◌++◌, ◌<◌, ◌≤◌, ℕ, Contains, List, Some, length, replicate, true};
 ghost use Rattle.kernel_core.specs.Histories.{IsComplete, finishes_by};
 ghost use Rattle.kernel_core.specs.Kernel.{CanOpen};
-ghost use Rattle.kernel_core.specs.Machine.{reply_of};
+ghost use Rattle.std.specs.FinMap as fm;
+ghost use Rattle.kernel_core.specs.Machine.{Machine, reply_of};
 ghost use Rattle.kernel_core.specs.Runs.{frames_of, peak, run};
 ghost use Rattle.kernel_core.specs.Start.{Inputs, start, thread_count};
 ghost use Rattle.kernel_core.specs.declared.settings.Job.TheVariants as jobs;
 ghost use Rattle.world_views.specs.ByJob.{Home, KeepsJobs};
 ghost use Rattle.lwc_base.specs.Channels.{Channels, bytes_in};
 ghost use Rattle.lwc_base.specs.Frames.{used};
-ghost use Rattle.lwc_base.specs.World.{World, is_live};
+ghost use Rattle.lwc_base.specs.World.{Context, World, is_live};
 ghost use Rattle.lwc_base.specs.declared.name.Name.{Name};
 ghost use Rattle.request_isolation.specs.Alone.{alone, alone_in, ample, start_alone};
 ghost use Rattle.lwc_syscall.specs.Plain.{plain, world_after};
@@ -18,7 +19,7 @@ ghost use Rattle.lwc_syscall.specs.declared.calls.CallContexts.{CallContexts};
 ghost use Rattle.lwc_syscall.specs.declared.plain_call.PlainCall.TheVariants as plain_calls;
 ghost use Rattle.request_isolation.specs.Needs.{HadFrames, HasFrames, IsShort, IsSpared, IsStoring, acted_world, greatest_extra, store_of_read};
 ghost use Rattle.request_isolation.specs.Replies.{HasReply};
-ghost use Rattle.request_isolation.specs.Restored.{AllRest, IsRestored, KeepsHomes};
+ghost use Rattle.request_isolation.specs.Restored.{AllRest, IsRestored, KeepsHomes, with_context};
 ghost use Rattle.snapshot_host.specs.declared.finishing.Finished.{Finished};
 
 /// At the end of a serve each request has a reply, and there are as many requests as at its start.
@@ -109,6 +110,15 @@ pub fn a_request_leaves_nothing_behind()
         inputs.settings.job ≡ jobs.Serve workers → HasFrames inputs ⊎ HadFrames inputs steps →
         peak (start inputs) steps ≤ length inputs.image.pages
         + workers * greatest_extra inputs.image inputs.settings.budget 0 inputs.requests }
+{}
+
+/// What kept homes refuse: one more context of job 0, and a home that is another one than at the start.
+pub fn kept_homes_are_those_of_the_start()
+    ensures one_more { (inputs : Inputs) (m : Machine) (c : Name) (x : Context) → c.job ≡ 0 →
+        is_live (start inputs).environment.world c ≡ false → KeepsHomes inputs (with_context m c x) → ⊥ }
+    ensures changed { (inputs : Inputs) (m : Machine) (c : Name) (x y : Context) → c.job ≡ 0 →
+        fm.get (start inputs).environment.world.contexts c ≡ Some y → x ≢ y →
+        KeepsHomes inputs (with_context m c x) → ⊥ }
 {}
 
 /// With these frames no store of the serve finds too few.

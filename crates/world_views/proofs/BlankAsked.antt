@@ -161,7 +161,14 @@ module _ (keep : Bool) (v : Name) where
     unfolding value_at
     slot-blank c n = value_of-blank (Slot n) ((context (blank keep v w) c).cell (Slot n)) ∙ through (Slot n) (value_of w (Slot n)) (slot_cell n) c
 
-    uid-blank : (c : Name) → uid_at (blank keep v w) c ≡ uid_at w c
+    same_uid : (cell : Cell ℕ) → blank_cell Cred cell ≡ cell
+    same_uid (Own value) = refl
+    same_uid (Common g) = refl
+
+    pub uid_cell-blank : (c : Name) → (context (blank keep v w) c).cell Cred ≡ (context w c).cell Cred
+    uid_cell-blank = through Cred (λ cell. cell) same_uid
+
+    pub uid-blank : (c : Name) → uid_at (blank keep v w) c ≡ uid_at w c
     unfolding value_at
     uid-blank c = value_of-blank Cred ((context (blank keep v w) c).cell Cred) ∙ through Cred (value_of w Cred) uid_cell c
 

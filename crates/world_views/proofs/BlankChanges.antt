@@ -1,14 +1,14 @@
 -- A change of another context is the same change where one context is blank.
-use Rattle.std.proofs.Common.{◌≡◌, ◌≢◌, inl, inr, ℕ, ◌+◌, refl, sym, ap, subst, ◌∙◌, Bool, true, false, cond, eqb, ltb, ◌||◌, Option, Some, None, List, [], ◌∷◌, length}
-use Rattle.std.specs.Prelude.{count_by, not, unwrap_or}
+use Rattle.std.proofs.Common.{◌≡◌, ◌≢◌, inl, inr, ℕ, ◌+◌, refl, sym, ap, subst, ◌∙◌, Bool, true, false, cond, eqb, ltb, ◌||◌, ◌&&◌, Option, Some, None, List, [], ◌∷◌, length}
+use Rattle.std.specs.Prelude.{count_by, nat_le, nat_lt, not, unwrap_or}
 use Rattle.std.specs.Option.{option_map}
 use Rattle.std.specs.Ordering.{eq_by_cmp}
 use Rattle.std.specs.FinMap as fm
 use Rattle.lwc_base.specs.declared.descriptor.Descriptor.{Descriptor}
-use Rattle.lwc_base.specs.Cells.{put_at, put_in, put_page, put_slot, with_cell, with_value}
+use Rattle.lwc_base.specs.Cells.{put_at, put_in, put_page, put_slot, put_uid, with_cell, with_value}
 use Rattle.lwc_base.specs.Frames.{is_parting, used}
 use Rattle.lwc_base.specs.Keys.{ValueOf, is_there, with_key}
-use Rattle.lwc_base.specs.Mapping.{map_pages, mapped_or_not, unmap_pages, with_zeros, without_pages}
+use Rattle.lwc_base.specs.Mapping.{map_pages, mapped_or_not, on_pages, unmap_pages, with_pages, with_zeros, without_pages, writable_in}
 use Rattle.lwc_base.specs.Memory.{is_present, touched}
 use Rattle.lwc_base.specs.Modes.{mode, mode_or_copy}
 use Rattle.std.specs.List.{list_any, range_with_len}
@@ -37,8 +37,8 @@ use Rattle.lwc_base.proofs.Clones.{next_context-share}
 use Rattle.lwc_base.proofs.Orders.{name_cmp-IsAntisymmetric, name_cmp-total, same_name}
 use Rattle.world_views.proofs.JobTables.{changed_entry, get-changed_entry}
 use Rattle.world_views.proofs.BlankCounts.{keys-blank, groups_of-blank, live_of-blank, parting-blank, reap-blank, used-blank}
-use Rattle.world_views.proofs.BlankAsked.{enters-blank, slot_cell-blank, bytes-blank, cell-blank, context-blank, get-blank, live-blank, lowest-blank, needs-blank, present-blank, ranges-blank, slot-blank, summary-blank, value-blank, writable-blank}
-use Rattle.world_views.specs.Blank.{blank, blank_cell, blank_context, blank_contexts, blank_stored}
+use Rattle.world_views.proofs.BlankAsked.{enters-blank, slot_cell-blank, uid-blank, uid_cell-blank, bytes-blank, cell-blank, context-blank, get-blank, live-blank, lowest-blank, needs-blank, present-blank, ranges-blank, slot-blank, summary-blank, value-blank, writable-blank}
+use Rattle.world_views.specs.Blank.{blank, blank_cell, blank_context, blank_contexts, blank_page, blank_stored}
 use Rattle.world_views.specs.BlankFacts.{AsksAlike, BlanksAlike, ChangesAlike, TakesNothingOf}
 
 -- two changes of one entry, in either order, where they commute if they are of the same name
@@ -153,6 +153,47 @@ module _ (keep : Bool) (v : Name) where
       by (Own old) = change_any-blank w c (with_cell (Slot n) (Own value)) (λ is x. slot_commutes n value x)
       by (Common g) = change_group-blank w g (with_value (Slot n) value)
 
+  -- so is another uid
+  uid_commutes : (uid : ℕ) (x : Context) → with_cell Cred (Own uid) (blank_context keep x) ≡ blank_context keep (with_cell Cred (Own uid) x)
+  unfolding blank_context
+  uid_commutes uid x = λ i. record x { cell = λ k. at k i; saved = λ t. cond keep (x.saved t) None }
+    where
+      at : (k : Key) → with_key Cell Cred (Own uid) (λ q. blank_cell q (x.cell q)) k ≡ blank_cell k (with_key Cell Cred (Own uid) x.cell k)
+      at (Page p) = refl
+      at (Slot m) = refl
+      at Cred = refl
+
+  pub put_uid-blank : (w : World) (c : Name) (uid : ℕ) → put_uid (blank keep v w) c uid ≡ blank keep v (put_uid w c uid)
+  unfolding put_at
+  put_uid-blank w c uid = ap (put_in (blank keep v w) c Cred uid) (uid_cell-blank keep v w c) ∙ by ((context w c).cell Cred)
+    where
+      by : (cell : Cell ℕ) → put_in (blank keep v w) c Cred uid cell ≡ blank keep v (put_in w c Cred uid cell)
+      by (Own old) = change_any-blank w c (with_cell Cred (Own uid)) (λ is x. uid_commutes uid x)
+      by (Common g) = change_group-blank w g (with_value Cred uid)
+
+  -- and so is a range of pages that become zeros, or absent
+  pages_commute : (from to : ℕ) (value : Option PageValue) → blank_page value ≡ value → (x : Context) → with_pages from to value (blank_context keep x) ≡ blank_context keep (with_pages from to value x)
+  unfolding blank_context
+  pages_commute from to value bare x = λ i. record x {
+    cell = λ k. at k i;
+    right = writable_in from to x.right;
+    saved = λ t. cond keep (x.saved t) None;
+  }
+    where
+      either : (b : Bool) (p : ℕ) (cell : Cell (Option PageValue)) → cond b (Own value) (blank_cell (Page p) cell) ≡ blank_cell (Page p) (cond b (Own value) cell)
+      either true p cell = ap Own (sym bare)
+      either false p cell = refl
+
+      at : (k : Key) → on_pages from to (Own value) (λ q. blank_cell q (x.cell q)) k ≡ blank_cell k (on_pages from to (Own value) x.cell k)
+      at (Page p) = either (nat_le from p && nat_lt p to) p (x.cell (Page p))
+      at (Slot m) = refl
+      at Cred = refl
+
+  pub map-blank : (w : World) (c : Name) (from to : ℕ) (present : Bool) → mapped_or_not (blank keep v w) c from to present ≡ blank keep v (mapped_or_not w c from to present)
+  unfolding map_pages unmap_pages
+  map-blank w c from to true = change_any-blank w c (with_zeros from to) (λ is x. pages_commute from to (Some Zero) refl x)
+  map-blank w c from to false = change_any-blank w c (without_pages from to) (λ is x. pages_commute from to None refl x)
+
   -- registers that a context keeps for a thread make no difference where it is blank and keeps none
   pub forgets-blank : (w : World) (t : ℕ) (regs : Regs) → keep ≡ false → blank keep v (save w v t regs) ≡ blank keep v w
   unfolding save change_context blank_context
@@ -246,11 +287,6 @@ module _ (keep : Bool) (v : Name) where
           by false true d = refl
           by false false true = refl
           by false false false = refl
-
-      pub map-blank : (from to : ℕ) (present : Bool) → mapped_or_not (blank keep v w) c from to present ≡ blank keep v (mapped_or_not w c from to present)
-      unfolding map_pages unmap_pages
-      map-blank from to true = change_context-blank w c (with_zeros from to) outside
-      map-blank from to false = change_context-blank w c (without_pages from to) outside
 
       pub save-blank : (t : ℕ) (regs : Regs) → save (blank keep v w) c t regs ≡ blank keep v (save w c t regs)
       unfolding save
@@ -368,7 +404,6 @@ module _ (keep : Bool) (v : Name) where
     changes-alike = record {
       put = put-blank c outside w;
       store = store-blank c outside w;
-      map = map-blank c outside w;
       save = save-blank c outside w;
       clone = clone-blank;
       overlay = overlay-blank;
@@ -378,6 +413,7 @@ module _ (keep : Bool) (v : Name) where
   blanks-alike w = record {
     live = live-blank keep v w;
     slot = slot-blank keep v w;
+    uid = uid-blank keep v w;
     lowest = lowest-blank keep v w;
     contexts = live_of-blank keep v w;
     groups = groups_of-blank keep v w;
@@ -388,6 +424,8 @@ module _ (keep : Bool) (v : Name) where
     keys = keys-blank keep v w.contexts;
     enters = enters-blank keep v w;
     put_slot = put_slot-blank w;
+    put_uid = put_uid-blank w;
+    map = map-blank w;
     forgets = forgets-blank w;
     insert = insert-blank w;
     reap = reap-blank keep v w;

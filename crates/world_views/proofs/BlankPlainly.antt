@@ -77,7 +77,8 @@ after-blank keep v w ReadOnly = refl
 after-blank keep v w Full = refl
 after-blank keep v w (Done u) = refl
 
-module _ (keep : Bool) (v : Name) (w : World) (io : Channels) (job : ℕ) (targets : CallContexts) (outside : AreOutside v targets) where
+-- calls over slots, the uid and the kinds of pages, of the blank context too
+module _ (keep : Bool) (v : Name) (w : World) (io : Channels) (targets : CallContexts) where
   value-blank : (n : ℕ) → descriptor_for (blank keep v w) targets.slots n ≡ descriptor_for w targets.slots n
   value-blank n = descriptor-blank keep v w targets.slots n
 
@@ -85,30 +86,51 @@ module _ (keep : Bool) (v : Name) (w : World) (io : Channels) (job : ℕ) (targe
   lowest-blank = (blanks-alike keep v w).lowest targets.slots
 
   uid-blank : uid_at (blank keep v w) targets.cred ≡ uid_at w targets.cred
-  uid-blank = (asks-alike keep v w targets.cred outside.cred).value Cred
+  uid-blank = (blanks-alike keep v w).uid targets.cred
 
   put-blank : (u : World) (n : ℕ) (value : Descriptor) → put_slot (blank keep v u) targets.slots n value ≡ blank keep v (put_slot u targets.slots n value)
-  put-blank u n value = (changes-alike keep v u targets.slots outside.slots).put (Slot n) value
+  put-blank u n value = (blanks-alike keep v u).put_slot targets.slots n value
 
   placed-blank : (value : Descriptor) → placed (blank keep v w) io targets.slots value ≡ blank_outcome keep v (placed w io targets.slots value)
   placed-blank value =
       ap (λ o. answering (unwrap_or o 0) (put_slot (blank keep v w) targets.slots (unwrap_or o 0) value) io) lowest-blank
       ∙ ap (λ u. answering (unwrap_or (lowest_empty w targets.slots) 0) u io) (put-blank w (unwrap_or (lowest_empty w targets.slots) 0) value)
 
-  opening-blank : (file : ℕ) → calls.opening (blank keep v w) io targets file ≡ blank_outcome keep v (calls.opening w io targets file)
+  pub opening-blank : (file : ℕ) → calls.opening (blank keep v w) io targets file ≡ blank_outcome keep v (calls.opening w io targets file)
   opening-blank file =
       ended-blank keep v w io _ _ _ _
       (λ i. (nat_le (length io.files) file, NoFile) ∷ (not (option_map_or (may_open (uid-blank i)) (slice_get io.files file) false), NotPermitted) ∷ (is_none (lowest-blank i), NoSlot) ∷ [])
       (placed-blank (File file 0))
 
-  closing-blank : (n : ℕ) → calls.closing (blank keep v w) io targets.slots n ≡ blank_outcome keep v (calls.closing w io targets.slots n)
+  pub closing-blank : (n : ℕ) → calls.closing (blank keep v w) io targets.slots n ≡ blank_outcome keep v (calls.closing w io targets.slots n)
   closing-blank n = ended-blank keep v w io _ _ _ _ (λ i. (is_empty (value-blank n i), BadFd) ∷ []) (ap (λ u. answering 0 u io) (put-blank w n Empty))
 
-  copying-blank : (n : ℕ) → calls.copying (blank keep v w) io targets.slots n ≡ blank_outcome keep v (calls.copying w io targets.slots n)
+  pub copying-blank : (n : ℕ) → calls.copying (blank keep v w) io targets.slots n ≡ blank_outcome keep v (calls.copying w io targets.slots n)
   copying-blank n =
       ended-blank keep v w io _ _ _ _ (λ i. (is_empty (value-blank n i), BadFd) ∷ (is_none (lowest-blank i), NoSlot) ∷ [])
       (ap (placed (blank keep v w) io targets.slots) (value-blank n) ∙ placed-blank (descriptor_for w targets.slots n))
 
+  mapped-blank : (from to : ℕ) (present : Bool) → mapped_or_not (blank keep v w) targets.memory from to present ≡ blank keep v (mapped_or_not w targets.memory from to present)
+  mapped-blank = (blanks-alike keep v w).map targets.memory
+
+  pub mapping-blank : (from to : ℕ) (present : Bool) → calls.mapping (blank keep v w) io targets.memory from to present ≡ blank_outcome keep v (calls.mapping w io targets.memory from to present)
+  mapping-blank from to present =
+      ended-blank keep v w io _ _ _ _
+      (λ i. (nat_le to from || nat_lt w.size.pages to, BadRange)
+      ∷ (nat_lt MOST_RANGES ((ap (λ u. ranges_of u targets.memory) (mapped-blank from to present) ∙ (blanks-alike keep v (mapped_or_not w targets.memory from to present)).ranges targets.memory) i), TooManyRanges) ∷ [])
+      (ap (λ u. answering 0 u io) (mapped-blank from to present))
+
+  pub becoming-blank : (uid : ℕ) → calls.becoming (blank keep v w) io targets.cred uid ≡ blank_outcome keep v (calls.becoming w io targets.cred uid)
+  becoming-blank uid =
+      ended-blank keep v w io _ _ _ _
+      (λ i. (nat_le (2 ^ 32) uid, BadRange) ∷ (not (may_set (uid-blank i) uid), NotPermitted) ∷ [])
+      (ap (λ u. answering 0 u io) ((blanks-alike keep v w).put_uid targets.cred uid))
+
+  telling-blank : answering (uid_at (blank keep v w) targets.cred) (blank keep v w) io ≡ blank_outcome keep v (answering (uid_at w targets.cred) w io)
+  telling-blank = ap (λ n. answering n (blank keep v w) io) uid-blank
+
+-- and those over the bytes of other contexts
+module _ (keep : Bool) (v : Name) (w : World) (io : Channels) (job : ℕ) (targets : CallContexts) (outside : AreOutside v targets) where
   store_at-blank : (from : ℕ) (bytes : List ℕ) → store_at (blank keep v w) targets.memory job from bytes ≡ blank_stored keep v (store_at w targets.memory job from bytes)
   unfolding store_at
   store_at-blank from bytes = by (eqb (length bytes) 0) (nat_le (from + length bytes) (w.size.pages * PAGE_BYTES))
@@ -127,53 +149,34 @@ module _ (keep : Bool) (v : Name) (w : World) (io : Channels) (job : ℕ) (targe
       let stored = store_at w targets.memory job from bytes in
       ap (λ d. ended (blank keep v w) io (calls.read_refusals io d count (store_at (blank keep v w) targets.memory job from (moved io d count)))
       (answering (length (moved io d count)) (put_slot (world_after (blank keep v w) (store_at (blank keep v w) targets.memory job from (moved io d count))) targets.slots n (read_on (length (moved io d count)) d)) io))
-      (value-blank n)
+      (value-blank keep v w io targets n)
       ∙ ap (λ s. ended (blank keep v w) io (calls.read_refusals io value count s) (answering (length bytes) (put_slot (world_after (blank keep v w) s) targets.slots n (read_on (length bytes) value)) io))
       (store_at-blank from bytes)
       ∙ ended-blank keep v w io _ _ _ _
       (λ i. (is_empty value, BadFd) ∷ (is_none (left io value), WrongKind) ∷ (nat_lt MOST_BYTES_OF_CALL count, TooLong) ∷ (absent-blank keep v stored i, BadAddress) ∷ (read_only-blank keep v stored i, refusal.ReadOnly) ∷ (full-blank keep v stored i, NoFrame) ∷ [])
       (ap (λ u. answering (length bytes) (put_slot u targets.slots n (read_on (length bytes) value)) io) (after-blank keep v w stored)
-      ∙ ap (λ u. answering (length bytes) u io) (put-blank (world_after w stored) n (read_on (length bytes) value)))
+      ∙ ap (λ u. answering (length bytes) u io) (put-blank keep v w io targets (world_after w stored) n (read_on (length bytes) value)))
 
   writing-blank : (n from count : ℕ) → calls.writing (blank keep v w) io targets n from count ≡ blank_outcome keep v (calls.writing w io targets n from count)
   unfolding calls.writing
   writing-blank n from count =
       let bytes = (asks-alike keep v w targets.memory outside.memory).bytes from count in
       ended-blank keep v w io _ _ _ _
-      (λ i. calls.write_refusals io (value-blank n i) count (bytes i))
-      (λ i. answering count (blank keep v w) (written io (value-blank n i) (unwrap_or (bytes i) [])))
-
-  mapped-blank : (from to : ℕ) (present : Bool) → mapped_or_not (blank keep v w) targets.memory from to present ≡ blank keep v (mapped_or_not w targets.memory from to present)
-  mapped-blank = (changes-alike keep v w targets.memory outside.memory).map
-
-  mapping-blank : (from to : ℕ) (present : Bool) → calls.mapping (blank keep v w) io targets.memory from to present ≡ blank_outcome keep v (calls.mapping w io targets.memory from to present)
-  mapping-blank from to present =
-      ended-blank keep v w io _ _ _ _
-      (λ i. (nat_le to from || nat_lt w.size.pages to, BadRange)
-      ∷ (nat_lt MOST_RANGES ((ap (λ u. ranges_of u targets.memory) (mapped-blank from to present) ∙ (blanks-alike keep v (mapped_or_not w targets.memory from to present)).ranges targets.memory) i), TooManyRanges) ∷ [])
-      (ap (λ u. answering 0 u io) (mapped-blank from to present))
-
-  becoming-blank : (uid : ℕ) → calls.becoming (blank keep v w) io targets.cred uid ≡ blank_outcome keep v (calls.becoming w io targets.cred uid)
-  becoming-blank uid =
-      ended-blank keep v w io _ _ _ _
-      (λ i. (nat_le (2 ^ 32) uid, BadRange) ∷ (not (may_set (uid-blank i) uid), NotPermitted) ∷ [])
-      (ap (λ u. answering 0 u io) ((changes-alike keep v w targets.cred outside.cred).put Cred uid))
-
-  telling-blank : answering (uid_at (blank keep v w) targets.cred) (blank keep v w) io ≡ blank_outcome keep v (answering (uid_at w targets.cred) w io)
-  telling-blank = ap (λ n. answering n (blank keep v w) io) uid-blank
+      (λ i. calls.write_refusals io (value-blank keep v w io targets n i) count (bytes i))
+      (λ i. answering count (blank keep v w) (written io (value-blank keep v w io targets n i) (unwrap_or (bytes i) [])))
 
   pub plain-blank : (call : Option PlainCall) (args : List ℕ) → plain (blank keep v w) io targets job call args ≡ blank_outcome keep v (plain w io targets job call args)
   unfolding plain
   plain-blank None args = refl
-  plain-blank (Some plain_calls.Open) args = opening-blank (slice_index args 0)
-  plain-blank (Some plain_calls.Close) args = closing-blank (slice_index args 0)
-  plain-blank (Some plain_calls.Dup) args = copying-blank (slice_index args 0)
+  plain-blank (Some plain_calls.Open) args = opening-blank keep v w io targets (slice_index args 0)
+  plain-blank (Some plain_calls.Close) args = closing-blank keep v w io targets (slice_index args 0)
+  plain-blank (Some plain_calls.Dup) args = copying-blank keep v w io targets (slice_index args 0)
   plain-blank (Some plain_calls.Read) args = reading-blank (slice_index args 0) (slice_index args 1) (slice_index args 2)
   plain-blank (Some plain_calls.Write) args = writing-blank (slice_index args 0) (slice_index args 1) (slice_index args 2)
-  plain-blank (Some plain_calls.Map) args = mapping-blank (slice_index args 0) (slice_index args 1) true
-  plain-blank (Some plain_calls.Unmap) args = mapping-blank (slice_index args 0) (slice_index args 1) false
-  plain-blank (Some plain_calls.GetUid) args = telling-blank
-  plain-blank (Some plain_calls.SetUid) args = becoming-blank (slice_index args 0)
+  plain-blank (Some plain_calls.Map) args = mapping-blank keep v w io targets (slice_index args 0) (slice_index args 1) true
+  plain-blank (Some plain_calls.Unmap) args = mapping-blank keep v w io targets (slice_index args 0) (slice_index args 1) false
+  plain-blank (Some plain_calls.GetUid) args = telling-blank keep v w io targets
+  plain-blank (Some plain_calls.SetUid) args = becoming-blank keep v w io targets (slice_index args 0)
   plain-blank (Some plain_calls.Exit) args = refl
 
 module _ (keep : Bool) (v c : Name) (job : ℕ) (w : World) (io : Channels) (outside : IsOutside v c job w) (regs : Regs) where

@@ -1,7 +1,6 @@
 -- Plain calls, taken apart: what is so of each is so of all; and how their tables of refusals end.
 use Rattle.std.proofs.Common.{◌≡◌, ◌≢◌, ℕ, zero, suc, ◌+◌, ◌*◌, refl, ap, Bool, true, false, cond, eqb, Option, Some, None, List, [], ◌∷◌, length}
 use Rattle.std.specs.Prelude.{nat_le, nat_lt, not, slice_get, slice_index, slice_set}
-use Rattle.std.proofs.lemmas.Bool.{eqb-true}
 use Rattle.std.specs.Option.{option_map}
 use Rattle.lwc_base.specs.Cells.{uid_at}
 use Rattle.lwc_base.specs.Channels.{Channels}

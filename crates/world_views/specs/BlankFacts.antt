@@ -1,7 +1,7 @@
 -- What is asked of other contexts, and changed of them, where one context is blank: the same.
 use Rattle.std.specs.Prelude.{◌≡◌, ◌≢◌, ◌⊎◌, ℕ, Bool, true, false, List, []}
 use Rattle.std.specs.FinMap as fm
-use Rattle.lwc_base.specs.Cells.{put_at, put_slot, slot_at, value_at}
+use Rattle.lwc_base.specs.Cells.{put_at, put_slot, put_uid, slot_at, uid_at, value_at}
 use Rattle.lwc_base.specs.Frames.{used}
 use Rattle.lwc_base.specs.Keys.{ValueOf}
 use Rattle.lwc_base.specs.Life.{reap}
@@ -39,8 +39,6 @@ pub record AsksAlike (keep : Bool) (v c : Name) (w : World) : Type 0 where
 pub record ChangesAlike (keep : Bool) (v c : Name) (w : World) : Type 0 where
   pub put : (k : Key) (value : ValueOf k) → put_at (blank keep v w) c k value ≡ blank keep v (put_at w c k value)
   pub store : (job : ℕ) (piece : Piece) → store (blank keep v w) c job piece ≡ blank_stored keep v (store w c job piece)
-  pub map : (from to : ℕ) (present : Bool) →
-      mapped_or_not (blank keep v w) c from to present ≡ blank keep v (mapped_or_not w c from to present)
   pub save : (t : ℕ) (regs : Regs) → save (blank keep v w) c t regs ≡ blank keep v (save w c t regs)
   pub clone : (job : ℕ) (items : List Item) (entry : Regs) → next_context w job ≢ v →
       clone_context (blank keep v w) c job items entry ≡ blank keep v (clone_context w c job items entry)
@@ -52,6 +50,7 @@ pub record ChangesAlike (keep : Bool) (v c : Name) (w : World) : Type 0 where
 pub record BlanksAlike (keep : Bool) (v : Name) (w : World) : Type 0 where
   pub live : (c : Name) → is_live (blank keep v w) c ≡ is_live w c
   pub slot : (c : Name) (n : ℕ) → slot_at (blank keep v w) c n ≡ slot_at w c n
+  pub uid : (c : Name) → uid_at (blank keep v w) c ≡ uid_at w c
   pub lowest : (c : Name) → lowest_empty (blank keep v w) c ≡ lowest_empty w c
   pub contexts : (job : ℕ) → live_of (blank keep v w) job ≡ live_of w job
   pub groups : (job : ℕ) → groups_of (blank keep v w) job ≡ groups_of w job
@@ -64,6 +63,9 @@ pub record BlanksAlike (keep : Bool) (v : Name) (w : World) : Type 0 where
       entered (context (blank keep v w) c) t ≡ entered (context w c) t
   pub put_slot : (c : Name) (n : ℕ) (value : Descriptor) →
       put_slot (blank keep v w) c n value ≡ blank keep v (put_slot w c n value)
+  pub put_uid : (c : Name) (uid : ℕ) → put_uid (blank keep v w) c uid ≡ blank keep v (put_uid w c uid)
+  pub map : (c : Name) (from to : ℕ) (present : Bool) →
+      mapped_or_not (blank keep v w) c from to present ≡ blank keep v (mapped_or_not w c from to present)
   pub forgets : (t : ℕ) (regs : Regs) → keep ≡ false → blank keep v (save w v t regs) ≡ blank keep v w
   pub insert : (x : Context) → blank keep v (record w { contexts = fm.insert w.contexts v x })
       ≡ record w { contexts = fm.insert w.contexts v (blank_context keep x) }

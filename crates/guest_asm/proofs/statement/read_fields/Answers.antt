@@ -1,7 +1,7 @@
 use Rattle.std.proofs.Common.{arith, ap, ◌≡◌, drop, length, []}
 use Rattle.std.proofs.lemmas.Result.{err_from_is_err_and}
 use Rattle.std.proofs.lemmas.Grind.{common_steps}
-use Rattle.guest_asm.specs.declared.operand.Field.TheVariants.{Rd}
+use Rattle.guest_isa.specs.declared.op.Field.TheVariants.{Rd}
 use Rattle.guest_asm.specs.Lexis.{words}
 use Rattle.guest_asm.specs.Views.{coded_in}
 use Rattle.guest_asm.proofs.Fields.{no_word, wrong_word, next_field, all_put}

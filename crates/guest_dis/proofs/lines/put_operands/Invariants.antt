@@ -1,6 +1,6 @@
 use Rattle.std.proofs.Common.{◌≡◌, ◌++◌, drop, map}
 use Rattle.std.specs.Prelude.{codes}
-use Rattle.guest_asm.specs.Statements.{fields_of}
+use Rattle.guest_isa.specs.Opcodes.{fields_of}
 use Rattle.guest_dis.specs.Listing.{operand_for, operands_of, operands_after}
 use Rattle.guest_dis.proofs.lines.put_operands.Given as goal
 
