@@ -4,10 +4,10 @@ from __future__ import annotations
 
 import re
 import textwrap
+from collections.abc import Iterator
 from dataclasses import dataclass, field
 from functools import cache
 from pathlib import Path
-from typing import Iterator
 
 TOP = Path(__file__).resolve().parent.parent
 CRATES = TOP / "crates"
@@ -89,8 +89,9 @@ def blocks_of(text: str, starts: re.Pattern[str], marks: tuple[str, ...]) -> Ite
         while first and lines[first - 1].startswith(marks):
             first -= 1
         firsts.append((first, found))
-    for (first, found), after in zip(firsts, [it[0] for it in firsts[1:]] + [len(lines)]):
-        yield found, "\n".join(lines[first:after]).strip("\n")
+    ends = [*(first for first, _ in firsts[1:]), len(lines)]
+    for (first, found), end in zip(firsts, ends, strict=False):
+        yield found, "\n".join(lines[first:end]).strip("\n")
 
 
 def in_spec(file: Path) -> Iterator[tuple[list[str], Definition]]:
@@ -134,6 +135,7 @@ class Sources:
         self.found: dict[tuple[str, str], Definition] = {}
         self.files: dict[str, Path] = {}
         self.types: dict[tuple[str, str], Definition] = {}
+        self.imported: dict[str, tuple[dict[str, Definition], dict[str, tuple[str, list[str]]]]] = {}
         for file in sorted(CRATES.glob("*/specs/**/*.antt")):
             self.files[module_name(file)] = file
             for names, one in in_spec(file):
@@ -160,9 +162,10 @@ class Sources:
         owner = tail[-2] if tail[-1] == "TheVariants" else tail[-1]
         return self.types.get((crate, owner))
 
-    @cache
     def imports(self, module: str) -> tuple[dict[str, Definition], dict[str, tuple[str, list[str]]]]:
         """What the names of a module stand for, and which modules its short names stand for."""
+        if module in self.imported:
+            return self.imported[module]
         names: dict[str, Definition] = {}
         short: dict[str, tuple[str, list[str]]] = {}
         for crate, path, listed, alias in IMPORT.findall(self.files[module].read_text(encoding="utf-8")):
@@ -174,6 +177,7 @@ class Sources:
                 one = self.named(crate, parts, name)
                 if one:
                     names[other or name] = one
+        self.imported[module] = names, short
         return names, short
 
     def cited(self, text: str, module: str) -> list[Definition]:
@@ -195,15 +199,10 @@ class Sources:
                 found.append(one)
         return found
 
-    @cache
-    def used_crates(self, module: str) -> list[str]:
-        """The crates that a file of code imports from."""
-        return re.findall(r"^use (\w+)::", self.files[module].read_text(encoding="utf-8"), re.M)
-
     def imported_type(self, module: str, name: str) -> Definition | None:
         """The type of a name, in one of the crates that a file of code imports from."""
-        found = (self.types.get((crate, name)) for crate in self.used_crates(module))
-        return next((one for one in found if one), None)
+        used = re.findall(r"^use (\w+)::", self.files[module].read_text(encoding="utf-8"), re.M)
+        return next((self.types[crate, name] for crate in used if (crate, name) in self.types), None)
 
 
 def without_comments(text: str) -> str:
