@@ -14,7 +14,7 @@ CRATES = TOP / "crates"
 PAGES = [TOP / "README.md", *sorted((TOP / "docs").glob("*.md"))]
 
 WORD = re.compile(r"(?<![\w.'])[A-Za-z_][\w']*(?:\.[A-Za-z_]\w*)?")
-HEADER = re.compile(r"(?:abbrev|unfoldable)(?: pub)? (\w+)|pub (record|data) (\w+)")
+HEADER = re.compile(r"(?:abbrev|unfoldable)(?: pub)? (?!pub )(\S+)|pub (record|data) (\w+)")
 IMPORT = re.compile(r"^(?:pub |ghost )?use Rattle\.(\w+)\.specs\.([\w.]+?)(?:\.\{([^}]*)\})?(?: as (\w+))?;?$", re.M)
 FIELD = re.compile(r"(?m)^\s+pub \w+ :|(?<=[{;])\s*\w+ =(?!=)")
 ITEM = re.compile(r"^pub (?:struct|enum|const|type|trait) (\w+)", re.M)
@@ -99,7 +99,7 @@ def in_spec(file: Path) -> Iterator[tuple[list[str], Definition]]:
     for found, text in blocks_of(file.read_text(encoding="utf-8"), HEADER, ("--",)):
         name = found[1] or found[3]
         cases = re.findall(r"^  (?:pub )?([A-Z]\w*) :", text, re.M) if found[2] == "data" else []
-        yield [name, *cases], Definition(module_name(file), name, text)
+        yield [name, *cases], Definition(module_name(file), name, re.sub(r"(?m)^infix.*\n?", "", text))
 
 
 def end_of_item(text: str, at: int) -> int:
@@ -187,7 +187,9 @@ class Sources:
         plain = without_comments(text)
         is_trait = re.search(r"^pub trait ", plain, re.M)
         found: list[Definition] = []
-        for word in WORD.findall(FIELD.sub(" ", plain)):
+        mine = [name for one, name in self.found if one == module]
+        operators = [name for name in [*mine, *names] if "◌" in name and name.strip("◌") in plain]
+        for word in operators + WORD.findall(FIELD.sub(" ", plain)):
             head, _, rest = word.partition(".")
             if head in short and rest:
                 one = self.named(*short[head], rest)
