@@ -32,7 +32,7 @@ use Rattle.lwc_base.specs.declared.key.Key.{Key}
 use Rattle.lwc_base.specs.declared.key.Key.TheVariants.{Slot}
 use Rattle.lwc_base.specs.declared.name.Name.{Name}
 use Rattle.lwc_closed.specs.Requests.{IsOfAnother, IsOver, StayInsideOrServeOthers}
-use Rattle.request_isolation.proofs.Holds.{Holds, holds_after, serving_now, unseen_served}
+use Rattle.request_isolation.proofs.Holds.{Holds, Leaves, holds_after, serving_now, unseen_served}
 use Rattle.request_isolation.proofs.Homes.{home_for}
 use Rattle.request_isolation.proofs.Isolated.{stands_run, stands_start}
 use Rattle.request_isolation.proofs.Roots.{who}
@@ -78,7 +78,7 @@ module _ (image : Image) (workers budget n : ℕ) (m : Machine) (s : Serve) (hol
     other_job : made.acted ≢ job
     other_job = not_for made.acted made.after made.now made.how
 
-    abbrev leaves : _
+    abbrev leaves : Leaves image m s t made.acted made.thread made.after made.now
     leaves = leaves_by image budget workers n m s holds t made.thread made.found made.acted made.after made.now made.how
 
     after_holds : Holds image workers budget n (after_outcome m t (Some made.after)) made.now
