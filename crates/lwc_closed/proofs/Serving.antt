@@ -55,6 +55,7 @@ module _ (image : Image) (workers budget n : ℕ) (m : Machine) (s : Serve) (hol
       subst (InCell (by_job (home_for image)) e.job k) is (holds.jobs.kept.contexts e (live_of_common (world_of m) e k both.group is) k) in
       sym (group_job d both.second) ∙ group_job c both.first
 
+module _ (image : Image) (workers budget n : ℕ) (m : Machine) (s : Serve) (holds : Holds image workers budget n m s) where
   module _ (f : Fence) (job t : ℕ) (over : IsOver f job) (keeps : KeepsTo f m) (another : IsOfAnother m job t) (made : Made m s t) where
     abbrev v : World
     v = world_of (after_outcome m t (Some made.after))
@@ -66,7 +67,7 @@ module _ (image : Image) (workers budget n : ℕ) (m : Machine) (s : Serve) (hol
     begun : (1 ≤ job) × (job ≤ s.next)
     begun =
         let own = serving_now holds server.number server.thread server.found server.running in
-        subst (λ (j : ℕ). (1 ≤ j) × (j ≤ s.next)) server.job_is own.1
+        subst (λ (j : ℕ). (1 ≤ j) × (j ≤ s.next)) server.job_is (own.1, own.2)
 
     -- the step is not made for it
     not_for : (acted : ℕ) (after : AfterStep) (now : Serve) → How m s t made.thread acted after now → acted ≢ job
