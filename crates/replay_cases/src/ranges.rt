@@ -34,7 +34,7 @@ pub fn lines_of_range<R: AllocGlobal + Threads + Wait + Sync>(
     let mut same = String::new(alloc);
     for number in 0..MOST_CALLS {
         let left = call_at(rt, case, guest, words, range, number)?;
-        let text = told(rt, &left, &whole, number)?;
+        let text = told(rt, &left, &whole, range, number)?;
         if text.as_str() != same.as_str() {
             append_group(rt, &mut lines, from, number, same.as_str())?;
             from = number;
@@ -77,6 +77,7 @@ fn told<R: AllocGlobal>(
     rt: &R,
     left: &Left,
     whole: &Left,
+    range: Range,
     number: u64,
 ) -> Result<String, AllocError> {
     let alloc = rt.alloc();
@@ -85,7 +86,7 @@ fn told<R: AllocGlobal>(
     let mut lines = Vec::new(alloc);
     if out == text {
         lines.push(String::from_str(alloc, "the whole text")?)?;
-    } else if text.starts_with(out) && out.len() as u64 == number {
+    } else if range == Range::Write && text.starts_with(out) && out.len() as u64 == number {
         lines.push(String::from_str(alloc, "the first N bytes of the text")?)?;
     } else {
         append_shown(alloc, &mut lines, out, false)?;

@@ -52,7 +52,7 @@ fn digits_of(alloc: Global, bytes: &[u8]) -> Result<String, AllocError> {
             .position(|byte| *byte != 0)
             .unwrap_or(rest.len());
         if zeros >= MANY_ZEROS {
-            digits.push_str(format!(in alloc; " {zeros}*00 ")?.as_str())?;
+            digits.push_str(format!(in alloc; "({zeros} zeros)")?.as_str())?;
             rest = rest.get(zeros..).unwrap_or(&[]);
         } else {
             let taken = zeros + 1;
