@@ -32,7 +32,7 @@ use Rattle.lwc_base.specs.declared.key.Key.{Key}
 use Rattle.lwc_base.specs.declared.key.Key.TheVariants.{Slot}
 use Rattle.lwc_base.specs.declared.name.Name.{Name}
 use Rattle.lwc_closed.specs.Requests.{IsOfAnother, IsOver, StayInsideOrServeOthers}
-use Rattle.request_isolation.proofs.Holds.{Holds, holds_after, serving_now, unseen_served}
+use Rattle.request_isolation.proofs.Holds.{Holds, Leaves, holds_after, serving_now, unseen_served}
 use Rattle.request_isolation.proofs.Homes.{home_for}
 use Rattle.request_isolation.proofs.Isolated.{stands_run, stands_start}
 use Rattle.request_isolation.proofs.Roots.{who}
@@ -55,6 +55,7 @@ module _ (image : Image) (workers budget n : ℕ) (m : Machine) (s : Serve) (hol
       subst (InCell (by_job (home_for image)) e.job k) is (holds.jobs.kept.contexts e (live_of_common (world_of m) e k both.group is) k) in
       sym (group_job d both.second) ∙ group_job c both.first
 
+module _ (image : Image) (workers budget n : ℕ) (m : Machine) (s : Serve) (holds : Holds image workers budget n m s) where
   module _ (f : Fence) (job t : ℕ) (over : IsOver f job) (keeps : KeepsTo f m) (another : IsOfAnother m job t) (made : Made m s t) where
     abbrev v : World
     v = world_of (after_outcome m t (Some made.after))
@@ -66,7 +67,7 @@ module _ (image : Image) (workers budget n : ℕ) (m : Machine) (s : Serve) (hol
     begun : (1 ≤ job) × (job ≤ s.next)
     begun =
         let own = serving_now holds server.number server.thread server.found server.running in
-        subst (λ (j : ℕ). (1 ≤ j) × (j ≤ s.next)) server.job_is own.1
+        subst (λ (j : ℕ). (1 ≤ j) × (j ≤ s.next)) server.job_is (own.1, own.2)
 
     -- the step is not made for it
     not_for : (acted : ℕ) (after : AfterStep) (now : Serve) → How m s t made.thread acted after now → acted ≢ job
@@ -78,7 +79,7 @@ module _ (image : Image) (workers budget n : ℕ) (m : Machine) (s : Serve) (hol
     other_job : made.acted ≢ job
     other_job = not_for made.acted made.after made.now made.how
 
-    abbrev leaves : _
+    abbrev leaves : Leaves image m s t made.acted made.thread made.after made.now
     leaves = leaves_by image budget workers n m s holds t made.thread made.found made.acted made.after made.now made.how
 
     after_holds : Holds image workers budget n (after_outcome m t (Some made.after)) made.now

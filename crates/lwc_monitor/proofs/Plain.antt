@@ -108,36 +108,36 @@ abbrev QuietKept : Machine → List ℕ → Type 0
 QuietKept m ts = QuietRun m (kept_under (unmonitored m) ts)
 
 module _ (m : Machine) (t : ℕ) (ts : List ℕ) where
-  abbrev next : Monitored
-  next = monitored_step (unmonitored m) t
+  abbrev stepped : Monitored
+  stepped = monitored_step (unmonitored m) t
 
   -- the thread had ended, or it had not
   ended : is_ended m t ≡ true → AreSame m ts → AreSame m (t ∷ ts)
   ended is here =
       let skips : kept m (t ∷ ts) ≡ kept m ts = ap (λ b. cond b (kept m ts) (t ∷ kept (step m t) ts)) is in
       record {
-        steps = ap (λ b. cond b (kept_under (unmonitored m) ts) (t ∷ kept_under next ts)) is ∙ here.steps ∙ sym skips;
+        steps = ap (λ b. cond b (kept_under (unmonitored m) ts) (t ∷ kept_under stepped ts)) is ∙ here.steps ∙ sym skips;
         state = subst (λ (l : List ℕ). run_under (unmonitored m) l ≡ unmonitored (run m l)) (sym skips) here.state;
         most = subst (λ (l : List ℕ). peak_under (unmonitored m) l ≡ peak m l) (sym skips) here.most;
       }
 
-  going : is_ended m t ≡ false → next ≡ unmonitored (step m t) → AreSame (step m t) ts → AreSame m (t ∷ ts)
+  going : is_ended m t ≡ false → stepped ≡ unmonitored (step m t) → AreSame (step m t) ts → AreSame m (t ∷ ts)
   going is next_is there =
       let ks : List ℕ = kept (step m t) ts in
       let keeps : kept m (t ∷ ts) ≡ t ∷ ks = ap (λ b. cond b (kept m ts) (t ∷ kept (step m t) ts)) is in
       record {
-        steps = ap (λ b. cond b (kept_under (unmonitored m) ts) (t ∷ kept_under next ts)) is
+        steps = ap (λ b. cond b (kept_under (unmonitored m) ts) (t ∷ kept_under stepped ts)) is
             ∙ ap (λ (s : Monitored). t ∷ kept_under s ts) next_is ∙ ap (λ l. t ∷ l) there.steps ∙ sym keeps;
         state = subst (λ (l : List ℕ). run_under (unmonitored m) l ≡ unmonitored (run m l)) (sym keeps) (ap (λ (s : Monitored). run_under s ks) next_is ∙ there.state);
         most = subst (λ (l : List ℕ). peak_under (unmonitored m) l ≡ peak m l) (sym keeps)
             (ap (λ (s : Monitored). max (frames_of m) (peak_under s ks)) next_is ∙ ap (max (frames_of m)) there.most);
       }
 
-  by_end : (b : Bool) → is_ended m t ≡ b → QuietRun m (cond b (kept_under (unmonitored m) ts) (t ∷ kept_under next ts)) → (QuietKept m ts → AreSame m ts) → (QuietKept (step m t) ts → AreSame (step m t) ts) → AreSame m (t ∷ ts)
+  by_end : (b : Bool) → is_ended m t ≡ b → QuietRun m (cond b (kept_under (unmonitored m) ts) (t ∷ kept_under stepped ts)) → (QuietKept m ts → AreSame m ts) → (QuietKept (step m t) ts → AreSame (step m t) ts) → AreSame m (t ∷ ts)
   by_end true is quiet here there = ended is (here quiet)
   by_end false is quiet here there =
-      let next_is = first m t (kept_under next ts) quiet in
-      going is next_is (there (subst (λ (s : Monitored). QuietRun (step m t) (kept_under s ts)) next_is (later m t (kept_under next ts) quiet)))
+      let next_is = first m t (kept_under stepped ts) quiet in
+      going is next_is (there (subst (λ (s : Monitored). QuietRun (step m t) (kept_under s ts)) next_is (later m t (kept_under stepped ts) quiet)))
 
 all-same : (ts : List ℕ) (m : Machine) → QuietKept m ts → AreSame m ts
 all-same [] m quiet = record { steps = refl; state = refl; most = refl }

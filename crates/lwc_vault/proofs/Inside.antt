@@ -194,16 +194,16 @@ module _ (t : ℕ) (e : Environment) (x : Thread) (inside : stands_inside x ≡ 
 
   -- a plain call that gives a value, or is refused
   abbrev ending : ℕ → World → Option Refusal → plain.Outcome
-  ending value after first = plain.refused_or w e.channels (plain.answering value after e.channels) first
+  ending value then first = plain.refused_or w e.channels (plain.answering value then e.channels) first
 
-  covers_ended : (value : ℕ) (after : World) (first : Option Refusal) → cover false (plainly x (ending value after first).answer) ≡ cover false x
-  covers_ended value after (Some refusal) = covers (refused x refusal).regs
-  covers_ended value after None = covers (with_result x.regs 0 value)
+  covers_ended : (value : ℕ) (then : World) (first : Option Refusal) → cover false (plainly x (ending value then first).answer) ≡ cover false x
+  covers_ended value then (Some refusal) = covers (refused x refusal).regs
+  covers_ended value then None = covers (with_result x.regs 0 value)
 
-  makes : (value : ℕ) (after : World) (first : Option Refusal) (hidden : plain.Outcome) → hidden ≡ blank_outcome false vault_name (ending value after first) →
-      blank_out false (ended_outcome x (ending value after first)) ≡ making (blank_env false e) (cover false x) hidden
-  makes value after first hidden is = λ i. record {
-    thread = covers_ended value after first i;
+  makes : (value : ℕ) (then : World) (first : Option Refusal) (hidden : plain.Outcome) → hidden ≡ blank_outcome false vault_name (ending value then first) →
+      blank_out false (ended_outcome x (ending value then first)) ≡ making (blank_env false e) (cover false x) hidden
+  makes value then first hidden is = λ i. record {
+    thread = covers_ended value then first i;
     environment = beside (sym is i).world (sym is i).io;
   }
 

@@ -1,6 +1,7 @@
 //! The program's call over files in memory, and its public parts.
 
-use crate::case::{Case, Outside, SURE};
+use crate::case::Case;
+use crate::outside::{CaseGate, CountingSink, Outside, SURE};
 use lwc_base::MOST_THREADS;
 use lwc_io::{MemoryFiles, MemorySink, NamedFile, SureFiles};
 use lwcrun_core::{ExitStatus, Line, lwcrun, lwcrun_in_memory, read_line, replay};
@@ -9,12 +10,14 @@ use std::sync::Wait;
 use std::thread::Threads;
 use thread_carrier::{OpenGate, VisitLog};
 
-/// What a call has left: its status, what it wrote, and its message.
+/// What a call has left: its status, what it wrote, its message, and whether a thread that was held looked until its
+/// looks ran out.
 #[derive(Drop)]
 pub struct Left {
     pub status: ExitStatus,
     pub out: MemorySink,
     pub err: MemorySink,
+    pub has_run_out: bool,
 }
 
 /// Calls the program on the words of a line over these files.
@@ -27,7 +30,11 @@ pub fn call<R: AllocGlobal + Threads + Wait + Sync>(
     let alloc = rt.alloc();
     let line = line_of(alloc, words)?;
     let mut files = MemoryFiles::new(alloc, named, vec![in alloc; outside.fetch]?)?;
-    let mut out = MemorySink::new(alloc, outside.most, vec![in alloc; outside.write]?);
+    let gate = CaseGate::new(outside.hold);
+    let mut out = CountingSink {
+        sink: MemorySink::new(alloc, outside.most, vec![in alloc; outside.write]?),
+        lines: gate.lines(),
+    };
     let mut err = MemorySink::new(alloc, 1 << 20, Vec::new(alloc));
     let mut logs = VisitLog::for_threads(alloc, MOST_THREADS as usize)?;
     let status = lwcrun(
@@ -37,10 +44,15 @@ pub fn call<R: AllocGlobal + Threads + Wait + Sync>(
         &mut files,
         &mut out,
         &mut err,
-        &OpenGate,
+        &gate,
         &mut logs,
     );
-    Ok(Left { status, out, err })
+    Ok(Left {
+        status,
+        out: out.sink,
+        err,
+        has_run_out: gate.has_run_out(),
+    })
 }
 
 /// How the program ends on the words of a line over files that never fail.
@@ -103,7 +115,8 @@ pub fn line_of(alloc: Global, words: &str) -> Result<Vec<String>, AllocError> {
     Ok(line)
 }
 
-/// The guest of a case: its bytes as they are given, or what the program writes for its source.
+/// The guest of a case: its bytes as they are given, or what the program writes for its source, cut off and with other
+/// bytes in front and behind as the case says.
 pub fn guest_of<R: AllocGlobal + Threads + Wait + Sync>(
     rt: &R,
     case: &Case,
@@ -114,9 +127,18 @@ pub fn guest_of<R: AllocGlobal + Threads + Wait + Sync>(
         None => {
             let source = NamedFile::new(alloc, "source", case.source.as_bytes())?;
             let left = call(rt, "asm source", vec![in alloc; source]?, SURE)?;
-            Vec::from_slice(alloc, left.out.bytes())
+            changed(alloc, case, left.out.bytes())
         }
     }
+}
+
+/// A guest that is cut off, and has other bytes in front and behind, as the case says.
+fn changed(alloc: Global, case: &Case, guest: &[u8]) -> Result<Vec<u8>, AllocError> {
+    let mut bytes = Vec::from_slice(alloc, case.head.as_slice())?;
+    let kept = guest.get(..case.cut).unwrap_or(guest);
+    bytes.extend_from_slice(kept.get(case.head.len()..).unwrap_or(&[]))?;
+    bytes.extend_from_slice(case.tail.as_slice())?;
+    Ok(bytes)
 }
 
 /// The files of a case, with this guest and this schedule.

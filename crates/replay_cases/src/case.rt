@@ -1,27 +1,23 @@
 //! Stored cases, as they are read.
 
+use crate::outside::{Hold, Outside, SURE};
 use std::alloc::Global;
 use std::io;
 
-/// How the outside of a call behaves: which fetch fails, how many bytes a write takes at most, and which write
-/// fails, each counted from 0 on.
-#[derive(Clone, Copy)]
-pub struct Outside {
-    pub fetch: u64,
-    pub most: usize,
-    pub write: u64,
+/// What is gone through, one call after another, from 0 on until a call ends well: how many bytes of the guest there are,
+/// which write of one byte fails, or which fetch does.
+#[derive(Clone, Copy, PartialEq, Eq)]
+pub enum Range {
+    Cut,
+    Write,
+    Fetch,
 }
-
-/// An outside in which nothing fails.
-pub const SURE: Outside = Outside {
-    fetch: u64::MAX,
-    most: 1 << 20,
-    write: u64::MAX,
-};
 
 /// Lines that are called over the same files: what they show, the words after the program's name of each, the
 /// schedule, the file of requests, the vault's file, the script, the source of the guest, the guest itself where it
-/// is not made from the source, how the outside behaves, and whether what is written is not printed.
+/// is not made from the source, where a guest that is made is cut off and what it gets in front and behind, how the
+/// outside behaves, what is gone through, whether what is written is not printed, and whether it is printed of the
+/// steps how many there are, by whom the first one is made, and how many each thread makes.
 #[derive(Drop)]
 pub struct Case {
     pub title: String,
@@ -32,8 +28,15 @@ pub struct Case {
     pub script: String,
     pub source: String,
     pub guest: Option<Vec<u8>>,
+    pub cut: usize,
+    pub head: Vec<u8>,
+    pub tail: Vec<u8>,
     pub outside: Outside,
+    pub range: Option<Range>,
     pub is_quiet: bool,
+    pub shows_count: bool,
+    pub shows_first: bool,
+    pub shows_each: bool,
 }
 
 impl Case {
@@ -48,8 +51,15 @@ impl Case {
             script: String::new(alloc),
             source: String::new(alloc),
             guest: None,
+            cut: usize::MAX,
+            head: Vec::new(alloc),
+            tail: Vec::new(alloc),
             outside: SURE,
+            range: None,
             is_quiet: false,
+            shows_count: false,
+            shows_first: false,
+            shows_each: false,
         })
     }
 
@@ -58,18 +68,37 @@ impl Case {
         let (word, rest) = line.split_once(' ').unwrap_or((line, ""));
         match word {
             "line" => self.lines.push(String::from_str(alloc, rest)?)?,
-            "schedule" => self.schedule.push_str(rest)?,
+            "schedule" => append_text(&mut self.schedule, rest)?,
             "requests" => append_parts(&mut self.requests, rest, " ")?,
             "vault" => self.vault = vault_bytes(alloc, rest)?,
             "script" => append_parts(&mut self.script, rest, ", ")?,
-            "guest" => self.guest = Some(hex::decode(alloc, rest).unwrap_or(Vec::new(alloc))),
+            "empty" => append_empty(&mut self.requests, number_in(rest))?,
+            "guest" => self.guest = Some(bytes_in(alloc, rest)),
+            "cut" => self.cut = number_in(rest) as usize,
+            "head" => self.head = bytes_in(alloc, rest),
+            "tail" => self.tail = bytes_in(alloc, rest),
             "fetch" => self.outside.fetch = number_in(rest),
             "most" => self.outside.most = number_in(rest) as usize,
             "write" => self.outside.write = number_in(rest),
+            "hold" => self.outside.hold = Some(hold_in(rest)),
+            "each" => self.range = range_in(rest),
+            "show" => self.show(rest),
             "quiet" => self.is_quiet = true,
             _ => append_parts(&mut self.source, line, "\n")?,
         }
         Ok(())
+    }
+
+    /// Takes what is to be printed of the steps.
+    fn show(&mut self, words: &str) {
+        for word in words.split(' ') {
+            match word {
+                "count" => self.shows_count = true,
+                "first" => self.shows_first = true,
+                "each" => self.shows_each = true,
+                _ => {}
+            }
+        }
     }
 }
 
@@ -91,6 +120,49 @@ fn append_parts(lines: &mut String, text: &str, separator: &str) -> io::Result<(
         lines.push_str("\n")?;
     }
     Ok(())
+}
+
+/// Appends a text in which a backslash and n stand for the end of a line.
+fn append_text(lines: &mut String, text: &str) -> io::Result<()> {
+    let mut separator = "";
+    for part in text.split("\\n") {
+        lines.push_str(separator)?;
+        lines.push_str(part)?;
+        separator = "\n";
+    }
+    Ok(())
+}
+
+/// Appends this many empty lines.
+fn append_empty(lines: &mut String, count: u64) -> io::Result<()> {
+    for _line in 0..count {
+        lines.push_str("\n")?;
+    }
+    Ok(())
+}
+
+/// The bytes that hexadecimal digits spell, or none.
+fn bytes_in(alloc: Global, digits: &str) -> Vec<u8> {
+    hex::decode(alloc, digits).unwrap_or(Vec::new(alloc))
+}
+
+/// The thread that is held, and what it waits for: a thread, or with the word `line` a line of the output.
+fn hold_in(words: &str) -> Hold {
+    let (held, awaited) = words.split_once(' ').unwrap_or((words, "line"));
+    Hold {
+        held: number_in(held) as u32,
+        awaited: awaited.parse().ok(),
+    }
+}
+
+/// What the word names that is gone through.
+fn range_in(word: &str) -> Option<Range> {
+    match word {
+        "cut" => Some(Range::Cut),
+        "write" => Some(Range::Write),
+        "fetch" => Some(Range::Fetch),
+        _ => None,
+    }
 }
 
 /// The number that these digits spell, or the greatest one.

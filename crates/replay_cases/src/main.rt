@@ -5,9 +5,13 @@
 //! The input is a list of cases. Each begins with a line `# ` and what it shows. Then come lines of which the first
 //! word says what they have: `line` the words after the program's name, once or more; `schedule` the schedule;
 //! `requests` the requests of a serve, parted by blanks; `vault` a vault's entry and its pages; `script` the commands
-//! of a script, parted by commas; `guest` the guest's bytes in place of a source; `fetch` and `write` the number of
-//! the one that fails; `most` how many bytes a write takes at most; `quiet` that what is written is not printed. Every
-//! other line is one of the guest's source. The first file of a run or a serve is `guest`.
+//! of a script, parted by commas; `guest` the guest's bytes in place of a source; `cut` how many bytes of a guest that
+//! is made are left, `head` and `tail` what it gets in front, in place of as many bytes, and behind; `empty` how many
+//! empty requests there are; `fetch` and `write` the number of the one that fails; `most` how many bytes a write takes
+//! at most; `hold` the thread that is held at its first turn, and the one that has to come for its second before, or
+//! `line` for a line of the output; `each` what is gone through, `cut`, `write` or `fetch`; `show` what is printed of
+//! the steps, `count`, `first` or `each`; `quiet` that what is written is not printed. Every other line is one of the
+//! guest's source. The first file of a run or a serve is `guest`.
 //!
 //! The output has each title; where a case has several lines, the words of each behind `> `; what was written, bytes
 //! with a zero in hexadecimal digits; the message; the status if it is not 0; and a sentence for each difference.
@@ -15,22 +19,23 @@
 
 mod calls;
 mod case;
+mod outside;
 mod over_copies;
+mod ranges;
+mod showing;
 
 use crate::calls::{Left, call, files_of, guest_of, status_in_memory, text_by_replay};
-use crate::case::{Case, SURE, take_line};
+use crate::case::{Case, take_line};
+use crate::outside::SURE;
 use crate::over_copies::text_over_copies;
+use crate::ranges::lines_of_range;
+use crate::showing::{append_shown, append_steps, last_word};
+use lwc_io::NamedFile;
 use lwcrun_core::ExitStatus;
 use std::alloc::{AllocError, Global};
 use std::io;
 use std::sync::Wait;
 use std::thread::Threads;
-
-/// The longest line that is printed whole.
-const WHOLE_LINE: usize = 240;
-
-/// How many bytes of a longer one are printed, before its length.
-const LINE_START: usize = 60;
 
 /// The line of the replay of what a run or a serve of these words has printed.
 fn replay_of(alloc: Global, words: &str) -> Result<Option<String>, AllocError> {
@@ -41,14 +46,6 @@ fn replay_of(alloc: Global, words: &str) -> Result<Option<String>, AllocError> {
             Ok(Some(line))
         }
         _ => Ok(None),
-    }
-}
-
-/// The last word of a text, with the blank before it, which a schedule may have.
-fn last_word(text: &[u8]) -> &[u8] {
-    match text.iter().rposition(|byte| *byte == b' ') {
-        Some(at) => text.get(at..).unwrap_or(&[]),
-        None => &[],
     }
 }
 
@@ -79,7 +76,23 @@ fn differences<R: AllocGlobal + Threads + Wait + Sync>(
             found.push("its replay differs")?;
         }
     }
+    if words.starts_with("dis ") {
+        let source = NamedFile::new(alloc, "source", left.out.bytes())?;
+        let again = call(rt, "asm source", vec![in alloc; source]?, SURE)?;
+        if again.out.bytes() != guest {
+            found.push("its source makes another image")?;
+        }
+    }
     Ok(found)
+}
+
+/// Whether several threads made the steps of what a line has written.
+fn is_by_threads(words: &str, report: &[u8]) -> bool {
+    let mode = words.split(' ').next().unwrap_or("");
+    matches!(mode, "run" | "serve" | "stream")
+        && !last_word(report)
+            .iter()
+            .all(|digit| b" 0\n".contains(digit))
 }
 
 /// Whether the program ends otherwise over files that never fail, where neither a fetch nor a write has failed.
@@ -97,36 +110,6 @@ fn ends_otherwise<R: AllocGlobal + Threads + Wait + Sync>(
     Ok(status_in_memory(rt, words, files)? != status)
 }
 
-/// A line as it is printed: the beginning of a long one, and its length.
-fn shown(alloc: Global, line: &str) -> Result<String, AllocError> {
-    match line.get(..LINE_START) {
-        Some(start) if WHOLE_LINE < line.len() => format!(in alloc; "{start} .. {}", line.len()),
-        _ => String::from_str(alloc, line),
-    }
-}
-
-/// Appends the lines of bytes as they are printed: those of a text, or else one of their hexadecimal digits. Where
-/// several threads made the steps, the lines from `peak` on are left out, since they tell which thread came first.
-fn append_shown(
-    alloc: Global,
-    lines: &mut Vec<String>,
-    bytes: &[u8],
-    is_by_threads: bool,
-) -> Result<(), AllocError> {
-    let text = if bytes.contains(&0) {
-        hex::encode(alloc, bytes)?
-    } else {
-        String::from_utf8_lossy(alloc, bytes)?
-    };
-    for line in text.lines() {
-        if is_by_threads && line.starts_with("peak ") {
-            break;
-        }
-        lines.push(shown(alloc, line)?)?;
-    }
-    Ok(())
-}
-
 /// Calls the program on one line of a case. The answer is the lines that are printed of it.
 fn answer<R: AllocGlobal + Threads + Wait + Sync>(
     rt: &R,
@@ -135,14 +118,19 @@ fn answer<R: AllocGlobal + Threads + Wait + Sync>(
     words: &str,
 ) -> Result<Vec<String>, AllocError> {
     let alloc = rt.alloc();
+    if let Some(range) = case.range {
+        return lines_of_range(rt, case, guest, words, range);
+    }
     let files = files_of(alloc, case, guest, case.schedule.as_bytes())?;
     let left = call(rt, words, files, case.outside)?;
     let mut lines = Vec::new(alloc);
-    let steps = last_word(left.out.bytes());
-    let is_by_threads = replay_of(alloc, words)?.is_some()
-        && !steps.iter().all(|digit| b" 0\n".contains(digit));
     if !case.is_quiet {
+        let is_by_threads = is_by_threads(words, left.out.bytes());
         append_shown(alloc, &mut lines, left.out.bytes(), is_by_threads)?;
+    }
+    append_steps(alloc, &mut lines, case, left.out.bytes())?;
+    if left.has_run_out {
+        lines.push(String::from_str(alloc, "the looks ran out")?)?;
     }
     append_shown(alloc, &mut lines, left.err.bytes(), false)?;
     if left.status == ExitStatus::Ok {

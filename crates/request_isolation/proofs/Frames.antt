@@ -1,8 +1,7 @@
 -- What takes frames: a store alone. What else a step does leaves no tag that was not there.
-use Rattle.std.proofs.Common.{◌≡◌, ◌≢◌, ◌⊎◌, inl, inr, ◌+◌, ◌*◌, ◌≤◌, ◌<◌, ◌∙◌, refl, sym, ap, subst, ℕ, Bool, true, false, cond, not, eqb, eqb-true, Option, Some, None, List, length, arith}
+use Rattle.std.proofs.Common.{◌≡◌, ◌≢◌, ◌⊎◌, inl, inr, ◌+◌, ◌≤◌, ◌<◌, ◌∙◌, refl, sym, ap, subst, ℕ, Bool, true, false, cond, eqb, eqb-true, Option, Some, None, List, length, arith}
 use Rattle.std.proofs.lemmas.Option.{slice_get_within}
-use Rattle.std.specs.Prelude.{IfSome, nat_le, nat_lt, slice_get, slice_index, unwrap_or}
-use Rattle.access_cap.specs.Kinds.{is_chosen}
+use Rattle.std.specs.Prelude.{IfSome, nat_lt, slice_get, slice_index, unwrap_or}
 use Rattle.guest_call.specs.Guest.{descriptor_for, link_of, with_answer}
 use Rattle.guest_call.proofs.Targets.{target_links}
 use Rattle.guest_machine.specs.Advances.{advanced}
@@ -47,7 +46,6 @@ use Rattle.lwc_base.specs.declared.descriptor.Descriptor.TheVariants.{Empty, Fil
 use Rattle.lwc_base.specs.declared.item.Item.{Item}
 use Rattle.lwc_base.specs.declared.key.Key.{Key}
 use Rattle.lwc_base.specs.declared.key.Key.TheVariants.{Page, Slot, Cred}
-use Rattle.lwc_base.specs.declared.key.Kind.TheVariants as kinds
 use Rattle.lwc_base.specs.declared.name.Name.{Name}
 use Rattle.lwc_base.specs.declared.name.Tag.{Tag}
 use Rattle.lwc_base.specs.declared.page.PageValue.{PageValue}
@@ -61,7 +59,6 @@ use Rattle.lwc_overlay.specs.OverlayCall as overlaying
 use Rattle.lwc_overlay.specs.RestrictCall as restricting
 use Rattle.lwc_switch.specs.Switch as switching
 use Rattle.lwc_syscall.specs.Plain as calls
-use Rattle.lwc_base.specs.Refusals.{first_refusal}
 use Rattle.lwc_syscall.specs.Plain.{Outcome, answering, moved, placed, plain, read_on, refused_or, world_after, plain_call}
 use Rattle.lwc_syscall.specs.Syscall as syscalls
 use Rattle.lwc_syscall.specs.declared.calls.CallContexts.{CallContexts}

@@ -1,6 +1,6 @@
 //! Laws of serves: functions with empty bodies, each with a contract that is the law.
 
-ghost use Rattle.std.specs.Prelude.{◌≡◌, ◌≢◌, ◌⊎◌, ◌+◌, ◌*◌, ◌++◌, ◌<◌, ◌≤◌, ℕ, Contains, List, Some, length, replicate, true};
+ghost use Rattle.std.specs.Prelude.{◌≡◌, ◌≢◌, ◌⊎◌, ◌+◌, ◌*◌, ◌++◌, ◌<◌, ◌≤◌, ℕ, Contains, List, Some, false, length, replicate, true};
 ghost use Rattle.kernel_core.specs.Histories.{IsComplete, finishes_by};
 ghost use Rattle.kernel_core.specs.Kernel.{CanOpen};
 ghost use Rattle.std.specs.FinMap as fm;

@@ -1,0 +1,154 @@
+//! The outside of a call: what fails, a gate that may hold one thread, and a sink that shows how many lines it took.
+
+use lwc_io::{Failed, MemorySink, Sink};
+use process_core::ProcessPass;
+use std::hint::spin_loop;
+use std::sync::Wait;
+use std::sync::atomic::{AtomicBool, AtomicU64, Ordering};
+use thread_carrier::{Gate, VisitLog};
+use world_face::World;
+
+/// How often a thread that is held looks.
+const LOOKS: u32 = 1_000_000_000;
+
+/// How the outside of a call behaves: which fetch fails, how many bytes a write takes at most, and which write
+/// fails, each counted from 0 on; and which thread is held at its first turn, if one is.
+#[derive(Clone, Copy)]
+pub struct Outside {
+    pub fetch: u64,
+    pub most: usize,
+    pub write: u64,
+    pub hold: Option<Hold>,
+}
+
+/// An outside in which nothing fails and nobody is held.
+pub const SURE: Outside = Outside {
+    fetch: u64::MAX,
+    most: 1 << 20,
+    write: u64::MAX,
+    hold: None,
+};
+
+/// A thread that is held at its first turn: until another one comes for its second, or, where there is no other, until
+/// the output has taken a line.
+#[derive(Clone, Copy)]
+pub struct Hold {
+    pub held: u32,
+    pub awaited: Option<u32>,
+}
+
+/// A gate at which one thread may be held.
+#[derive(Drop)]
+pub struct CaseGate {
+    hold: Option<Hold>,
+    lines: AtomicU64,
+    came: AtomicBool,
+    ran_out: AtomicBool,
+}
+
+impl CaseGate {
+    /// A gate to which nobody has come, of an output that has taken no line.
+    pub fn new(hold: Option<Hold>) -> CaseGate {
+        CaseGate {
+            hold,
+            lines: AtomicU64::new(0),
+            came: AtomicBool::new(false),
+            ran_out: AtomicBool::new(false),
+        }
+    }
+
+    /// The number of lines that the output has taken, to be counted by its sink.
+    pub fn lines(&self) -> &AtomicU64 {
+        &self.lines
+    }
+
+    /// Whether the thread that was held looked until its looks ran out.
+    pub fn has_run_out(&self) -> bool {
+        self.ran_out.load(Ordering::SeqCst)
+    }
+
+    /// Whether the thread that is held may go on.
+    fn is_over(&self, hold: Hold) -> bool {
+        match hold.awaited {
+            Some(_) => self.came.load(Ordering::SeqCst),
+            None => self.lines.load(Ordering::SeqCst) > 0,
+        }
+    }
+
+    /// Looks until the thread that is held may go on.
+    fn wait(&self, hold: Hold) {
+        for _look in 0..LOOKS {
+            if self.is_over(hold) {
+                return;
+            }
+            spin_loop();
+        }
+        self.ran_out.store(true, Ordering::SeqCst);
+    }
+}
+
+impl Gate for CaseGate {
+    type Log = VisitLog;
+
+    ghost leave = { λ _. Unit {0} };
+
+    ghost visits = { λ log. log.visits };
+
+    /// Notes the second turn of the thread that is awaited, and holds the first turn of the one that is held.
+    fn before<R: Wait, W: World>(
+        &self,
+        _rt: &R,
+        log: &mut VisitLog,
+        _pass: &ProcessPass<W>,
+        thread: u32,
+        turn: u64,
+    ) {
+        log.note_turn(thread, turn);
+        let Some(hold) = self.hold else {
+            return;
+        };
+        if turn == 1 && hold.awaited == Some(thread) {
+            self.came.store(true, Ordering::SeqCst);
+        }
+        if turn == 0 && thread == hold.held {
+            self.wait(hold);
+        }
+    }
+
+    /// Returns at once.
+    fn finished<R: Wait, W: World>(
+        &self,
+        _rt: &R,
+        log: &mut VisitLog,
+        _pass: &ProcessPass<W>,
+        thread: u32,
+        request: u16,
+    ) {
+        log.note_request(thread, request);
+    }
+}
+
+/// A sink in memory that counts the pieces that it has taken and that end a line.
+#[derive(Drop)]
+pub struct CountingSink<'a> {
+    pub sink: MemorySink,
+    pub lines: &'a AtomicU64,
+}
+
+impl<'a> Sink for CountingSink<'a> {
+    ghost use Rattle.std.specs.Prelude.{Some};
+
+    ghost seen = { λ s. record { taken = Some s.sink.bytes; faults = s.sink.faults } };
+
+    /// Writes to the sink in memory, and counts a piece that ends a line.
+    fn write(&mut self, piece: &[u8]) -> Result<usize, Failed> {
+        let count = self.sink.write(piece)?;
+        if piece
+            .get(..count)
+            .is_some_and(|taken| taken.ends_with(b"\n"))
+        {
+            self.lines.fetch_add(1, Ordering::SeqCst);
+        }
+        Ok(count)
+    }
+}
