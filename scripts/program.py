@@ -23,8 +23,8 @@ FAILED, SKIPPED = 1, 77
 
 
 def run_script(main: Callable[[], int]) -> NoReturn:
-    """Runs a script and ends with the status that it answers. A signal, a closed pipe or an error of a file ends it too.
-    Each is raised in the script, so that its temporary folders and its programs go, and is told by one line at most."""
+    """Runs a script and ends with the status that it answers. A signal, a closed pipe, an error of a file ends it too.
+    Each is raised in the script, so that its temporary folders and its programs go, and is told by a line at most."""
     if sys.stderr is None:
         sys.stderr = open(os.devnull, "w", encoding="ascii")
     if sys.stdout is None:
@@ -59,7 +59,7 @@ def end_by_signal(number: int, _: FrameType | None) -> NoReturn:
 
 
 def leave(status: int) -> NoReturn:
-    """Ends with a status. What could not be written by now is let go: else Python tries again, and fails in many lines."""
+    """Ends with a status. What could not be written by now is let go: Python would try again, in many lines."""
     try:
         sys.stdout.flush()
     except OSError:
@@ -79,7 +79,7 @@ def give_up(line: str, status: int) -> NoReturn:
 
 
 def parser_of(doc: str | None) -> argparse.ArgumentParser:
-    """A parser of a script's words. Its --help is the script's own text: what it does, what it prints, its statuses."""
+    """A parser of a script's words. Its --help is the text of the script: what it does and prints, its statuses."""
     layout = argparse.RawDescriptionHelpFormatter
     return argparse.ArgumentParser(prog=NAME, description=doc, formatter_class=layout, allow_abbrev=False)
 
