@@ -14,10 +14,11 @@ from collections.abc import Callable, Sequence
 from types import FrameType
 from typing import NoReturn
 
-TOP = os.path.dirname(os.path.dirname(os.path.realpath(__file__)))
+from sources import PROGRAM
+from sources import TOP as TOP
+
 GUESTS = os.path.join(TOP, "guests")
 LAUNCHER = os.path.join(TOP, "lwcrun")
-BUILT = os.path.join(TOP, "crates", "lwcrun", "out", "lwcrun")
 NAME = os.path.basename(sys.argv[0])
 FAILED, SKIPPED = 1, 77
 
@@ -107,7 +108,7 @@ def find_program(given: str | None = None) -> str:
     done = subprocess.run(words, stdout=subprocess.DEVNULL, check=False)
     if done.returncode != 0:
         sys.exit(done.returncode if done.returncode > 0 else 128 - done.returncode)
-    return BUILT
+    return PROGRAM
 
 
 def run_program(words: Sequence[str]) -> bytes:
@@ -117,6 +118,15 @@ def run_program(words: Sequence[str]) -> bytes:
         said = done.stderr.decode(errors="replace").strip()
         give_up(said or f"{words[0]}: status {done.returncode}", done.returncode)
     return done.stdout
+
+
+def output_of(words: Sequence[str]) -> str:
+    """What a command prints, without the last line feed; nothing where it is not there or fails."""
+    try:
+        done = subprocess.run(words, stdin=subprocess.DEVNULL, capture_output=True, check=False)
+    except OSError:
+        return ""
+    return done.stdout.decode(errors="replace").strip() if done.returncode == 0 else ""
 
 
 class WorkFolder:
