@@ -14,13 +14,14 @@ from collections.abc import Callable, Sequence
 from types import FrameType
 from typing import NoReturn
 
-from sources import PROGRAM
-from sources import TOP as TOP
+from checkout import PROGRAM
+from checkout import TOP as TOP
 
 GUESTS = os.path.join(TOP, "guests")
 LAUNCHER = os.path.join(TOP, "lwcrun")
 NAME = os.path.basename(sys.argv[0])
-FAILED, SKIPPED = 1, 77
+# Statuses of the scripts, of which the program has the first three too, and one of tests.
+FAILED, CANNOT_READ, CANNOT_WRITE, SKIPPED = 1, 3, 4, 77
 
 
 def run_script(main: Callable[[], int]) -> NoReturn:
@@ -45,7 +46,7 @@ def run_script(main: Callable[[], int]) -> NoReturn:
         status = 128 + signal.SIGPIPE
     except OSError as error:
         say(f"{error.filename}: {error.strerror}" if error.filename else f"cannot write: {error.strerror}")
-        status = FAILED
+        status = CANNOT_READ if error.filename else CANNOT_WRITE
     except UnicodeDecodeError as error:
         say(f"a file that should be text is not: {error.reason} at {error.start}")
         status = FAILED

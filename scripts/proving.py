@@ -19,8 +19,8 @@ import time
 from collections.abc import Iterable
 
 from program import say
-from sources import BUILT, HOME, LIBRARIES, PROGRAM, TOP, Look
-from sources import crates_of_program, files_of, is_built, looks_of, state_of, sum_of, uses_of_crates
+from checkout import BUILT, HOME, LIBRARIES, PROGRAM, TOP, Look
+from checkout import crates_of_program, files_of, is_built, looks_of, state_of, sum_of, uses_of_crates
 
 # What a check may take, in bytes.
 MEMORY = 4_000_000_000
