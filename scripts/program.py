@@ -106,17 +106,21 @@ def find_program(given: str | None = None) -> str:
             give_up(f"{NAME}: no program is at {named}", FAILED)
         return os.path.realpath(named)
     # The launcher takes a moment each time, so it runs once, on a small image, and the program itself after that.
-    words = [LAUNCHER, "dis", os.path.join(GUESTS, "store_load.lwc")]
-    with subprocess.Popen(words, stdout=subprocess.DEVNULL) as launcher:
-        try:
-            status = launcher.wait()
-        except BaseException:
-            # By this signal it ends its proofs too.
-            launcher.terminate()
-            raise
+    status = run_child([LAUNCHER, "dis", os.path.join(GUESTS, "store_load.lwc")], subprocess.DEVNULL)
     if status != 0:
-        sys.exit(status if status > 0 else 128 - status)
+        sys.exit(status)
     return PROGRAM
+
+
+def run_child(words: Sequence[str], out: int | None = None) -> int:
+    """Runs a script, which ends what it has begun when it is told to end. Answers its status."""
+    with subprocess.Popen(words, stdin=subprocess.DEVNULL, stdout=out) as child:
+        try:
+            status = child.wait()
+        except BaseException:
+            child.terminate()
+            raise
+    return status if status >= 0 else 128 - status
 
 
 def run_program(words: Sequence[str]) -> bytes:
