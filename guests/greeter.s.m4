@@ -1,6 +1,6 @@
 include(`lwc.m4')dnl
-; The handler of a server that greets: the reply to a name of up to 100 bytes is `hello, NAME!' and a line feed. A longer
-; request gets the code 1 and no bytes. Slot 0 is the request, slot 1 the reply.
+; The handler of a server that greets: the reply to a name of up to 100 bytes is `hello, NAME!' and a line feed. A
+; longer request gets the code 1 and no bytes. Slot 0 is the request, slot 1 the reply.
 .entry top
 .page 0 text(`hello, ')
 .page 1 text(`!')byte(10)

@@ -13,7 +13,7 @@ divert(-1)
 ;     text(`hello, world')         the bytes of a text of printable characters, but ` and '
 ;     zeros(8)                     so many bytes of zeros
 ;     page(2)                      the address of a page
-;     size(page)                   4096; of a page, a word, an item, a reply, a console, and how many slots, items, contexts
+;     size(page)                   4096: of a page, a word, an item, a reply, the console; how many slots and contexts
 changecom(`;')
 
 ; lwc_name(KIND, NAME): the number of a name, which lwc_names has noted.

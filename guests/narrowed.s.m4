@@ -1,8 +1,9 @@
 include(`lwc.m4')dnl
-; A library with narrowed rights, by one item of each mode: it may read the caller's table, page 0, and not store to it;
-; page 1 is common with the caller, for the answer; page 2, a secret of the caller, is left out, and so are all slots and
-; the uid. The library adds up the table and answers in page 1. Then it tries to write the console, which is refused with
-; WrongKind (r11 is 1), since its slot 1 has a descriptor of the caller. At last it loads from page 2: fault 2.
+; A library with narrowed rights, by items of several modes: it may read the caller's table, page 0, and not store to
+; it. Page 1 is common with the caller, for the answer. Page 2, a secret of the caller, is left out, and so are all
+; slots and the uid. The library adds up the table and answers in page 1. Then it tries to write the console, which is
+; refused with WrongKind (r11 is 1), since its slot 1 has a descriptor of the caller. At last it loads from page 2:
+; fault 2.
 .entry top
 .page 0 word(3)word(4)word(5)
 .page 1 -

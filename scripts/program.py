@@ -134,8 +134,8 @@ def run_program(words: Sequence[str]) -> bytes:
 
 @contextmanager
 def in_session(words: Sequence[str], folder: str, out: IO[Any], **more: str) -> Iterator[subprocess.Popen[bytes]]:
-    """A program that runs in a folder, with more variables, in a session of its own. When the script leaves it, whatever
-    the program has begun is ended, also by a signal. What it writes and says goes to one file."""
+    """A program that runs in a folder, with more variables, in a session of its own. When the script leaves it, also
+    by a signal, whatever the program has begun is ended. What it writes and says goes to one file."""
     process = subprocess.Popen(
         words,
         cwd=folder,
