@@ -25,6 +25,7 @@ class Context:
 class Report:
     threads: list = field(default_factory=list)
     contexts: dict = field(default_factory=dict)
+    traps: dict = field(default_factory=dict)
     groups: int = 0
     replies: list = field(default_factory=list)
     console: str = ""
@@ -52,6 +53,8 @@ def read_report(text):
             report.threads[-1].regs = [int(word) for word in words[2:]]
         elif kind == "context":
             report.contexts[words[1]] = Context(int(words[3]), int(words[5]), int(words[7]))
+        elif kind == "trap":
+            report.traps[words[1]] = words[3]
         elif kind == "reply":
             report.replies.append(" ".join(words[2:]))
         elif kind in ("console", "schedule"):
