@@ -116,7 +116,7 @@ def refusal(file: Input, rule: str, offset: int) -> str:
         return f"{file.name}: {rule}: {reason}"
     begin = data.rfind(b"\n", 0, at) + 1
     end = data.find(b"\n", at)
-    line = data[begin : end if end >= 0 else len(data)].decode("ascii", "replace").rstrip("\r")
+    line = data[begin : end if end >= 0 else len(data)].decode("latin-1").rstrip("\r")
     return at_place(file.name, data.count(b"\n", 0, at) + 1, at - begin, rule, reason, line)
 
 
@@ -132,10 +132,16 @@ def of_byte(rule: str, found: bytes) -> str:
 
 def at_place(name: str, line: int, column: int, rule: str, reason: str, text: str) -> str:
     """A refusal as compilers write it: the place, the rule and the reason, and below them the line with a caret. The column counts from 0."""
-    text = text.replace("\t", " ")
+    before, text = (plain(part) for part in (text[:column], text))
+    at, column = column, len(before)
     cut = max(0, column - WIDE // 2) if len(text) > WIDE else 0
     shown = text[cut : cut + WIDE]
-    return f"{name}:{line}:{column + 1}: {rule}: {reason}\n    {shown}\n    {' ' * (column - cut)}^"
+    return f"{name}:{line}:{at + 1}: {rule}: {reason}\n    {shown}\n    {' ' * (column - cut)}^"
+
+
+def plain(text: str) -> str:
+    """A line of bytes, each of which is a character here, as it is shown."""
+    return text.encode("latin-1", "replace").decode("utf-8", "replace").replace("\t", " ")
 
 
 def script_name() -> str:

@@ -10,11 +10,10 @@ from names import BEHALF, CALLS, CLOSE, CREATE, DUP, EXIT, ITEMS, MAP, OPEN, OVE
 from names import Item, answer, arguments, mask, name_of, number, refusal_of, status
 from images import PAGE
 from run_report import Context, Report, Thread
-from runs import SERVE, VAULT, Memory, Run, Turn
+from runs import SERVE, VAULT, VAULT_CONTEXT, VAULT_SLOT, Memory, Run, Turn
 from slots import CONTEXT, NO_KEYS, NOT_KNOWN, Slots, Value
 
 WORDS = {"LDB": "byte", "STB": "byte", "LDW": "word", "STW": "word"}
-VAULT_SLOT, VAULT_CONTEXT = 63, "0.1"
 
 
 @dataclass
@@ -158,7 +157,7 @@ class Story:
         """A call that was accepted or refused, or that a monitor got."""
         was, now = turn.was, turn.now
         monitor = turn.before.traps.get(was.ctx) if turn.before and call != EXIT else None
-        if call in ITEMS:
+        if call in ITEMS and turn.items is None:
             turn.items = self.memory.items(turn, call, regs)
         words = arguments(call, regs, turn.items)
         step = Step(f"makes call {call}, {CALLS.get(call, 'which is none')}", f"{name_of(call)}({words})", call=call, kind="call")
@@ -192,6 +191,7 @@ class Story:
             step.said += f" ({words}): slot {answered} gets a descriptor of {new}"
             step.line += f" = {answered}, {new} is made"
             self.slots.create(name, new, answered, turn.items)
+            self.memory.create(name, new)
         elif call == TRAP:
             trapped = self.trapped(turn)
             step.said += f" ({words}): {name} is the monitor of {trapped} from now on"

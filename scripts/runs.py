@@ -10,7 +10,7 @@ import os
 import re
 import tempfile
 from collections.abc import Callable, Iterable, Iterator, Sequence
-from dataclasses import dataclass, field
+from dataclasses import dataclass
 from typing import Any, TypeVar
 
 import probes
@@ -26,6 +26,7 @@ KINDS = {PLAIN: "a plain run", SERVE: "a serve", MONITOR: "a run under a monitor
 MOST_COMMANDS = 64
 MOST_STEPS_OF_DEBUG = 100000
 JOBS = os.cpu_count() or 1
+VAULT_SLOT, VAULT_CONTEXT = 63, "0.1"
 Given = TypeVar("Given")
 Made = TypeVar("Made")
 
@@ -77,7 +78,6 @@ class Run:
     image: Image
     source: Source | None
     steps: str = ""
-    end: Report = field(default_factory=Report)
 
     @property
     def name(self) -> str:
@@ -94,14 +94,16 @@ class Run:
         """The report of the run with a schedule in a file."""
         return call_program(self.words(schedule), self.files.values()).decode()
 
-    def report(self, place: int) -> Report:
+    def text_at(self, place: int) -> str:
         """The report of the first steps."""
-        if place == len(self.steps):
-            return self.end
         with tempfile.NamedTemporaryFile("w", dir=self.folder, encoding="ascii") as file:
             file.write(self.steps[:place])
             file.flush()
-            return read_report(self.text_of(file.name))
+            return self.text_of(file.name)
+
+    def report(self, place: int) -> Report:
+        """The same, read."""
+        return read_report(self.text_at(place))
 
     def answers(self, commands: Sequence[str]) -> list[str]:
         """What the program's mode `debug` answers to a script of at most 64 commands, which only a plain run has."""
@@ -189,8 +191,7 @@ def open_run(given: argparse.Namespace, folder: str) -> Run:
         run = Run(program, files, kind, options_of(given, kind, report), folder, image, source)
         text = run.text_of(files["schedule"].path)
         if not report or in_order(text) == in_order(written):
-            run.end = read_report(text)
-            run.steps = run.end.schedule
+            run.steps = read_report(text).schedule
             return run
         differ.append(difference(KINDS[kind], text, written))
     raise Refused(f"{given.schedule} is not what the program makes of this image and these options:\n" + "\n".join(differ), 1)
@@ -347,14 +348,17 @@ def memory_by_debug(run: Run, asked: list[tuple[int, str, int, int]]) -> list[by
 
 class Memory:
     """What is known of memory: a page that has been stored to, read to, mapped or unmapped in no context is as the image or the vault has it,
-    since a call takes a page over under its own number alone. Of a plain run the program tells the others."""
+    since a call takes a page over under its own number alone, and none takes a vault's page out. Of a plain run the program tells the others."""
 
     def __init__(self, run: Run) -> None:
         self.run, self.changed = run, set[int]()
-        vault = read_vault(run.files[VAULT].read()) if run.kind == VAULT else {}
-        # Which of the two a page is from is not followed.
-        self.changed.update(number for number in vault if number in run.image.pages)
-        self.pages = run.image.pages | vault
+        self.of_vault = read_vault(run.files[VAULT].read()) if run.kind == VAULT else {}
+        self.inside = {VAULT_CONTEXT} if run.kind == VAULT else set[str]()
+
+    def create(self, name: str, new: str) -> None:
+        """A context is made. One that is made in the vault has the vault's pages."""
+        if name in self.inside:
+            self.inside.add(new)
 
     def note(self, first: int, last: int) -> None:
         """Pages may have changed."""
@@ -363,8 +367,9 @@ class Memory:
     def read(self, place: int, context: str, address: int, length: int) -> bytes | None:
         """Bytes of a context's memory at a place, or None where they are not known."""
         pages = range(address // PAGE, (address + length - 1) // PAGE + 1)
-        if all(page in self.pages and page not in self.changed for page in pages):
-            return b"".join(self.pages[page] for page in pages)[address % PAGE :][:length]
+        start = self.of_vault if context in self.inside else self.run.image.pages
+        if all(page in start and page not in self.changed for page in pages):
+            return b"".join(start[page] for page in pages)[address % PAGE :][:length]
         if self.run.kind != PLAIN or pages.stop > self.run.image.most_pages or len(self.run.steps) > MOST_STEPS_OF_DEBUG:
             return None
         return memory_by_debug(self.run, [(place, context, address, length)])[0]

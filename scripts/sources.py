@@ -25,10 +25,10 @@ DIRECTIVES = (".page", ".file", ".slot", ".entry")
 # Names that are offered where one is misspelt.
 NAMES = ("LI LIH MOV ADD SUB MUL DIVU REMU AND OR XOR SHL SHR LTU EQ ADDI JMP JZ JNZ JAL JR LDB LDW STB STW SYS HALT "
          ".form .uid .entry .page .file .slot").split()
-# A word of each kind of operand, with the name of the kind and what is accepted.
+# A word of each kind of operand, with the name of the kind and what is accepted. A register's name is a label too where a number may be, so it comes later.
 KINDS = {
-    "r0": ("a register", "registers are r0 to r15"),
     "0": ("a number", "a number is 0 to 4294967295 without a leading zero, 0x and one to eight hexadecimal digits, or -1 to -2147483648"),
+    "r0": ("a register", "registers are r0 to r15"),
     "-": ("bytes", "bytes are pairs of hexadecimal digits without blanks, or - for none, and a page has at most 4096"),
     "1": ("a form", "the form is 1 or 2"),
 }
@@ -216,7 +216,8 @@ class Reasons:
         if self.rule_of(line.text) != "BadLine":
             first = next(it for it in self.source.lines if it.name == line.name)
             return line.at_word(0, "BadLine", f"a second {line.name}: line {first.number} has one")
-        if (colon := line.code.find(":", sum(len(part) for part in LABEL.findall(line.code)[:1]) + 1 if line.label else 0)) >= 0:
+        behind = found.end() if (found := LABEL.match(line.code)) else 0
+        if (colon := line.code.find(":", behind)) >= 0:
             reason = "a label is a letter or _ and then up to 31 letters, digits or _, directly behind it `:`, and a line has one"
             begin = line.code.rfind(" ", 0, colon) + 1
             return line.at(begin, "BadLine", reason)
@@ -296,19 +297,43 @@ class Reasons:
             return self.bad_count(offset)
         for begin, end, line in self.parts():
             if begin <= offset < end:
-                word = (offset - begin) // 4 + 1 if line.name in (".slot", ".file") else len(line.operands) if rule == "BadTarget" else 1
-                return line.at_word(word, rule, REASONS[rule])
+                field = (offset - begin) // 4
+                word = field + 1 if line.name in (".slot", ".file") else len(line.operands) if rule == "BadTarget" else 1
+                return line.at_word(word, rule, self.of_part(rule, line, field))
         return f"{self.source.name}: {rule} at {offset} of the image: {REASONS.get(rule, 'the program refuses it')}"
+
+    def of_part(self, rule: str, line: Line, field: int) -> str:
+        """The reason for a rule about a field of what a line makes."""
+        if rule in ("BadTarget", "BadEntry"):
+            return f"the last instruction is {len(self.source.made) - 1}"
+        if rule == "BadFile":
+            return "public is 0 or 1" if field == 1 else "the files have more than 1048576 bytes in all"
+        if rule == "BadSlot" and field == 1:
+            return f"there {'is' if len(self.of_name('.file')) == 1 else 'are'} {plural(len(self.of_name('.file')), 'file')}, numbered from 0"
+        before = self.of_name(line.name)
+        place = before.index(line)
+        if place and int(before[place - 1].operands[0], 0) >= int(line.operands[0], 0):
+            return f"{line.name} lines are in rising order, and line {before[place - 1].number} has {before[place - 1].operands[0]}"
+        if rule == "BadSlot":
+            return "a slot is 2 to 63: 0 and 1 have the console"
+        return f"a page is below {self.most_pages()}{'' if self.most_pages() > 1024 else ', with .form 2 below 16384'}, and pages are in at most 64 runs"
+
+    def of_name(self, name: str) -> list[Line]:
+        """The lines that have this directive."""
+        return [line for line in self.source.lines if line.name == name]
+
+    def most_pages(self) -> int:
+        """How many pages a context may have."""
+        return 16384 if any(line.operands == ["2"] for line in self.of_name(".form")) else 1024
 
     def bad_count(self, offset: int) -> str:
         """Too many or too few lines of one kind."""
         kind, one, most = {4: ("", "instruction", 65536), 8: (".page", "page", 1024), 12: (".file", "file", 64), 16: (".slot", "slot", 62),
                            20: (".entry", ".entry line", 16)}[offset]
-        lines = [line for line in self.source.lines if line.name == kind] if kind else self.source.made
+        lines = self.of_name(kind) if kind else self.source.made
         if not lines:
             return f"{self.source.name}: BadCount: there is no {one}" + (", and a thread begins at one" if kind else "")
-        if kind == ".page" and any(line.name == ".form" and line.operands == ["2"] for line in self.source.lines):
-            most = 16384
+        most = self.most_pages() if kind == ".page" else most
         return lines[min(most, len(lines) - 1)].at_word(0, "BadCount", f"an image has at most {plural(most, one)}")
 
 
