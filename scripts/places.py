@@ -3,12 +3,13 @@
 The grammar of every file is the program's alone. What is added here is a sentence for each rule, and what stands at the offset.
 """
 
-import os
 import re
 import subprocess
 import sys
 from collections.abc import Callable, Iterable, Sequence
 from dataclasses import dataclass
+
+from program import give_up
 
 WIDE = 100
 REFUSAL = re.compile(r"lwcrun: (image|input) refused: (\w+) at (\d+)$")
@@ -144,6 +145,13 @@ def plain(text: str) -> str:
     return text.encode("latin-1", "replace").decode("utf-8", "replace").replace("\t", " ")
 
 
-def script_name() -> str:
-    """The name of the script that runs."""
-    return os.path.basename(sys.argv[0])
+def refusing(main: Callable[[], int]) -> Callable[[], int]:
+    """A script's main that ends with a line where it cannot do something."""
+
+    def refused() -> int:
+        try:
+            return main()
+        except Refused as error:
+            return give_up(error.line, error.status)
+
+    return refused

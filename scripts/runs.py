@@ -8,7 +8,7 @@ import argparse
 import concurrent.futures
 import os
 import re
-import tempfile
+import threading
 from collections.abc import Callable, Iterable, Iterator, Sequence
 from dataclasses import dataclass
 from typing import Any, TypeVar
@@ -16,9 +16,9 @@ from typing import Any, TypeVar
 import probes
 from images import PAGE, Image, read_image, read_vault
 from names import ITEMS, MOST_ITEMS, TRAP, Item, read_items
-from places import IMAGE, REQUESTS, SCHEDULE, SCRIPT, Input, Refused, call_program
-from program import Progress, find_program
-from run_report import Report, Thread, read_report, thread_of
+from places import IMAGE, REQUESTS, SCHEDULE, SCRIPT, Input, Refused, call_program, read_file
+from program import Progress, WorkFolder, find_program
+from run_report import Report, ReportError, Thread, read_report, thread_of
 from sources import Source, read_source
 
 PLAIN, SERVE, MONITOR, VAULT = "plain", "serve", "monitor", "vault"
@@ -74,7 +74,7 @@ class Run:
     files: dict[str, Input]
     kind: str
     options: list[str]
-    folder: str
+    work: WorkFolder
     image: Image
     source: Source | None
     steps: str = ""
@@ -96,10 +96,11 @@ class Run:
 
     def text_at(self, place: int) -> str:
         """The report of the first steps."""
-        with tempfile.NamedTemporaryFile("w", dir=self.folder, encoding="ascii") as file:
-            file.write(self.steps[:place])
-            file.flush()
-            return self.text_of(file.name)
+        return self.text_of(self.write("schedule", self.steps[:place]))
+
+    def write(self, name: str, content: bytes | str) -> str:
+        """Writes a file for one call of the program. Each of the threads that ask side by side has its own."""
+        return self.work.write(f"{name}.{threading.get_ident()}", content)
 
     def report(self, place: int) -> Report:
         """The same, read."""
@@ -107,13 +108,10 @@ class Run:
 
     def answers(self, commands: Sequence[str]) -> list[str]:
         """What the program's mode `debug` answers to a script of at most 64 commands, which only a plain run has."""
-        with tempfile.TemporaryDirectory(dir=self.folder) as folder:
-            paths = [os.path.join(folder, name) for name in ("schedule", "script")]
-            for path, text in zip(paths, (self.steps, "".join(f"{command}\n" for command in commands))):
-                with open(path, "w", encoding="ascii", errors="replace") as file:
-                    file.write(text)
-            words = [self.program, "debug", *self.options, "--", self.files["image"].path, *paths]
-            return call_program(words, [*self.files.values(), Input(SCRIPT, "the command", paths[1])]).decode().splitlines()
+        script = self.write("script", "".join(f"{command}\n" for command in commands))
+        files = [self.files["image"].path, self.write("schedule", self.steps), script]
+        words = [self.program, "debug", *self.options, "--", *files]
+        return call_program(words, [*self.files.values(), Input(SCRIPT, "the command", script)]).decode().splitlines()
 
     def at(self, place: int, *commands: str) -> list[str]:
         """What `debug` answers to commands at a place."""
@@ -174,21 +172,21 @@ def kinds_to_try(given: argparse.Namespace, image: Image, report: Report | None)
     return [PLAIN, MONITOR] if report else [PLAIN]
 
 
-def open_run(given: argparse.Namespace, folder: str) -> Run:
+def open_run(given: argparse.Namespace, work: WorkFolder) -> Run:
     """The run that the words of a line name, made once to its end."""
     program = find_program(given.program)
-    source = read_source(given.source or given.image, folder) if given.source or not is_image(given.image) else None
-    image_file = source.assemble(program, folder) if source and not is_image(given.image) else Input(IMAGE, given.image)
+    source = read_source(given.source or given.image, work) if given.source or not is_image(given.image) else None
+    image_file = source.assemble(program, work) if source and not is_image(given.image) else Input(IMAGE, given.image)
     listing = call_program([program, "dis", "--", image_file.path], [image_file]).decode()
     image = read_image(image_file.read(), listing)
     if given.source:
-        source.compare(program, image_file, folder)
+        source.compare(program, image_file, work)
     files = {"image": image_file}
     files |= {kind: Input(role, name) for kind, role, name in ((SERVE, REQUESTS, given.requests), (VAULT, VAULT, given.vault)) if name}
-    written, report, files["schedule"] = read_schedule(given.schedule, folder)
+    written, report, files["schedule"] = read_schedule(given.schedule, work)
     differ: list[str] = []
     for kind in kinds_to_try(given, image, report):
-        run = Run(program, files, kind, options_of(given, kind, report), folder, image, source)
+        run = Run(program, files, kind, options_of(given, kind, report), work, image, source)
         text = run.text_of(files["schedule"].path)
         if not report or in_order(text) == in_order(written):
             run.steps = read_report(text).schedule
@@ -214,23 +212,20 @@ def is_image(name: str) -> bool:
         return True
 
 
-def read_schedule(name: str, folder: str) -> tuple[str, Report | None, Input]:
-    """The text of a schedule or report in a file, or in the standard input under the name `-`; the report, where it is one; and the schedule
-    as a file for the program."""
-    data = Input(SCHEDULE, name).read()
-    text = data.decode("ascii", "replace")
+def read_schedule(name: str, work: WorkFolder) -> tuple[str, Report | None, Input]:
+    """The text of a schedule or report in a file, or in the standard input under the name `-`; the report, where it is
+    one; and the schedule as a file for the program."""
+    data = read_file(name)
+    text = data.decode("latin-1")
     schedule = schedule_in(text)
-    if schedule is None and name != "-":
-        return text, None, Input(SCHEDULE, name)
-    path = os.path.join(folder, "schedule")
-    with open(path, "wb") as file:
-        file.write(data if schedule is None else schedule.encode())
     if schedule is None:
-        return text, None, Input(SCHEDULE, name, path)
+        return text, None, Input(SCHEDULE, name, work.write("schedule", data) if name == "-" else name)
     try:
-        return text, read_report(text), Input(SCHEDULE, name, path, data.index(b"\nschedule ") + 10 if b"\nschedule " in data else 9)
-    except (ValueError, IndexError, KeyError) as error:
+        report = read_report(text)
+    except ReportError as error:
         raise Refused(f"{name} has a line `schedule`, but is no report: {error}", 1) from error
+    base = text.index("schedule ") + len("schedule ")
+    return text, report, Input(SCHEDULE, name, work.write("schedule", schedule), base)
 
 
 def options_of(given: argparse.Namespace, kind: str, report: Report | None) -> list[str]:
@@ -316,12 +311,9 @@ def ask_stops(run: Run, turns: list[Turn], name: str) -> None:
     parts = [asked[at : at + most] for at in range(0, len(asked), most)]
 
     def ask(part: list[Turn]) -> list[probes.Stop]:
-        with tempfile.TemporaryDirectory(dir=run.folder) as folder:
-            paths = [os.path.join(folder, each) for each in ("image", "schedule")]
-            for path, data in zip(paths, (probes.probe_image(run.image, [it.was for it in part]), probes.probe_schedule(len(part)).encode())):
-                with open(path, "wb") as file:
-                    file.write(data)
-            return probes.stops_in(call_program([run.program, "replay", *paths], []).decode())
+        image = run.write("probe", probes.probe_image(run.image, [it.was for it in part]))
+        words = [run.program, "replay", image, run.write("schedule", probes.probe_schedule(len(part)))]
+        return probes.stops_in(call_program(words).decode())
 
     for part, stops in zip(parts, side_by_side(ask, parts, lambda made: f"{made} of {len(parts)} questions where steps went", name)):
         for turn, stop in zip(part, stops):

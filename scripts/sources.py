@@ -8,15 +8,14 @@ import itertools
 import os
 import re
 import subprocess
-import tempfile
 from collections.abc import Iterator
 from dataclasses import dataclass, field
 
 from images import FIRST_INSTRUCTION, PAGE
 from places import IMAGE, REASONS, REFUSAL, Input, Refused, at_place, call_program
-from program import TOP
+from program import GUESTS, WorkFolder
 
-MACROS = os.path.join(TOP, "guests", "lwc.m4")
+MACROS = os.path.join(GUESTS, "lwc.m4")
 MARK = re.compile(r'#line (\d+)(?: "(.*)")?$')
 LABEL = re.compile(r"[ \t,]*([A-Za-z_][A-Za-z0-9_]{0,31}):")
 WORDS = re.compile(r"[^ \t,]+")
@@ -91,7 +90,6 @@ class Source:
     path: str
     lines: list[Line]
     program: str = ""
-    folder: str = ""
     labels: dict[int, list[str]] = field(default_factory=dict)
     # The line of each instruction.
     made: list[Line] = field(default_factory=list)
@@ -111,21 +109,18 @@ class Source:
         nearest = max(before)
         return self.labels[nearest][0] + (f"+{place - nearest}" if place > nearest else "")
 
-    def image(self, program: str, folder: str) -> bytes:
+    def image(self, program: str, work: WorkFolder) -> bytes:
         """The image that the program makes of the source; where it refuses, with the place and a reason."""
-        self.program, self.folder = program, folder
-        return call_program([program, "asm", "--", self.path], [Input(IMAGE, self.name, self.path)], lambda rule, at: Reasons(self).of(rule, at))
+        self.program = program
+        return call_program([program, "asm", "--", self.path], [Input(IMAGE, self.name, self.path)], lambda rule, at: Reasons(self, work).of(rule, at))
 
-    def assemble(self, program: str, folder: str) -> Input:
+    def assemble(self, program: str, work: WorkFolder) -> Input:
         """The image in a file of its own."""
-        path = os.path.join(folder, "image.lwc")
-        with open(path, "wb") as file:
-            file.write(self.image(program, folder))
-        return Input(IMAGE, self.name, path)
+        return Input(IMAGE, self.name, work.write("image.lwc", self.image(program, work)))
 
-    def compare(self, program: str, image: Input, folder: str) -> None:
+    def compare(self, program: str, image: Input, work: WorkFolder) -> None:
         """Refuses a source that does not make this image."""
-        if self.image(program, folder) != image.read():
+        if self.image(program, work) != image.read():
             raise Refused(f"{self.name} is not the source of {image.name}: the program makes another image of it", 1)
 
     def listing(self) -> Iterator[str]:
@@ -141,7 +136,7 @@ class Source:
             yield f"{place:5}  {label:{width + 1}}  {text:{min(long, 40) + 1}}  {line.file}:{line.number}"
 
 
-def read_source(name: str, folder: str) -> Source:
+def read_source(name: str, work: WorkFolder) -> Source:
     """The source in a file. Where its name ends in .m4 it is what m4 makes of it, with the macros of guests/lwc.m4."""
     if not name.endswith(".m4"):
         text = Input(IMAGE, name).read().decode("latin-1")
@@ -155,10 +150,7 @@ def read_source(name: str, folder: str) -> Source:
     if done.returncode != 0:
         raise Refused(done.stderr.decode(errors="replace").strip(), 1)
     lines = unmarked(done.stdout.decode("latin-1"), name)
-    path = os.path.join(folder, "source.s")
-    with open(path, "w", encoding="latin-1", newline="") as file:
-        file.write("\n".join(line.text for line in lines))
-    return Source(name, path, lines)
+    return Source(name, work.write("source.s", "\n".join(line.text for line in lines).encode("latin-1")), lines)
 
 
 def unmarked(text: str, name: str) -> list[Line]:
@@ -176,8 +168,8 @@ def unmarked(text: str, name: str) -> list[Line]:
 class Reasons:
     """Why the program refuses a source."""
 
-    def __init__(self, source: Source) -> None:
-        self.source = source
+    def __init__(self, source: Source, work: WorkFolder) -> None:
+        self.source, self.work = source, work
 
     def of(self, rule: str, offset: int) -> str:
         """A refusal with its place and its reason."""
@@ -196,10 +188,8 @@ class Reasons:
 
     def rule_of(self, text: str) -> str:
         """The rule that the program answers to a source of one line; no text where it is about no line."""
-        with tempfile.NamedTemporaryFile("w", dir=self.source.folder, encoding="latin-1", newline="") as file:
-            file.write(text + "\n")
-            file.flush()
-            done = subprocess.run([self.source.program, "asm", file.name], capture_output=True, check=False)
+        path = self.work.write("line.s", f"{text}\n".encode("latin-1"))
+        done = subprocess.run([self.source.program, "asm", path], capture_output=True, check=False)
         found = REFUSAL.search(done.stderr.decode(errors="replace").strip())
         return found[2] if found and found[2] in ("BadLine", "BadOperand", "BadLabel") else ""
 
