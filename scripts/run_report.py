@@ -1,17 +1,9 @@
-"""The report and the listing of an image, as the program writes them, read into Python's values."""
+"""A report, as the program writes it, read into Python's values."""
 
 from __future__ import annotations
 
 import re
-from collections.abc import Callable
 from dataclasses import dataclass, field
-
-SHARED = {"LDB", "LDW", "STB", "STW", "SYS", "HALT"}
-MOST_PRIVATE = 256
-
-
-# The places at which a step may end: at a shared instruction, and at a pause; None for any place.
-Ends = tuple[set[int] | None, set[int] | None]
 
 
 class ReportError(ValueError):
@@ -125,95 +117,3 @@ def shows_alone(report: Report, frames: int) -> bool:
     the frames less two, so that no step of a request found too few. One less is not enough: a read of 4096 bytes can
     take two frames, and its refusal leaves the peak one below."""
     return report.peak <= frames - 2
-
-
-class Listing:
-    """The source of an image that `dis` writes: its instructions, and what its slots have at the start."""
-
-    def __init__(self, text: str) -> None:
-        self.instructions: list[tuple[str, list[str]]] = []
-        self.slots: dict[int, str] = {}
-        self.ends: dict[int, Ends] = {}
-        self.targets: set[int] = set()
-        for line in text.splitlines():
-            head, _, rest = line.partition(" ")
-            if head == ".slot":
-                slot, file = rest.split(" ")
-                self.slots[int(slot)] = f"file {file}"
-            elif not head.startswith("."):
-                self.instructions.append((head, rest.split(", ") if rest else []))
-        for place, (name, _) in enumerate(self.instructions):
-            # Behind a jump to a register any place may be a target.
-            after = [] if name in SHARED else self.after(place)
-            self.targets.update(range(len(self.instructions)) if after is None else set(after) - {place + 1})
-
-    def at(self, place: int) -> tuple[str | None, list[str]]:
-        """The name and the operands of an instruction, or nothing behind the last one."""
-        return self.instructions[place] if place < len(self.instructions) else (None, [])
-
-    def line(self, place: int) -> str:
-        """An instruction as `dis` writes it."""
-        name, operands = self.at(place)
-        return f"{name} {', '.join(operands)}".strip() if name else "behind the last instruction"
-
-    def after(self, place: int) -> list[int] | None:
-        """The places to which a private instruction may lead, or None where the listing does not tell."""
-        name, operands = self.instructions[place]
-        if name == "JR":
-            return None
-        if name in ("JMP", "JAL"):
-            return [int(operands[-1])]
-        return [place + 1] + ([int(operands[-1])] if name in ("JZ", "JNZ") else [])
-
-    def ends_of(self, start: int) -> Ends:
-        """Where a step that begins at this place may end its private instructions: the places of shared instructions,
-        or behind the last one, and the places of a pause. Either may be any place (None) behind a jump to a register."""
-        if start not in self.ends:
-            self.ends[start] = self.walk(start)
-        return self.ends[start]
-
-    def walk(self, start: int) -> Ends:
-        """As ends_of: all ways at once, one private instruction after another."""
-        stops: set[int] = set()
-        places = {start}
-        for _ in range(MOST_PRIVATE):
-            new: set[int] = set()
-            for place in places:
-                name = self.at(place)[0]
-                if name is None or name in SHARED:
-                    stops.add(place)
-                elif (after := self.after(place)) is None:
-                    return None, None
-                else:
-                    new.update(after)
-            places = new
-        shared = {place for place in places if self.at(place)[0] in SHARED | {None}}
-        return stops | shared, places - shared
-
-    def register_at(self, register: int, was: Thread, place: int) -> int | None:
-        """What a register has when a step comes to a place, or None where the lines before it do not tell: no jump
-        leads between them, and the last one that changes the register sets it, or the step has begun behind it."""
-        while place is not None and place != was.pc:
-            if place in self.targets or place == 0 or self.at(place - 1)[0] in SHARED:
-                return None
-            place -= 1
-            name, operands = self.at(place)
-            if name not in ("JZ", "JNZ") and operands[0] == f"r{register}":
-                return int(operands[1]) if name == "LI" else None
-        return was.regs[register] if place is not None else None
-
-    def may_stop(self, start: int, place: int) -> bool:
-        """Whether a step from the start may come to the shared instruction at a place."""
-        stops, _ = self.ends_of(start)
-        return stops is None or place in stops
-
-    def may_pause(self, start: int, place: int) -> bool:
-        """Whether a step from the start may be 256 private instructions that lead to another one at a place."""
-        _, pauses = self.ends_of(start)
-        return self.at(place)[0] not in SHARED and (pauses is None or place in pauses)
-
-    def stops_of(self, start: int, is_asked: Callable[[str | None, list[str]], bool]) -> list[int]:
-        """The places of the instructions that are asked for to which a step from the start may come."""
-        stops, _ = self.ends_of(start)
-        places = range(len(self.instructions)) if stops is None else sorted(stops)
-        return [place for place in places if is_asked(*self.at(place))]
