@@ -25,10 +25,10 @@ def script(name: str) -> ModuleType:
 
 claims = script("claims")
 reading = script("reading-path")
+path = reading.Path()
 
 
 def test_a_chapter_needs_no_later_one() -> None:
-    path = reading.Path()
     place = {one.key: number for number, part in enumerate(path.chapters()) for one in part}
     needed = {one.key for one in path.needed}
     assert place.keys() == needed
@@ -38,7 +38,7 @@ def test_a_chapter_needs_no_later_one() -> None:
 
 
 def test_a_step_is_in_the_second_chapter() -> None:
-    names = [one.name for one in reading.Path().chapters()[1]]
+    names = [one.name for one in path.chapters()[1]]
     assert {"step", "create", "switch", "restrict", "overlay", "plain", "lw_syscall"} <= set(names)
 
 
