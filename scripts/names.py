@@ -105,3 +105,11 @@ def mask(value: int) -> str:
 def name_of(call: int) -> str:
     """The name of a call, or its number."""
     return CALLS.get(call, f"call {number(call)}")
+
+
+def registers_line(line: str) -> list[str]:
+    """A report's line `regs` as the tools show it: values just below 2^64 as numbers below 0, and the refusals that are among them."""
+    words = line.split(" ")
+    values = [int(word) for word in words[2:]]
+    found = refusals_in(values)
+    return [" ".join([*words[:2], *map(number, values)]), *([found] if found else [])]
