@@ -10,9 +10,10 @@ import subprocess
 import sys
 import tempfile
 import time
-from collections.abc import Callable, Sequence
+from collections.abc import Callable, Iterator, Sequence
+from contextlib import contextmanager, suppress
 from types import FrameType
-from typing import NoReturn
+from typing import IO, Any, NoReturn
 
 from checkout import PROGRAM
 from checkout import TOP as TOP
@@ -105,11 +106,21 @@ def find_program(given: str | None = None) -> str:
             give_up(f"{NAME}: no program is at {named}", FAILED)
         return os.path.realpath(named)
     # The launcher takes a moment each time, so it runs once, on a small image, and the program itself after that.
-    words = [LAUNCHER, "dis", os.path.join(GUESTS, "store_load.lwc")]
-    done = subprocess.run(words, stdout=subprocess.DEVNULL, check=False)
-    if done.returncode != 0:
-        sys.exit(done.returncode if done.returncode > 0 else 128 - done.returncode)
+    status = run_child([LAUNCHER, "dis", os.path.join(GUESTS, "store_load.lwc")], subprocess.DEVNULL)
+    if status != 0:
+        sys.exit(status)
     return PROGRAM
+
+
+def run_child(words: Sequence[str], out: int | None = None) -> int:
+    """Runs a script, which ends what it has begun when it is told to end. Answers its status."""
+    with subprocess.Popen(words, stdin=subprocess.DEVNULL, stdout=out) as child:
+        try:
+            status = child.wait()
+        except BaseException:
+            child.terminate()
+            raise
+    return status if status >= 0 else 128 - status
 
 
 def run_program(words: Sequence[str]) -> bytes:
@@ -119,6 +130,34 @@ def run_program(words: Sequence[str]) -> bytes:
         said = done.stderr.decode(errors="replace").strip()
         give_up(said or f"{words[0]}: status {done.returncode}", done.returncode)
     return done.stdout
+
+
+@contextmanager
+def in_session(words: Sequence[str], folder: str, out: IO[Any], **more: str) -> Iterator[subprocess.Popen[bytes]]:
+    """A program that runs in a folder, with more variables, in a session of its own. When the script leaves it, also
+    by a signal, whatever the program has begun is ended. What it writes and says goes to one file."""
+    process = subprocess.Popen(
+        words,
+        cwd=folder,
+        env={**os.environ, **more},
+        stdin=subprocess.DEVNULL,
+        stdout=out,
+        stderr=out,
+        start_new_session=True,
+    )
+    try:
+        yield process
+    finally:
+        end_session(process.pid)
+        process.wait()
+
+
+def end_session(session: int) -> None:
+    """Ends each process of a session."""
+    for name in os.listdir("/proc"):
+        with suppress(ProcessLookupError):
+            if name.isdigit() and os.getsid(int(name)) == session:
+                os.kill(int(name), signal.SIGKILL)
 
 
 def output_of(words: Sequence[str]) -> str:
@@ -134,17 +173,18 @@ class WorkFolder:
     """A folder for the files of a script, which goes when the script ends: `with WorkFolder() as folder`."""
 
     def __init__(self) -> None:
-        self._folder = tempfile.TemporaryDirectory(prefix=f"{NAME}-")
+        self._made = tempfile.TemporaryDirectory(prefix=f"{NAME}-")
+        self.folder = self._made.name
 
     def __enter__(self) -> WorkFolder:
         return self
 
     def __exit__(self, *_: object) -> None:
-        self._folder.cleanup()
+        self._made.cleanup()
 
     def path(self, name: str) -> str:
         """The path of a file in the folder."""
-        return os.path.join(self._folder.name, name)
+        return os.path.join(self.folder, name)
 
     def write(self, name: str, content: bytes | str) -> str:
         """Writes a file in the folder. Answers its path."""

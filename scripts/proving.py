@@ -64,7 +64,7 @@ class Crate:
         self.process: subprocess.Popen[bytes] | None = None
 
     def read(self, crates: dict[str, Crate]) -> bool:
-        """Takes the stamp of all that the proof reads, after the crates below. Answers whether what is made is of it."""
+        """Takes the stamp of all that the proof reads, after the crates below. Answers whether what is made has it."""
         self.looks = looks_of([self.name])
         read = [(os.path.relpath(file.path, TOP), sum_of(file.path)) for file in files_of(self.name)]
         kit = [sum_of(os.path.join(self.kit, it)) for it in ("KIT-ID", "WHAT")]
@@ -167,8 +167,8 @@ class Build:
         return sorted(ready, key=lambda it: -self.chain[it])
 
     def jobs(self, name: str, free: int, others: int) -> int:
-        """How many of the free processors prove a crate, while so many others are to be begun. What the longest
-        chain waits for gets two, if two are free and there are more in all. Where more are free each gets its share."""
+        """How many of the free processors prove a crate, while so many others are to be begun. What the longest chain
+        waits for gets two, if two are free and there are more in all. Where more are free each gets its share."""
         is_first = all(self.chain[name] >= self.chain[it] for it in [*self.waiting, *self.running])
         return min(free, max(2 if is_first and self.processors > 2 else 1, free // (others + 1)))
 

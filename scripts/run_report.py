@@ -31,7 +31,7 @@ class Context:
 
 @dataclass
 class Report:
-    """A report. Contexts have their names for keys, traps the trapped context's; a reply is as `done 0 01` or `none`."""
+    """A report. The keys of contexts and traps are names of contexts; a reply is as `done 0 01` or `none`."""
 
     threads: list[Thread] = field(default_factory=list)
     contexts: dict[str, Context] = field(default_factory=dict)
@@ -83,7 +83,7 @@ def read_report(text: str) -> Report:
 
 
 def take_line(report: Report, kind: str, found: re.Match[str]) -> bool:
-    """Takes a line into the report. Answers whether it has its place there: threads and replies are numbered through."""
+    """Takes a line into the report. Answers whether its place is there: threads and replies are numbered through."""
     first = found[1]
     if kind == "thread":
         report.threads.append(thread_of(found.string.split(" ")))
@@ -113,7 +113,7 @@ def thread_of(words: list[str]) -> Thread:
 
 
 def shows_alone(report: Report, frames: int) -> bool:
-    """Whether the report of a serve shows that each reply is the one that its request gets alone: its peak is two below
-    the frames, or less, so that no step of a request found too few. One below is not enough, since a read of 4096 bytes
-    can take two frames: its refusal leaves the peak one below."""
+    """Whether the report of a serve shows that each reply is the one that its request gets alone: its peak is at most
+    the frames less two, so that no step of a request found too few. One less is not enough: a read of 4096 bytes can
+    take two frames, and its refusal leaves the peak one below."""
     return report.peak <= frames - 2
