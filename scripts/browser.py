@@ -1,7 +1,8 @@
 """A browser without a window, as far as tests of a page need it: it opens a page, answers expressions, and is given
 keys and clicks.
 
-It is Debian's chromium, spoken to by its own protocol over two pipes: messages of JSON, each with a zero byte behind it.
+It is Debian's chromium, spoken to by its own protocol over two pipes: messages of JSON, each with a zero byte behind
+it.
 """
 
 import json
@@ -26,12 +27,25 @@ class Browser:
         self.read, to_write = os.pipe()
         # The browser reads its messages from descriptor 3 and writes to 4, wherever the pipes are here.
         command = 'exec 3<&"$1" 4>&"$2"; shift 2; exec "$@"'
-        words = [path, "--headless=new", "--no-sandbox", "--disable-gpu", "--window-size=1400,1200",
-                 "--remote-debugging-pipe", f"--user-data-dir={folder}/browser", "--no-first-run",
-                 "--disable-background-networking", "about:blank"]
+        words = [
+            path,
+            "--headless=new",
+            "--no-sandbox",
+            "--disable-gpu",
+            "--window-size=1400,1200",
+            "--remote-debugging-pipe",
+            f"--user-data-dir={folder}/browser",
+            "--no-first-run",
+            "--disable-background-networking",
+            "about:blank",
+        ]
         with open(os.path.join(folder, "browser.log"), "wb") as log:
-            self.process = subprocess.Popen(["bash", "-c", command, "sh", str(to_read), str(to_write), *words],
-                                            pass_fds=(to_read, to_write), stdout=log, stderr=log)
+            self.process = subprocess.Popen(
+                ["bash", "-c", command, "sh", str(to_read), str(to_write), *words],
+                pass_fds=(to_read, to_write),
+                stdout=log,
+                stderr=log,
+            )
         os.close(to_read)
         os.close(to_write)
         self.number, self.rest = 0, b""
@@ -87,7 +101,11 @@ class Browser:
 
     def key(self, name: str) -> None:
         """Presses a key and lets it go: one of KEYS, or a character."""
-        how = {"key": name, "windowsVirtualKeyCode": KEYS.get(name, ord(name[0].upper())), "modifiers": 8 * name.isupper()}
+        how = {
+            "key": name,
+            "windowsVirtualKeyCode": KEYS.get(name, ord(name[0].upper())),
+            "modifiers": 8 * name.isupper(),
+        }
         how |= {"code": name} if name in KEYS else {"text": name}
         for kind in ("rawKeyDown" if name in KEYS else "keyDown", "keyUp"):
             self.call("Input.dispatchKeyEvent", type=kind, **how)
@@ -117,5 +135,16 @@ class Browser:
             self.process.wait()
 
 
-KEYS = {"ArrowLeft": 37, "ArrowRight": 39, "ArrowUp": 38, "ArrowDown": 40, "Home": 36, "End": 35, "PageUp": 33, "PageDown": 34,
-        "Enter": 13, "Escape": 27, "Tab": 9}
+KEYS = {
+    "ArrowLeft": 37,
+    "ArrowRight": 39,
+    "ArrowUp": 38,
+    "ArrowDown": 40,
+    "Home": 36,
+    "End": 35,
+    "PageUp": 33,
+    "PageDown": 34,
+    "Enter": 13,
+    "Escape": 27,
+    "Tab": 9,
+}
