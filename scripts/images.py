@@ -1,4 +1,5 @@
-"""An image: what its bytes have, and its instructions as `dis` lists them. The program has accepted the image before it is read here."""
+"""An image: what its bytes have, and its instructions as `dis` lists them. The program has accepted the image before
+it is read here."""
 
 import struct
 from dataclasses import dataclass
@@ -62,4 +63,7 @@ def list_instructions(source: str) -> list[tuple[str, list[str]]]:
 
 def read_vault(data: bytes) -> dict[int, bytes]:
     """The pages of a vault's file."""
-    return {int.from_bytes(data[at : at + 4], "little"): data[at + 4 : at + 4 + PAGE] for at in range(4, len(data), 4 + PAGE)}
+    return {
+        int.from_bytes(data[at : at + 4], "little"): data[at + 4 : at + 4 + PAGE]
+        for at in range(4, len(data), 4 + PAGE)
+    }

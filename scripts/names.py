@@ -4,16 +4,79 @@ from collections.abc import Sequence
 from dataclasses import dataclass
 
 WORD = 2**64
-REFUSALS = {2: "BadCall", 3: "BadFd", 4: "WrongKind", 5: "BadAddress", 6: "BadRange", 7: "BadMode", 8: "Overlap", 9: "TooManyItems",
-            10: "NotCovered", 11: "TooManyContexts", 12: "NoSlot", 13: "NoSlotThere", 14: "NoFrame", 15: "NotPermitted", 16: "NoFile",
-            17: "TooManyGroups", 18: "TooManyRanges", 19: "ReplyFull", 20: "TooLong", 21: "ReadOnly", 22: "Trapped", 23: "NotFresh"}
+REFUSALS = {
+    2: "BadCall",
+    3: "BadFd",
+    4: "WrongKind",
+    5: "BadAddress",
+    6: "BadRange",
+    7: "BadMode",
+    8: "Overlap",
+    9: "TooManyItems",
+    10: "NotCovered",
+    11: "TooManyContexts",
+    12: "NoSlot",
+    13: "NoSlotThere",
+    14: "NoFrame",
+    15: "NotPermitted",
+    16: "NoFile",
+    17: "TooManyGroups",
+    18: "TooManyRanges",
+    19: "ReplyFull",
+    20: "TooLong",
+    21: "ReadOnly",
+    22: "Trapped",
+    23: "NotFresh",
+}
 FAULTS = {1: "BadPc", 2: "BadLoad", 3: "BadStore", 4: "NoFrame", 5: "Budget", 6: "ReadOnly"}
-OPEN, CLOSE, DUP, READ, MAP, UNMAP, EXIT, CREATE, SWITCH, RESTRICT, OVERLAY, BEHALF, TRAP = 1, 2, 3, 4, 6, 7, 10, 16, 17, 18, 19, 20, 21
-CALLS = {1: "open", 2: "close", 3: "dup", 4: "read", 5: "write", 6: "map", 7: "unmap", 8: "getuid", 9: "setuid", 10: "exit",
-         16: "create", 17: "switch", 18: "restrict", 19: "overlay", 20: "on_behalf", 21: "trap"}
+OPEN, CLOSE, DUP, READ, MAP, UNMAP, EXIT, CREATE, SWITCH, RESTRICT, OVERLAY, BEHALF, TRAP = (
+    1,
+    2,
+    3,
+    4,
+    6,
+    7,
+    10,
+    16,
+    17,
+    18,
+    19,
+    20,
+    21,
+)
+CALLS = {
+    1: "open",
+    2: "close",
+    3: "dup",
+    4: "read",
+    5: "write",
+    6: "map",
+    7: "unmap",
+    8: "getuid",
+    9: "setuid",
+    10: "exit",
+    16: "create",
+    17: "switch",
+    18: "restrict",
+    19: "overlay",
+    20: "on_behalf",
+    21: "trap",
+}
 # The arguments of a call, by the registers that have them; those of items and of call 20 are written otherwise.
-ARGUMENTS = {1: "file {1}", 2: "slot {1}", 3: "slot {1}", 4: "slot {1}, address {2}, length {3}", 5: "slot {1}, address {2}, length {3}",
-             6: "pages {1} to {2}", 7: "pages {1} to {2}", 8: "", 9: "uid {1}", 10: "code {1}", 17: "slot {1}, argument {2}", 21: "slot {1}"}
+ARGUMENTS = {
+    1: "file {1}",
+    2: "slot {1}",
+    3: "slot {1}",
+    4: "slot {1}, address {2}, length {3}",
+    5: "slot {1}, address {2}, length {3}",
+    6: "pages {1} to {2}",
+    7: "pages {1} to {2}",
+    8: "",
+    9: "uid {1}",
+    10: "code {1}",
+    17: "slot {1}, argument {2}",
+    21: "slot {1}",
+}
 # The registers of the address and of the number of items.
 ITEMS = {CREATE: (1, 2), RESTRICT: (2, 3), OVERLAY: (2, 3)}
 KINDS = {0: ("page", "pages"), 1: ("slot", "slots"), 2: ("uid", "uids")}
@@ -35,7 +98,13 @@ class Item:
         if self.kind not in KINDS or self.mode not in MODES:
             return f"item {self.kind} {self.mode} {self.first} {self.last}"
         one, many = KINDS[self.kind]
-        keys = one if self.kind == 2 else f"{one} {self.first}" if self.last == self.first + 1 else f"{many} {self.first} to {self.last}"
+        keys = (
+            one
+            if self.kind == 2
+            else f"{one} {self.first}"
+            if self.last == self.first + 1
+            else f"{many} {self.first} to {self.last}"
+        )
         return f"{MODES[self.mode]} {keys}" if with_mode else keys
 
 
@@ -105,3 +174,12 @@ def mask(value: int) -> str:
 def name_of(call: int) -> str:
     """The name of a call, or its number."""
     return CALLS.get(call, f"call {number(call)}")
+
+
+def registers_line(line: str) -> list[str]:
+    """A report's line `regs` as the tools show it: values just below 2^64 as numbers below 0, and the refusals that
+    are among them."""
+    words = line.split(" ")
+    values = [int(word) for word in words[2:]]
+    found = refusals_in(values)
+    return [" ".join([*words[:2], *map(number, values)]), *([found] if found else [])]

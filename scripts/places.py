@@ -1,6 +1,8 @@
-"""Refusals with a place: the program names a rule and an offset, and this says the file, the line and the column, with the line and a caret below it.
+"""Refusals with a place: the program names a rule and an offset, and this says the file, the line and the column, with
+the line and a caret below it.
 
-The grammar of every file is the program's alone. What is added here is a sentence for each rule, and what stands at the offset.
+The grammar of every file is the program's alone. What is added here is a sentence for each rule, and what stands at
+the offset.
 """
 
 import re
@@ -14,10 +16,23 @@ from program import give_up
 WIDE = 100
 REFUSAL = re.compile(r"lwcrun: (image|input) refused: (\w+) at (\d+)$")
 SCHEDULE, REQUESTS, SCRIPT, VAULT, IMAGE = "schedule", "requests", "script", "vault", "image"
-# Which file a rule of an input is about, where the rule alone tells; TooLong is told by its offset, the most bytes that the file may have.
-ROLES = {"BadThread": SCHEDULE, "TooManySteps": SCHEDULE, "BadHex": REQUESTS, "OddLength": REQUESTS, "RequestTooLong": REQUESTS,
-         "TooManyRequests": REQUESTS, "TooMuchWork": REQUESTS, "BadCommand": SCRIPT, "TooManyCommands": SCRIPT, "Truncated": VAULT,
-         "BadEntry": VAULT, "BadPage": VAULT, "SlotTaken": VAULT}
+# Which file a rule of an input is about, where the rule alone tells; TooLong is told by its offset, the most bytes
+# that the file may have.
+ROLES = {
+    "BadThread": SCHEDULE,
+    "TooManySteps": SCHEDULE,
+    "BadHex": REQUESTS,
+    "OddLength": REQUESTS,
+    "RequestTooLong": REQUESTS,
+    "TooManyRequests": REQUESTS,
+    "TooMuchWork": REQUESTS,
+    "BadCommand": SCRIPT,
+    "TooManyCommands": SCRIPT,
+    "Truncated": VAULT,
+    "BadEntry": VAULT,
+    "BadPage": VAULT,
+    "SlotTaken": VAULT,
+}
 LONGEST = {16777216: SCHEDULE, 8390656: REQUESTS, 65536: SCRIPT, 262404: VAULT}
 REASONS = {
     "TooManySteps": "a schedule has at most 16000000 steps, and for debug 100000",
@@ -52,7 +67,8 @@ class Refused(Exception):
 
 @dataclass
 class Input:
-    """A file that the program reads: what it is, its name for the user, where it lies, and from where in the user's file it was taken."""
+    """A file that the program reads: what it is, its name for the user, where it lies, and from where in the user's
+    file it was taken."""
 
     role: str
     name: str
@@ -82,9 +98,11 @@ def read_file(name: str) -> bytes:
         raise Refused(f"cannot read {name}: {error.strerror}", 3) from error
 
 
-def call_program(words: Sequence[str], inputs: Iterable[Input] = (), explain: Callable[[str, int], str] | None = None) -> bytes:
-    """What the program writes for the words. Where its status is not 0 it is refused with the program's status, and with a place where the
-    program tells an offset. Of an image `explain` may know more than its bytes do."""
+def call_program(
+    words: Sequence[str], inputs: Iterable[Input] = (), explain: Callable[[str, int], str] | None = None
+) -> bytes:
+    """What the program writes for the words. Where its status is not 0 it is refused with the program's status, and
+    with a place where the program tells an offset. Of an image `explain` may know more than its bytes do."""
     try:
         done = subprocess.run(words, capture_output=True, check=False)
     except OSError as error:
@@ -127,12 +145,13 @@ def of_byte(rule: str, found: bytes) -> str:
     if rule == "BadHex":
         return f"a request is hexadecimal digits alone, and here is {shown}"
     if found and found in b"0123456789abcdef":
-        return f"there is no thread {found.decode()} in this run: an image has a thread for each .entry, a serve one for each worker"
+        return f"this run has no thread {found.decode()}: an image has one for each .entry, a serve for each worker"
     return f"a schedule is digits 0 to 9 and a to f, and here is {shown}"
 
 
 def at_place(name: str, line: int, column: int, rule: str, reason: str, text: str) -> str:
-    """A refusal as compilers write it: the place, the rule and the reason, and below them the line with a caret. The column counts from 0."""
+    """A refusal as compilers write it: the place, the rule and the reason, and below them the line with a caret. The
+    column counts from 0."""
     before, text = (plain(part) for part in (text[:column], text))
     at, column = column, len(before)
     cut = max(0, column - WIDE // 2) if len(text) > WIDE else 0

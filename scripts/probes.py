@@ -1,8 +1,9 @@
 """Where the steps of a run went, by asking the program.
 
-A report tells a thread before and after a step, and not the instruction at which the step ended, or the registers there: a call writes over
-its arguments. The program tells these if it is asked by another image: the same private instructions, each shared one being HALT, and
-in front of them lines that set the registers. Its report has the place of the HALT and all registers. Nothing here runs an instruction.
+A report tells a thread before and after a step, and not the instruction at which the step ended, or the registers
+there: a call writes over its arguments. The program tells these if it is asked by another image: the same private
+instructions, each shared one being HALT, and in front of them lines that set the registers. Its report has the place
+of the HALT and all registers. Nothing here runs an instruction.
 """
 
 import struct
@@ -13,14 +14,15 @@ from run_report import Thread, read_report
 
 MOST_INSTRUCTIONS, MOST_THREADS = 65536, 16
 FIRST_SHARED, LI, LIH, ADDI, JMP, JNZ, HALT = 32, 1, 2, 16, 17, 19, 37
-# The lines that set the registers are one whole step of 256 private instructions: a loop of twice LOOPS, and 34 others.
+# The lines that set the registers are one whole step of 256 private instructions: a loop of twice LOOPS, and 34
+# others.
 LOOPS, PROLOGUE = 111, 36
 
 
 @dataclass
 class Stop:
-    """Where a step that began at some place with some registers came to: at a shared instruction, or else at a pause; and the registers
-    as they are there."""
+    """Where a step that began at some place with some registers came to: at a shared instruction, or else at a pause;
+    and the registers as they are there."""
 
     place: int
     is_pause: bool

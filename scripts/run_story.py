@@ -1,12 +1,31 @@
-"""What each step of a run did, by the program's answers: reports before and after it, where it came to, and the registers there.
+"""What each step of a run did, by the program's answers: reports before and after it, where it came to, and the
+registers there.
 
-Nothing here runs an instruction. What the slots of contexts have follows from the calls, and is compared with the number of slots of each
-context in each report, and with the contexts that live. What does not follow is left out, and said to be.
+Nothing here runs an instruction. What the slots of contexts have follows from the calls, and is compared with the
+number of slots of each context in each report, and with the contexts that live. What does not follow is left out, and
+said to be.
 """
 
 from dataclasses import dataclass, field
 
-from names import BEHALF, CALLS, CLOSE, CREATE, DUP, EXIT, ITEMS, MAP, OPEN, OVERLAY, READ, RESTRICT, SWITCH, TRAP, UNMAP, WORD
+from names import (
+    BEHALF,
+    CALLS,
+    CLOSE,
+    CREATE,
+    DUP,
+    EXIT,
+    ITEMS,
+    MAP,
+    OPEN,
+    OVERLAY,
+    READ,
+    RESTRICT,
+    SWITCH,
+    TRAP,
+    UNMAP,
+    WORD,
+)
 from names import Item, answer, arguments, mask, name_of, number, refusal_of, status
 from images import PAGE
 from run_report import Context, Report, Thread
@@ -18,8 +37,8 @@ WORDS = {"LDB": "byte", "STB": "byte", "LDW": "word", "STW": "word"}
 
 @dataclass
 class Step:
-    """What a step did: in a sentence and in the words of a trace, what else came of it, the place of its instruction, the call that it made, and
-    whether that was accepted, and whether it ended its thread by a fault."""
+    """What a step did: in a sentence and in the words of a trace, what else came of it, the place of its instruction,
+    the call that it made, and whether that was accepted, and whether it ended its thread by a fault."""
 
     said: str
     line: str = ""
@@ -85,9 +104,15 @@ class Story:
             return Step("finds no request left, and ends", kind="end")
         name = turn.now.ctx
         request = int(name.split(".")[0]) - 1
-        values = {**{slot: Value(f"file {file}") for slot, file in self.image.slots.items()}, 0: Value(f"request {request}"), 1: Value(f"reply {request}")}
+        values = {
+            **{slot: Value(f"file {file}") for slot, file in self.image.slots.items()},
+            0: Value(f"request {request}"),
+            1: Value(f"reply {request}"),
+        }
         self.slots.add(name, values)
-        return Step(f"begins request {request} in the new context {name}", f"begins request {request} in {name}", kind="begin")
+        return Step(
+            f"begins request {request} in the new context {name}", f"begins request {request} in {name}", kind="begin"
+        )
 
     @staticmethod
     def reply(turn: Turn) -> tuple[int, str] | None:
@@ -133,20 +158,34 @@ class Story:
         """A load or a store."""
         register, base, offset = int(operands[0][1:]), int(operands[1][1:]), int(operands[2])
         address = (regs[base] + (offset - 2**32 if offset >= 2**31 else offset)) % WORD
-        where, what = f"{number(address)} (page {address // PAGE})" if address < PAGE * self.image.most_pages else number(address), WORDS[name]
+        where, what = (
+            f"{number(address)} (page {address // PAGE})"
+            if address < PAGE * self.image.most_pages
+            else number(address),
+            WORDS[name],
+        )
         fails = self.failed(turn)
         if name in ("LDB", "LDW"):
             if fails:
                 return Step(f"loads the {what} at {where} and fails", f"load {what} at {where}", kind="load")
             value = number(turn.now.regs[register]) if turn.now.status != "idle" else "?"
-            return Step(f"loads the {what} at {where} into {operands[0]}: {value}", f"load {what} at {where} = {value}", kind="load")
+            return Step(
+                f"loads the {what} at {where} into {operands[0]}: {value}",
+                f"load {what} at {where} = {value}",
+                kind="load",
+            )
         value = str(regs[register] % 256) if name == "STB" else number(regs[register])
         if not fails:
             self.memory.note(address // PAGE, address // PAGE + 1)
-        return Step(f"stores the {what} {value} at {where}" + (" and fails" if fails else ""), f"store {what} {value} at {where}", kind="store")
+        return Step(
+            f"stores the {what} {value} at {where}" + (" and fails" if fails else ""),
+            f"store {what} {value} at {where}",
+            kind="store",
+        )
 
     def failed(self, turn: Turn) -> bool:
-        """Whether the step's instruction failed: by any fault but the one at the end of the budget, after which it was done."""
+        """Whether the step's instruction failed: by any fault but the one at the end of the budget, after which it was
+        done."""
         reply = self.reply(turn)
         words = reply[1] if reply else turn.now.status
         return words.startswith("fault") and words.split()[1] != "5"
@@ -160,7 +199,12 @@ class Story:
         if call in ITEMS and turn.items is None:
             turn.items = self.memory.items(turn, call, regs)
         words = arguments(call, regs, turn.items)
-        step = Step(f"makes call {call}, {CALLS.get(call, 'which is none')}", f"{name_of(call)}({words})", call=call, kind="call")
+        step = Step(
+            f"makes call {call}, {CALLS.get(call, 'which is none')}",
+            f"{name_of(call)}({words})",
+            call=call,
+            kind="call",
+        )
         if call == EXIT:
             step.said += f" ({words})"
         elif now.status == "idle":
@@ -168,10 +212,13 @@ class Story:
             self.slots.forget(was.ctx)
         elif (refusal := refusal_of(now.regs[0])) and now.ctx == was.ctx and not (call == SWITCH and refusal == 0):
             step.is_refused = True
-            step.said += f"{f' ({words})' if words else ''}, and is refused: {refusal}, {answer(now.regs[0]).split(' ')[1]}"
+            step.said += (
+                f"{f' ({words})' if words else ''}, and is refused: {refusal}, {answer(now.regs[0]).split(' ')[1]}"
+            )
             step.line += f" = {answer(now.regs[0])}"
         elif monitor:
-            step.said += f"{f' ({words})' if words else ''}, which goes to its monitor {now.ctx}: slot {now.regs[1]} there gets a descriptor of {was.ctx}"
+            step.said += f"{f' ({words})' if words else ''}, which goes to its monitor {now.ctx}: "
+            step.said += f"slot {now.regs[1]} there gets a descriptor of {was.ctx}"
             step.line += f" -> its monitor {now.ctx}, slot {now.regs[1]} there"
             self.slots.put(now.ctx, now.regs[1], Value(CONTEXT + was.ctx, NO_KEYS))
         else:
@@ -183,7 +230,8 @@ class Story:
         name, answered = turn.was.ctx, turn.now.regs[0]
         if call == SWITCH:
             there = f"slot {turn.now.regs[1]} there"
-            step.said += f", from {name} to {turn.now.ctx} with the argument {number(regs[2])}: {there} gets a descriptor of {name}"
+            step.said += f", from {name} to {turn.now.ctx} with the argument {number(regs[2])}: "
+            step.said += f"{there} gets a descriptor of {name}"
             step.line += f" -> {turn.now.ctx}, {there}"
             self.slots.put(turn.now.ctx, turn.now.regs[1], Value(CONTEXT + name, NO_KEYS))
         elif call == CREATE:
@@ -256,7 +304,9 @@ class Story:
                 old, now = getattr(before.contexts.get(name, context), kind), getattr(context, kind)
                 if old != now:
                     found.append(f"{kind} of {name}: {old}, then {now}")
-        found += [f"{name} is trapped no more" for name in before.traps if name not in after.traps and name in after.contexts]
+        found += [
+            f"{name} is trapped no more" for name in before.traps if name not in after.traps and name in after.contexts
+        ]
         if before.groups != after.groups:
             found.append(f"groups: {before.groups}, then {after.groups}")
         if before.used != after.used:
@@ -266,7 +316,8 @@ class Story:
         return found
 
     def compare(self, report: Report) -> None:
-        """Compares what is told of slots with the report, by their numbers and by what is reached; forgets what differs."""
+        """Compares what is told of slots with the report, by their numbers and by what is reached; forgets what
+        differs."""
         for name in [name for name in self.slots.tables if name not in report.contexts]:
             del self.slots.tables[name]
         for name, context in report.contexts.items():
@@ -277,7 +328,8 @@ class Story:
             self.doubt(*report.contexts)
 
     def count(self, name: str, context: Context) -> None:
-        """Compares what is told of a context's slots with their number. Where all that are in use are told, the others are empty."""
+        """Compares what is told of a context's slots with their number. Where all that are in use are told, the others
+        are empty."""
         if name not in self.slots.tables:
             self.slots.add(name, dict.fromkeys(range(64), NOT_KNOWN))
         told = len(self.slots.known(name))
@@ -293,12 +345,15 @@ class Story:
         self.slots.forget(*names)
 
     def reached(self, report: Report) -> set[str]:
-        """The contexts to which slots lead from those that threads are in, and from homes: a context lives exactly if it is one."""
+        """The contexts to which slots lead from those that threads are in, and from homes: a context lives exactly if
+        it is one."""
         new = {thread.ctx for thread in report.threads}
         if self.run.kind == SERVE:
             new |= {name for name in report.contexts if name.startswith("0.")}
         reached: set[str] = set()
         while new:
             reached |= new
-            new = {value.context for name in new for value in self.slots.known(name).values() if value.context} - reached
+            new = {
+                value.context for name in new for value in self.slots.known(name).values() if value.context
+            } - reached
         return reached

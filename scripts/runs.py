@@ -1,7 +1,8 @@
 """The run that a tool shows: what it is a run of, its steps, and what the program answers about them.
 
-A schedule alone does not tell whether its steps are those of a plain run, of a serve, of a run under a monitor or beside a vault. A report does,
-or the options do; and where there is a report, the replay has to end as it says. A run that cannot be made again is refused here.
+A schedule alone does not tell whether its steps are those of a plain run, of a serve, of a run under a monitor or
+beside a vault. A report does, or the options do; and where there is a report, the replay has to end as it says. A run
+that cannot be made again is refused here.
 """
 
 import argparse
@@ -30,10 +31,11 @@ VAULT_SLOT, VAULT_CONTEXT = 63, "0.1"
 Given = TypeVar("Given")
 Made = TypeVar("Made")
 
-FILES = """IMAGE is an image, or a source, which is assembled first. SCHEDULE is a schedule, or a report of a run of the image, whose line
-`schedule` is taken, and with which the end of the run is compared. What it is a run of, its report tells; a schedule alone does not,
-so that --monitor, --vault FILE or --requests FILE have to be given where it is no plain run. Status 0 is success, 1 that the run cannot be
-shown, 2 that the line is not accepted, 3 to 7 as the program's, 130 Ctrl-C."""
+FILES = """IMAGE is an image, or a source, which is assembled first. SCHEDULE is a schedule, or a report of a run of
+the image: its line `schedule` is taken, and the end of the run is compared with it. A report tells what it is a run
+of. A schedule alone does not: give --monitor, --vault FILE or --requests FILE where it is no plain run.
+
+Status 0: success; 1: the run cannot be shown; 2: the line is not accepted; 3 to 7: as the program's; 130: Ctrl-C."""
 
 
 def add_options(parser: argparse.ArgumentParser) -> None:
@@ -47,14 +49,17 @@ def add_options(parser: argparse.ArgumentParser) -> None:
     kind.add_argument("--plain", action="store_true", help="the run is none of these, though the guest makes call 21")
     parser.add_argument("--frames", metavar="F", help="as for the program, 4096 if left out")
     parser.add_argument("--budget", metavar="B", help="as for the program, 10000 if left out")
-    parser.add_argument("--workers", metavar="W", help="as for the program: of a serve, as many as its report has, or 4")
+    parser.add_argument(
+        "--workers", metavar="W", help="as for the program: of a serve, as many as its report has, or 4"
+    )
     parser.add_argument("--source", metavar="SOURCE", help="the source of the image, for labels")
     parser.add_argument("--program", help="the program; else what LWCRUN names, else this checkout's")
 
 
 @dataclass
 class Turn:
-    """A step of the run: its thread before and after it, where it came to, and the items that its call read, where they are known."""
+    """A step of the run: its thread before and after it, where it came to, and the items that its call read, where
+    they are known."""
 
     step: int
     thread: int
@@ -87,7 +92,9 @@ class Run:
     def words(self, schedule: str) -> list[str]:
         """The words for the program that make the run with a schedule in a file."""
         mode = {MONITOR: "monitor", VAULT: "vault"}.get(self.kind, "replay")
-        between, behind = [self.files[VAULT].path] if self.kind == VAULT else [], [self.files[SERVE].path] if self.kind == SERVE else []
+        between, behind = [self.files[VAULT].path] if self.kind == VAULT else [], [
+            self.files[SERVE].path
+        ] if self.kind == SERVE else []
         return [self.program, mode, *self.options, "--", self.files["image"].path, *between, schedule, *behind]
 
     def text_of(self, schedule: str) -> str:
@@ -118,8 +125,13 @@ class Run:
         return self.answers([f"goto {place}", *commands])[1:]
 
     def slots(self, place: int, context: str) -> dict[int, str]:
-        """What the slots of a context have at a place of a plain run, by `debug`; those that are empty are left out."""
-        lines = [line for first in (0, 32) for line in self.at(place, *(f"slot {context} {slot}" for slot in range(first, first + 32)))]
+        """What the slots of a context have at a place of a plain run, by `debug`; those that are empty are left
+        out."""
+        lines = [
+            line
+            for first in (0, 32)
+            for line in self.at(place, *(f"slot {context} {slot}" for slot in range(first, first + 32)))
+        ]
         found = {int(words[2]): words[3] for line in lines if len(words := line.split(" ", 3)) == 4}
         return {slot: value for slot, value in found.items() if value != "empty"}
 
@@ -130,7 +142,7 @@ class Run:
 def schedule_in(text: str) -> str | None:
     """The schedule of a report's line `schedule`, or None where the text has no such line."""
     found = re.search(r"^schedule ([0-9a-f]+|-)$", text, re.MULTILINE)
-    return found and found[1].replace("-", "")
+    return found[1].replace("-", "") if found else None
 
 
 def in_order(text: str) -> list[str]:
@@ -142,8 +154,12 @@ def in_order(text: str) -> list[str]:
 def kind_of(report: Report) -> str | None:
     """What a report is of by its lines, or None where these do not tell."""
     homes = {f"0.{worker + 1}" for worker in range(len(report.threads))}
-    if report.replies or homes <= report.contexts.keys() and all(it.status in ("idle", "done 0") for it in report.threads) and (
-            "0.0" not in report.contexts):
+    if (
+        report.replies
+        or homes <= report.contexts.keys()
+        and all(it.status in ("idle", "done 0") for it in report.threads)
+        and ("0.0" not in report.contexts)
+    ):
         return SERVE
     if report.traps:
         return MONITOR
@@ -152,7 +168,17 @@ def kind_of(report: Report) -> str | None:
 
 def given_kind(given: argparse.Namespace) -> str | None:
     """What the run is of by the options, or None."""
-    return SERVE if given.requests else VAULT if given.vault else MONITOR if given.monitor else PLAIN if given.plain else None
+    return (
+        SERVE
+        if given.requests
+        else VAULT
+        if given.vault
+        else MONITOR
+        if given.monitor
+        else PLAIN
+        if given.plain
+        else None
+    )
 
 
 NEEDED = {SERVE: "its requests are needed, by --requests FILE", VAULT: "its vault is needed, by --vault FILE"}
@@ -160,15 +186,18 @@ NEEDED = {SERVE: "its requests are needed, by --requests FILE", VAULT: "its vaul
 
 def kinds_to_try(given: argparse.Namespace, image: Image, report: Report | None) -> list[str]:
     """What the run may be of, in the order in which that is tried."""
-    said, told = given_kind(given), report and kind_of(report)
+    said, told = given_kind(given), kind_of(report) if report else None
     if said and told and said != told:
         raise Refused(f"{given.schedule} is the report of {KINDS[told]}, and not of {KINDS[said]}", 1)
-    if told in NEEDED and not said:
+    if told and told in NEEDED and not said:
         raise Refused(f"{given.schedule} is the report of {KINDS[told]}: {NEEDED[told]}", 1)
     if said or told:
         return [said or told or PLAIN]
     if image.has_call(TRAP) and not report:
-        raise Refused(f"{given.image} makes call {TRAP}, which only a run under a monitor has: give --monitor, or --plain for a plain run", 1)
+        raise Refused(
+            f"{given.image} makes call {TRAP}, which only a run under a monitor has: give --monitor, or --plain",
+            1,
+        )
     return [PLAIN, MONITOR] if report else [PLAIN]
 
 
@@ -179,10 +208,14 @@ def open_run(given: argparse.Namespace, work: WorkFolder) -> Run:
     image_file = source.assemble(program, work) if source and not is_image(given.image) else Input(IMAGE, given.image)
     listing = call_program([program, "dis", "--", image_file.path], [image_file]).decode()
     image = read_image(image_file.read(), listing)
-    if given.source:
+    if source and given.source:
         source.compare(program, image_file, work)
     files = {"image": image_file}
-    files |= {kind: Input(role, name) for kind, role, name in ((SERVE, REQUESTS, given.requests), (VAULT, VAULT, given.vault)) if name}
+    files |= {
+        kind: Input(role, name)
+        for kind, role, name in ((SERVE, REQUESTS, given.requests), (VAULT, VAULT, given.vault))
+        if name
+    }
     written, report, files["schedule"] = read_schedule(given.schedule, work)
     differ: list[str] = []
     for kind in kinds_to_try(given, image, report):
@@ -192,7 +225,9 @@ def open_run(given: argparse.Namespace, work: WorkFolder) -> Run:
             run.steps = read_report(text).schedule
             return run
         differ.append(difference(KINDS[kind], text, written))
-    raise Refused(f"{given.schedule} is not what the program makes of this image and these options:\n" + "\n".join(differ), 1)
+    raise Refused(
+        f"{given.schedule} is not what the program makes of this image and these options:\n" + "\n".join(differ), 1
+    )
 
 
 def difference(name: str, text: str, written: str) -> str:
@@ -233,14 +268,22 @@ def options_of(given: argparse.Namespace, kind: str, report: Report | None) -> l
     workers = given.workers or (str(len(report.threads)) if report and kind == SERVE else None)
     if workers and kind != SERVE:
         raise Refused("--workers is for a serve, with --requests FILE", 2)
-    return [word for name, value in (("frames", given.frames), ("budget", given.budget), ("workers", workers)) if value for word in (f"--{name}", value)]
+    return [
+        word
+        for name, value in (("frames", given.frames), ("budget", given.budget), ("workers", workers))
+        if value
+        for word in (f"--{name}", value)
+    ]
 
 
 # The steps, with what the program answers about each.
 
 
-def side_by_side(work: Callable[[Given], Made], given: Iterable[Given], said: Callable[[int], str], name: str) -> Iterator[Made]:
-    """The results of some work, done side by side and handed out in order; no more than a few are begun ahead, so that a failure ends soon."""
+def side_by_side(
+    work: Callable[[Given], Made], given: Iterable[Given], said: Callable[[int], str], name: str
+) -> Iterator[Made]:
+    """The results of some work, done side by side and handed out in order; no more than a few are begun ahead, so that
+    a failure ends soon."""
     progress = Progress(name)
     with concurrent.futures.ThreadPoolExecutor(JOBS) as pool:
         waiting: list[concurrent.futures.Future[Made]] = []
@@ -253,22 +296,27 @@ def side_by_side(work: Callable[[Given], Made], given: Iterable[Given], said: Ca
             while waiting:
                 yield waiting.pop(0).result()
         finally:
-            for it in waiting:
-                it.cancel()
+            for future in waiting:
+                future.cancel()
             progress.clear()
 
 
 def beginnings(run: Run, last: int, name: str) -> Iterator[Report]:
     """The reports after 0, 1, 2 .. steps."""
-    yield from side_by_side(run.report, range(last + 1), lambda made: f"{made} of {last + 1} beginnings replayed", name)
+    yield from side_by_side(
+        run.report, range(last + 1), lambda made: f"{made} of {last + 1} beginnings replayed", name
+    )
 
 
 def threads_by_debug(run: Run, last: int, name: str) -> Iterator[Thread]:
-    """The thread of each step of a plain run after it: the program answers for as many steps at once as a script has commands."""
+    """The thread of each step of a plain run after it: the program answers for as many steps at once as a script has
+    commands."""
 
     def ask(first: int) -> list[Thread]:
         steps = range(first, min(first + MOST_COMMANDS // 2, last + 1))
-        lines = run.answers([line for step in steps for line in (f"goto {step}", f"thread {int(run.steps[step - 1], 16)}")])
+        lines = run.answers(
+            [line for step in steps for line in (f"goto {step}", f"thread {int(run.steps[step - 1], 16)}")]
+        )
         found = [thread_of(line.split(" ")) for line in lines[1::3]]
         for thread, line in zip(found, lines[2::3]):
             thread.regs = [int(word) for word in line.split(" ")[2:]]
@@ -280,11 +328,14 @@ def threads_by_debug(run: Run, last: int, name: str) -> Iterator[Thread]:
 
 
 def turns_of(run: Run, last: int, name: str, whole: bool) -> list[Turn]:
-    """The first steps of a run. With `whole` each has the reports before and after it; of a plain run the threads alone are fewer questions."""
+    """The first steps of a run. With `whole` each has the reports before and after it; of a plain run the threads
+    alone are fewer questions."""
     if whole or run.kind != PLAIN:
         reports = list(beginnings(run, last, name))
-        made = [Turn(i + 1, t := int(run.steps[i], 16), old.threads[t], new.threads[t], before=old, after=new)
-                for i, (old, new) in enumerate(zip(reports, reports[1:]))]
+        made = [
+            Turn(i + 1, t := int(run.steps[i], 16), old.threads[t], new.threads[t], before=old, after=new)
+            for i, (old, new) in enumerate(zip(reports, reports[1:]))
+        ]
     else:
         latest, made = dict(enumerate(run.report(0).threads)), []
         for i, now in enumerate(threads_by_debug(run, last, name)):
@@ -315,14 +366,17 @@ def ask_stops(run: Run, turns: list[Turn], name: str) -> None:
         words = [run.program, "replay", image, run.write("schedule", probes.probe_schedule(len(part)))]
         return probes.stops_in(call_program(words).decode())
 
-    for part, stops in zip(parts, side_by_side(ask, parts, lambda made: f"{made} of {len(parts)} questions where steps went", name)):
+    for part, stops in zip(
+        parts, side_by_side(ask, parts, lambda made: f"{made} of {len(parts)} questions where steps went", name)
+    ):
         for turn, stop in zip(part, stops):
             turn.stop = stop
 
 
 def memory_by_debug(run: Run, asked: list[tuple[int, str, int, int]]) -> list[bytes | None]:
     """Bytes of memory of a plain run: each is asked by a place, a context, an address and a length."""
-    commands, wanted = [], []
+    commands: list[tuple[int, str]] = []
+    wanted = []
     for place, context, address, length in asked:
         pages = range(address // PAGE, (address + length - 1) // PAGE + 1)
         wanted.append((len(commands), len(pages), address % PAGE, length))
@@ -333,14 +387,17 @@ def memory_by_debug(run: Run, asked: list[tuple[int, str, int, int]]) -> list[by
         lines += run.answers([line for place, command in part for line in (f"goto {place}", command)])[1::2]
     found: list[bytes | None] = []
     for first, count, offset, length in wanted:
-        pages = [line.split(" ")[3] if line.startswith("page ") else "absent" for line in lines[first : first + count]]
-        found.append(None if "absent" in pages else bytes.fromhex("".join(pages))[offset : offset + length])
+        digits = [
+            line.split(" ")[3] if line.startswith("page ") else "absent" for line in lines[first : first + count]
+        ]
+        found.append(None if "absent" in digits else bytes.fromhex("".join(digits))[offset : offset + length])
     return found
 
 
 class Memory:
-    """What is known of memory: a page that has been stored to, read to, mapped or unmapped in no context is as the image or the vault has it,
-    since a call takes a page over under its own number alone, and none takes a vault's page out. Of a plain run the program tells the others."""
+    """What is known of memory: a page that has been stored to, read to, mapped or unmapped in no context is as the
+    image or the vault has it, since a call takes a page over under its own number alone, and none takes a vault's page
+    out. Of a plain run the program tells the others."""
 
     def __init__(self, run: Run) -> None:
         self.run, self.changed = run, set[int]()
@@ -362,7 +419,11 @@ class Memory:
         start = self.of_vault if context in self.inside else self.run.image.pages
         if all(page in start and page not in self.changed for page in pages):
             return b"".join(start[page] for page in pages)[address % PAGE :][:length]
-        if self.run.kind != PLAIN or pages.stop > self.run.image.most_pages or len(self.run.steps) > MOST_STEPS_OF_DEBUG:
+        if (
+            self.run.kind != PLAIN
+            or pages.stop > self.run.image.most_pages
+            or len(self.run.steps) > MOST_STEPS_OF_DEBUG
+        ):
             return None
         return memory_by_debug(self.run, [(place, context, address, length)])[0]
 

@@ -1,8 +1,9 @@
 """What the slots of contexts have, followed from call to call, with the keys of each descriptor of a context.
 
-A report counts the slots of a context and says no more; `debug` says what each has, of a plain run, and not which keys. Both follow from the
-calls: a creation gives every key, a switch none, a restriction takes keys, and all else moves descriptors as they are. A slot that
-contexts have in common is one cell. Where the items of a call are not known, what they may have changed is not known either.
+A report counts the slots of a context and says no more; `debug` says what each has, of a plain run, and not which
+keys. Both follow from the calls: a creation gives every key, a switch none, a restriction takes keys, and all else
+moves descriptors as they are. A slot that contexts have in common is one cell. Where the items of a call are not
+known, what they may have changed is not known either.
 """
 
 from collections.abc import Iterable
@@ -69,7 +70,8 @@ def runs(name: str, bits: int) -> list[str]:
 
 @dataclass(frozen=True)
 class Value:
-    """What a slot has: the words that `debug` has for it, up to a place in a file, and the keys of a context's descriptor where they are known."""
+    """What a slot has: the words that `debug` has for it, up to a place in a file, and the keys of a context's
+    descriptor where they are known."""
 
     text: str
     keys: Keys | None = None
@@ -145,16 +147,22 @@ class Slots:
             self.tables[new] = [Cell(NOT_KNOWN) for _ in range(SLOTS)]
             self.entangle(name, new)
         else:
-            mode = {key: item.mode for item in items if item.kind == 1 for key in range(item.first, min(item.last, SLOTS))}
-            self.tables[new] = [cell if mode.get(key) == 1 else Cell(None if mode.get(key) == 2 else cell.value)
-                                for key, cell in enumerate(cells)]
+            mode = {
+                key: item.mode for item in items if item.kind == 1 for key in range(item.first, min(item.last, SLOTS))
+            }
+            self.tables[new] = [
+                cell if mode.get(key) == 1 else Cell(None if mode.get(key) == 2 else cell.value)
+                for key, cell in enumerate(cells)
+            ]
         self.put(name, slot, Value(CONTEXT + new, all_keys(self.most_pages)))
 
     def restrict(self, name: str, slot: int, items: list[Item] | None) -> None:
         """The keys that no item names are taken from a descriptor."""
         value = self.value(name, slot)
         if value is not None and value is not NOT_KNOWN:
-            self.put(name, slot, Value(value.text, value.keys.narrow(items) if value.keys and items is not None else None))
+            self.put(
+                name, slot, Value(value.text, value.keys.narrow(items) if value.keys and items is not None else None)
+            )
 
     def overlay(self, name: str, slot: int, items: list[Item] | None) -> None:
         """A context takes over from the one that a slot names."""
@@ -181,11 +189,16 @@ class Slots:
         return None
 
     def closed(self, name: str) -> str:
-        """Whether a context is closed, in a sentence: whether no descriptor in its slots has a key of another context."""
+        """Whether a context is closed, in a sentence: whether no descriptor in its slots has a key of another
+        context."""
         slot = self.opener(name)
         value = self.known(name)[slot] if slot is not None else None
         if value and value.keys:
             return f"not closed: slot {slot} opens {value.context} with {value.keys.words(self.most_pages)}"
         if value:
             return f"not told: slot {slot} has a descriptor of {value.context} whose keys do not follow"
-        return "closed: no slot has a key of another context" if self.is_whole(name) else "not told: what some slots have does not follow"
+        return (
+            "closed: no slot has a key of another context"
+            if self.is_whole(name)
+            else "not told: what some slots have does not follow"
+        )

@@ -1,6 +1,7 @@
 """A source: its lines and labels, where each part of its image comes from, and why the program refuses it.
 
-The grammar stays the program's: what a line should be is found by asking the program to assemble the line with other words in it.
+The grammar stays the program's: what a line should be is found by asking the program to assemble the line with other
+words in it.
 """
 
 import difflib
@@ -22,11 +23,17 @@ WORDS = re.compile(r"[^ \t,]+")
 MOST_OPERANDS = 3
 DIRECTIVES = (".page", ".file", ".slot", ".entry")
 # Names that are offered where one is misspelt.
-NAMES = ("LI LIH MOV ADD SUB MUL DIVU REMU AND OR XOR SHL SHR LTU EQ ADDI JMP JZ JNZ JAL JR LDB LDW STB STW SYS HALT "
-         ".form .uid .entry .page .file .slot").split()
-# A word of each kind of operand, with the name of the kind and what is accepted. A register's name is a label too where a number may be, so it comes later.
+NAMES = (
+    "LI LIH MOV ADD SUB MUL DIVU REMU AND OR XOR SHL SHR LTU EQ ADDI JMP JZ JNZ JAL JR LDB LDW STB STW SYS HALT "
+    ".form .uid .entry .page .file .slot"
+).split()
+# A word of each kind of operand, with the name of the kind and what is accepted. A register's name is a label too
+# where a number may be, so it comes later.
 KINDS = {
-    "0": ("a number", "a number is 0 to 4294967295 without a leading zero, 0x and one to eight hexadecimal digits, or -1 to -2147483648"),
+    "0": (
+        "a number",
+        "a number is 0 to 4294967295 without a leading zero, 0x and up to eight hex digits, or -1 to -2147483648",
+    ),
     "r0": ("a register", "registers are r0 to r15"),
     "-": ("bytes", "bytes are pairs of hexadecimal digits without blanks, or - for none, and a page has at most 4096"),
     "1": ("a form", "the form is 1 or 2"),
@@ -112,7 +119,11 @@ class Source:
     def image(self, program: str, work: WorkFolder) -> bytes:
         """The image that the program makes of the source; where it refuses, with the place and a reason."""
         self.program = program
-        return call_program([program, "asm", "--", self.path], [Input(IMAGE, self.name, self.path)], lambda rule, at: Reasons(self, work).of(rule, at))
+        return call_program(
+            [program, "asm", "--", self.path],
+            [Input(IMAGE, self.name, self.path)],
+            lambda rule, at: Reasons(self, work).of(rule, at),
+        )
 
     def assemble(self, program: str, work: WorkFolder) -> Input:
         """The image in a file of its own."""
@@ -144,7 +155,9 @@ def read_source(name: str, work: WorkFolder) -> Source:
     Input(IMAGE, name).read()
     macros = [MACROS] if os.path.exists(MACROS) else []
     try:
-        done = subprocess.run(["m4", "-s", "-I", os.path.dirname(MACROS), *macros, name], capture_output=True, check=False)
+        done = subprocess.run(
+            ["m4", "-s", "-I", os.path.dirname(MACROS), *macros, name], capture_output=True, check=False
+        )
     except FileNotFoundError as error:
         raise Refused(f"{name}: GNU m4 is needed (Debian's package m4)", 1) from error
     if done.returncode != 0:
@@ -176,7 +189,8 @@ class Reasons:
         if rule in ("BadLine", "BadOperand", "BadLabel"):
             return self.of_line(rule, self.line_at(offset))
         if rule == "TooLong":
-            return f"{self.source.name}: {rule}: a source has at most 167772160 bytes, and its image 8388608, or 75497472 of form 2"
+            most = "a source has at most 167772160 bytes, and its image 8388608, or 75497472 of form 2"
+            return f"{self.source.name}: {rule}: {most}"
         return self.of_image(rule, offset)
 
     def line_at(self, offset: int) -> Line:
@@ -208,7 +222,7 @@ class Reasons:
             return line.at_word(0, "BadLine", f"a second {line.name}: line {first.number} has one")
         behind = found.end() if (found := LABEL.match(line.code)) else 0
         if (colon := line.code.find(":", behind)) >= 0:
-            reason = "a label is a letter or _ and then up to 31 letters, digits or _, directly behind it `:`, and a line has one"
+            reason = "a line has at most one label: a letter or _, up to 31 letters, digits or _, and directly `:`"
             begin = line.code.rfind(" ", 0, colon) + 1
             return line.at(begin, "BadLine", reason)
         taken = self.kinds_of(line.name)
@@ -219,13 +233,22 @@ class Reasons:
         return line.at_word(1 + min(len(taken), has), "BadLine", reason)
 
     def misspelt(self, name: str) -> str:
-        near = [name.upper()] if name.upper() in NAMES else [name.lower()] if name.lower() in NAMES else difflib.get_close_matches(name.upper(), NAMES, 1)
+        near = (
+            [name.upper()]
+            if name.upper() in NAMES
+            else [name.lower()]
+            if name.lower() in NAMES
+            else difflib.get_close_matches(name.upper(), NAMES, 1)
+        )
         offered = f"; {near[0]} is one" if near else ""
         return f"there is no instruction or directive {name}{offered}"
 
     def kinds_of(self, name: str) -> list[str] | None:
-        """A word of each kind of operand that an instruction or directive takes, or None where there is none of the name."""
-        counts = [count for count in range(MOST_OPERANDS + 1) if self.rule_of(" ".join([name, *["x"] * count])) != "BadLine"]
+        """A word of each kind of operand that an instruction or directive takes, or None where there is none of the
+        name."""
+        counts = [
+            count for count in range(MOST_OPERANDS + 1) if self.rule_of(" ".join([name, *["x"] * count])) != "BadLine"
+        ]
         if not counts:
             return None
         words = itertools.product(KINDS, repeat=counts[0])
@@ -251,7 +274,11 @@ class Reasons:
         if words[place] != "0":
             return reason
         with_label = [*words[:place], NO_LABEL, *words[place + 1 :]]
-        return f"{reason}, or the name of a label" if self.rule_of(" ".join([name, *with_label])) == "BadLabel" else reason
+        return (
+            f"{reason}, or the name of a label"
+            if self.rule_of(" ".join([name, *with_label])) == "BadLabel"
+            else reason
+        )
 
     def bad_label(self, line: Line) -> str:
         """A label that is defined twice, or one that no line defines."""
@@ -260,7 +287,11 @@ class Reasons:
         if len(same) > 1 and same[0] is not line:
             return line.at(line.code.index(line.label), "BadLabel", f"line {same[0].number} defines {line.label} too")
         for place, word in enumerate(line.operands):
-            if word not in defined and self.rule_of(" ".join([line.name, *line.operands[:place], "0", *line.operands[place + 1 :]])) != "BadLabel":
+            if (
+                word not in defined
+                and self.rule_of(" ".join([line.name, *line.operands[:place], "0", *line.operands[place + 1 :]]))
+                != "BadLabel"
+            ):
                 near = difflib.get_close_matches(word, defined, 1)
                 offered = f"; line {defined[near[0]].number} defines {near[0]}" if near else ""
                 return line.at_word(1 + place, "BadLabel", f"no line defines {word}{offered}")
@@ -288,7 +319,9 @@ class Reasons:
         for begin, end, line in self.parts():
             if begin <= offset < end:
                 field = (offset - begin) // 4
-                word = field + 1 if line.name in (".slot", ".file") else len(line.operands) if rule == "BadTarget" else 1
+                word = (
+                    field + 1 if line.name in (".slot", ".file") else len(line.operands) if rule == "BadTarget" else 1
+                )
                 return line.at_word(word, rule, self.of_part(rule, line, field))
         return f"{self.source.name}: {rule} at {offset} of the image: {REASONS.get(rule, 'the program refuses it')}"
 
@@ -299,14 +332,16 @@ class Reasons:
         if rule == "BadFile":
             return "public is 0 or 1" if field == 1 else "the files have more than 1048576 bytes in all"
         if rule == "BadSlot" and field == 1:
-            return f"there {'is' if len(self.of_name('.file')) == 1 else 'are'} {plural(len(self.of_name('.file')), 'file')}, numbered from 0"
+            return f"the image has {plural(len(self.of_name('.file')), 'file')}, numbered from 0"
         before = self.of_name(line.name)
         place = before.index(line)
         if place and int(before[place - 1].operands[0], 0) >= int(line.operands[0], 0):
-            return f"{line.name} lines are in rising order, and line {before[place - 1].number} has {before[place - 1].operands[0]}"
+            last = before[place - 1]
+            return f"{line.name} lines are in rising order, and line {last.number} has {last.operands[0]}"
         if rule == "BadSlot":
             return "a slot is 2 to 63: 0 and 1 have the console"
-        return f"a page is below {self.most_pages()}{'' if self.most_pages() > 1024 else ', with .form 2 below 16384'}, and pages are in at most 64 runs"
+        other = "" if self.most_pages() > 1024 else ", with .form 2 below 16384"
+        return f"a page is below {self.most_pages()}{other}, and pages are in at most 64 runs"
 
     def of_name(self, name: str) -> list[Line]:
         """The lines that have this directive."""
@@ -318,11 +353,18 @@ class Reasons:
 
     def bad_count(self, offset: int) -> str:
         """Too many or too few lines of one kind."""
-        kind, one, most = {4: ("", "instruction", 65536), 8: (".page", "page", 1024), 12: (".file", "file", 64), 16: (".slot", "slot", 62),
-                           20: (".entry", ".entry line", 16)}[offset]
+        kind, one, most = {
+            4: ("", "instruction", 65536),
+            8: (".page", "page", 1024),
+            12: (".file", "file", 64),
+            16: (".slot", "slot", 62),
+            20: (".entry", ".entry line", 16),
+        }[offset]
         lines = self.of_name(kind) if kind else self.source.made
         if not lines:
-            return f"{self.source.name}: BadCount: there is no {one}" + (", and a thread begins at one" if kind else "")
+            return f"{self.source.name}: BadCount: there is no {one}" + (
+                ", and a thread begins at one" if kind else ""
+            )
         most = self.most_pages() if kind == ".page" else most
         return lines[min(most, len(lines) - 1)].at_word(0, "BadCount", f"an image has at most {plural(most, one)}")
 
