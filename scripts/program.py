@@ -1,56 +1,233 @@
-"""What the scripts have in common: where the program is, how it is run, and a line of progress on a terminal."""
+"""What the scripts have in common: how one reads its words and ends, where the program is and how it is run."""
 
+from __future__ import annotations
+
+import argparse
+import hashlib
+import io
 import os
+import signal
 import subprocess
 import sys
+import tempfile
 import time
+from collections.abc import Callable, Iterator, Sequence
+from contextlib import contextmanager, suppress
+from types import FrameType
+from typing import IO, TYPE_CHECKING, Any, NoReturn
 
-TOP = os.path.dirname(os.path.dirname(os.path.realpath(__file__)))
+from checkout import PROGRAM
+from checkout import TOP as TOP
+
+if TYPE_CHECKING:
+    from _typeshed import SupportsWrite
+
+GUESTS = os.path.join(TOP, "guests")
 LAUNCHER = os.path.join(TOP, "lwcrun")
-BUILT = os.path.join(TOP, "crates", "lwcrun", "out", "lwcrun")
-SKIPPED = 77
+NAME = os.path.basename(sys.argv[0])
+# Statuses of the scripts, of which the program has the first three too, and one of tests.
+FAILED, CANNOT_READ, CANNOT_WRITE, SKIPPED = 1, 3, 4, 77
 
 
-def find_program(given=None):
-    """The program that is given, or that the variable LWCRUN names, or else this checkout's, built first where it has to be."""
-    named = given or os.environ.get("LWCRUN")
-    if named:
-        if not os.access(named, os.X_OK):
-            give_up(f"{os.path.basename(sys.argv[0])}: no program is at {named}", 1)
-        return os.path.realpath(named)
-    # The launcher takes a moment each time, so it runs once, on a small image, and the program itself after that.
-    done = subprocess.run([LAUNCHER, "dis", os.path.join(TOP, "guests", "store_load.lwc")], stdout=subprocess.DEVNULL, check=False)
-    if done.returncode != 0:
-        sys.exit(done.returncode)
-    return BUILT
+def run_script(main: Callable[[], int]) -> NoReturn:
+    """Runs a script and ends with the status that it answers. A signal, a closed pipe, an error of a file ends it too.
+    Each is raised in the script, so that its temporary folders and its programs go, and is told by a line at most."""
+    if sys.stderr is None:
+        sys.stderr = open(os.devnull, "w", encoding="ascii")
+    if sys.stdout is None:
+        give_up(f"{NAME}: standard output is closed", FAILED)
+    for number in (signal.SIGTERM, signal.SIGHUP):
+        signal.signal(number, end_by_signal)
+    for stream in (sys.stdout, sys.stderr):
+        # A file's name may be no text: then it is shown by escapes.
+        if isinstance(stream, io.TextIOWrapper):
+            stream.reconfigure(errors="backslashreplace")
+    status = status_of(main)
+    try:
+        sys.stdout.flush()
+    except OSError:
+        # What could not be written is let go: Python would try again at the end, and fail in many lines.
+        os.dup2(os.open(os.devnull, os.O_WRONLY), sys.stdout.fileno())
+    sys.exit(status)
 
 
-def run_program(words):
-    """What the program writes for the words, as bytes; where its status is not 0, the script ends with its line and status."""
-    done = subprocess.run(words, capture_output=True, check=False)
-    if done.returncode != 0:
-        give_up(done.stderr.decode(errors="replace").strip() or f"{words[0]}: status {done.returncode}", done.returncode)
-    return done.stdout
+def status_of(main: Callable[[], int]) -> int:
+    """The status with which a script ends, and a line on standard error where it could not go on."""
+    try:
+        try:
+            status = main()
+        except SystemExit as ended:
+            status = ended.code if isinstance(ended.code, int) else FAILED
+        sys.stdout.flush()
+        return status
+    except KeyboardInterrupt:
+        return 128 + signal.SIGINT
+    except BrokenPipeError:
+        return 128 + signal.SIGPIPE
+    except OSError as error:
+        say(f"{error.filename}: {error.strerror}" if error.filename else f"cannot write: {error.strerror}")
+        return CANNOT_READ if error.filename else CANNOT_WRITE
+    except UnicodeDecodeError as error:
+        say(f"a file that should be text is not: {error.reason} at {error.start}")
+        return FAILED
 
 
-def give_up(line, status):
+def end_by_signal(number: int, _: FrameType | None) -> NoReturn:
+    """Ends the script by a signal, once: what is to be removed is removed, whatever comes meanwhile."""
+    for other in (signal.SIGTERM, signal.SIGHUP, signal.SIGINT):
+        signal.signal(other, signal.SIG_IGN)
+    sys.exit(128 + number)
+
+
+def say(line: str) -> None:
+    """Says a line on standard error, with the script's name before it."""
+    print(f"{NAME}: {line}", file=sys.stderr, flush=True)
+
+
+def give_up(line: str, status: int) -> NoReturn:
     """Ends the script with a line on standard error. The status is above 128 where a signal ended what it is of."""
     print(line, file=sys.stderr)
     sys.exit(status if status >= 0 else 128 - status)
 
 
-class Progress:
-    """One line on a terminal that says how far the work is, written again five times a second at most; none elsewhere."""
+class Parser(argparse.ArgumentParser):
+    """A parser that does not let a failed write of its help pass in silence."""
 
-    def __init__(self, name):
+    def print_help(self, file: SupportsWrite[str] | None = None) -> None:
+        (file or sys.stdout).write(self.format_help())
+        sys.stdout.flush()
+
+
+def parser_of(doc: str | None) -> argparse.ArgumentParser:
+    """A parser of a script's words. Its --help is the text of the script: what it does and prints, its statuses."""
+    layout = argparse.RawDescriptionHelpFormatter
+    return Parser(prog=NAME, description=doc, formatter_class=layout, allow_abbrev=False)
+
+
+def at_least(least: int) -> Callable[[str], int]:
+    """Reads a word of a script's line that is a number, and refuses one that is smaller."""
+
+    def number(word: str) -> int:
+        if not (word.isascii() and word.isdigit()) or int(word) < least:
+            raise argparse.ArgumentTypeError(f"{word!r} is no number from {least} on")
+        return int(word)
+
+    return number
+
+
+def find_program(given: str | None = None) -> str:
+    """The program that is given, or that LWCRUN names, or else this checkout's, built first where it has to be."""
+    named = given or os.environ.get("LWCRUN")
+    if named:
+        if not (os.path.isfile(named) and os.access(named, os.X_OK)):
+            give_up(f"{NAME}: no program is at {named}", FAILED)
+        return os.path.realpath(named)
+    # The launcher takes a moment each time, so it runs once, on a small image, and the program itself after that.
+    status = run_child([LAUNCHER, "dis", os.path.join(GUESTS, "store_load.lwc")], subprocess.DEVNULL)
+    if status != 0:
+        sys.exit(status)
+    return PROGRAM
+
+
+def run_child(words: Sequence[str], out: int | None = None) -> int:
+    """Runs a script, which ends what it has begun when it is told to end. Answers its status."""
+    with subprocess.Popen(words, stdin=subprocess.DEVNULL, stdout=out) as child:
+        try:
+            status = child.wait()
+        except BaseException:
+            child.terminate()
+            raise
+    return status if status >= 0 else 128 - status
+
+
+def run_program(words: Sequence[str]) -> bytes:
+    """What the program writes for the words; where its status is not 0, the script ends with its line and status."""
+    done = subprocess.run(words, stdin=subprocess.DEVNULL, capture_output=True, check=False)
+    if done.returncode != 0:
+        said = done.stderr.decode(errors="replace").strip()
+        give_up(said or f"{words[0]}: status {done.returncode}", done.returncode)
+    return done.stdout
+
+
+@contextmanager
+def in_session(words: Sequence[str], folder: str, out: IO[Any], **more: str) -> Iterator[subprocess.Popen[bytes]]:
+    """A program that runs in a folder, with more variables, in a session of its own. When the script leaves it, also
+    by a signal, whatever the program has begun is ended. What it writes and says goes to one file."""
+    process = subprocess.Popen(
+        words,
+        cwd=folder,
+        env={**os.environ, **more},
+        stdin=subprocess.DEVNULL,
+        stdout=out,
+        stderr=out,
+        start_new_session=True,
+    )
+    try:
+        yield process
+    finally:
+        end_session(process.pid)
+        process.wait()
+
+
+def end_session(session: int) -> None:
+    """Ends each process of a session."""
+    for name in os.listdir("/proc"):
+        with suppress(ProcessLookupError):
+            if name.isdigit() and os.getsid(int(name)) == session:
+                os.kill(int(name), signal.SIGKILL)
+
+
+def sum_of(file: str) -> str:
+    """The sum of a file's bytes."""
+    with open(file, "rb") as content:
+        return hashlib.sha256(content.read()).hexdigest()
+
+
+def output_of(words: Sequence[str]) -> str:
+    """What a command prints, without the last line feed; nothing where it is not there or fails."""
+    try:
+        done = subprocess.run(words, stdin=subprocess.DEVNULL, capture_output=True, check=False)
+    except OSError:
+        return ""
+    return done.stdout.decode(errors="replace").strip() if done.returncode == 0 else ""
+
+
+class WorkFolder:
+    """A folder for the files of a script, which goes when the script ends: `with WorkFolder() as folder`."""
+
+    def __init__(self) -> None:
+        self._made = tempfile.TemporaryDirectory(prefix=f"{NAME}-")
+        self.folder = self._made.name
+
+    def __enter__(self) -> WorkFolder:
+        return self
+
+    def __exit__(self, *_: object) -> None:
+        self._made.cleanup()
+
+    def path(self, name: str) -> str:
+        """The path of a file in the folder."""
+        return os.path.join(self.folder, name)
+
+    def write(self, name: str, content: bytes | str) -> str:
+        """Writes a file in the folder. Answers its path."""
+        with open(self.path(name), "wb") as file:
+            file.write(content.encode() if isinstance(content, str) else content)
+        return self.path(name)
+
+
+class Progress:
+    """One line on a terminal that says how far the work is, written five times a second at most; none elsewhere."""
+
+    def __init__(self, name: str = NAME) -> None:
         self.name, self.began, self.shown, self.last = name, time.monotonic(), sys.stderr.isatty(), 0.0
 
-    def show(self, line):
+    def show(self, line: str) -> None:
         now = time.monotonic()
         if self.shown and now - self.last > 0.2:
             self.last = now
             print(f"\r\033[K{self.name}: {line}, {now - self.began:.0f} s"[:120], end="", file=sys.stderr, flush=True)
 
-    def clear(self):
+    def clear(self) -> None:
         if self.shown and self.last:
             print("\r\033[K", end="", file=sys.stderr, flush=True)

@@ -1,0 +1,176 @@
+"""Refusals with a place: the program names a rule and an offset, and this says the file, the line and the column, with
+the line and a caret below it.
+
+The grammar of every file is the program's alone. What is added here is a sentence for each rule, and what stands at
+the offset.
+"""
+
+import re
+import subprocess
+import sys
+from collections.abc import Callable, Iterable, Sequence
+from dataclasses import dataclass
+
+from program import give_up
+
+WIDE = 100
+REFUSAL = re.compile(r"lwcrun: (image|input) refused: (\w+) at (\d+)$")
+SCHEDULE, REQUESTS, SCRIPT, VAULT, IMAGE = "schedule", "requests", "script", "vault", "image"
+# Which file a rule of an input is about, where the rule alone tells; TooLong is told by its offset, the most bytes
+# that the file may have.
+ROLES = {
+    "BadThread": SCHEDULE,
+    "TooManySteps": SCHEDULE,
+    "BadHex": REQUESTS,
+    "OddLength": REQUESTS,
+    "RequestTooLong": REQUESTS,
+    "TooManyRequests": REQUESTS,
+    "TooMuchWork": REQUESTS,
+    "BadCommand": SCRIPT,
+    "TooManyCommands": SCRIPT,
+    "Truncated": VAULT,
+    "BadEntry": VAULT,
+    "BadPage": VAULT,
+    "SlotTaken": VAULT,
+}
+LONGEST = {16777216: SCHEDULE, 8390656: REQUESTS, 65536: SCRIPT, 262404: VAULT}
+REASONS = {
+    "TooManySteps": "a schedule has at most 16000000 steps, and for debug 100000",
+    "OddLength": "a request is pairs of hexadecimal digits, and the last digit of this line is alone",
+    "RequestTooLong": "a request has at most 4096 bytes, which are 8192 digits",
+    "TooManyRequests": "a request file has at most 1024 lines; scripts/serve-many takes more",
+    "TooMuchWork": "requests * (budget + 1) + workers is above 16000000; lower --budget, or take fewer requests",
+    "BadCommand": "no command of the debugger: its words are parted by one space, and a number has one to nine digits",
+    "TooManyCommands": "a script has at most 64 commands",
+    "TooLong": "the file is longer than the program takes",
+    "Truncated": "the file ends here, inside a part of it or before one that has to be there",
+    "SlotTaken": "the image has a file in slot 63, which the vault needs",
+    "Trailing": "bytes follow the last entry of the image",
+    "BadMagic": "an image begins with LWC1 or LWC2; a source has to be assembled first, as scripts/assemble does",
+    "BadCount": "a count of the header is out of its range",
+    "BadInstruction": "these eight bytes are no instruction",
+    "BadTarget": "a jump to an instruction behind the last one",
+    "BadPage": "the page's number is too large, or does not rise, or begins a 65th run of pages",
+    "BadFile": "public is neither 0 nor 1, or the files have more than 1048576 bytes in all",
+    "BadSlot": "the slot is not one of 2 to 63, or does not rise, or the image has no file of this number",
+    "BadEntry": "the entry is behind the last instruction of the image",
+}
+
+
+class Refused(Exception):
+    """What a tool cannot do, in a sentence, and the status with which it ends."""
+
+    def __init__(self, line: str, status: int) -> None:
+        super().__init__(line)
+        self.line, self.status = line, status
+
+
+@dataclass
+class Input:
+    """A file that the program reads: what it is, its name for the user, where it lies, and from where in the user's
+    file it was taken."""
+
+    role: str
+    name: str
+    path: str = ""
+    base: int = 0
+
+    def __post_init__(self) -> None:
+        self.path = self.path or self.name
+
+    def read(self) -> bytes:
+        """The bytes that the program reads."""
+        return read_file(self.path)
+
+    def shown(self) -> bytes:
+        """The bytes of the user's own file, in which a place is shown."""
+        return read_file(self.path if self.name == "-" or not self.base else self.name)
+
+
+def read_file(name: str) -> bytes:
+    """The bytes of a file, or of the standard input under the name `-`."""
+    try:
+        if name == "-":
+            return sys.stdin.buffer.read()
+        with open(name, "rb") as file:
+            return file.read()
+    except OSError as error:
+        raise Refused(f"cannot read {name}: {error.strerror}", 3) from error
+
+
+def call_program(
+    words: Sequence[str], inputs: Iterable[Input] = (), explain: Callable[[str, int], str] | None = None
+) -> bytes:
+    """What the program writes for the words. Where its status is not 0 it is refused with the program's status, and
+    with a place where the program tells an offset. Of an image `explain` may know more than its bytes do."""
+    try:
+        done = subprocess.run(words, capture_output=True, check=False)
+    except OSError as error:
+        raise Refused(f"cannot run {words[0]}: {error.strerror}", 1) from error
+    if done.returncode == 0:
+        return done.stdout
+    said = done.stderr.decode(errors="replace").strip().rpartition("\n")[2]
+    found = REFUSAL.search(said)
+    status = done.returncode if done.returncode > 0 else 128 - done.returncode
+    if not found:
+        raise Refused(said or f"{words[0]}: ended with status {status}", status)
+    what, rule, offset = found[1], found[2], int(found[3])
+    if what == IMAGE and explain:
+        raise Refused(explain(rule, offset), status)
+    role = IMAGE if what == IMAGE else ROLES.get(rule) or LONGEST.get(offset, "")
+    for each in inputs:
+        if each.role == role:
+            raise Refused(refusal(each, rule, offset), status)
+    raise Refused(said, status)
+
+
+def refusal(file: Input, rule: str, offset: int) -> str:
+    """A refusal of a file, with its place and its reason."""
+    if file.role in (IMAGE, VAULT) or rule == "TooLong":
+        return f"{file.name}: {rule} at {offset}: {REASONS.get(rule, 'the program refuses it')}"
+    data, at = file.shown(), offset + file.base
+    found = data[at : at + 1]
+    reason = REASONS.get(rule) or of_byte(rule, found)
+    if rule == "TooMuchWork":
+        return f"{file.name}: {rule}: {reason}"
+    begin = data.rfind(b"\n", 0, at) + 1
+    end = data.find(b"\n", at)
+    line = data[begin : end if end >= 0 else len(data)].decode("latin-1").rstrip("\r")
+    return at_place(file.name, data.count(b"\n", 0, at) + 1, at - begin, rule, reason, line)
+
+
+def of_byte(rule: str, found: bytes) -> str:
+    """The reason for a rule about one byte."""
+    shown = repr(found.decode("latin-1")) if found else "the end of the file"
+    if rule == "BadHex":
+        return f"a request is hexadecimal digits alone, and here is {shown}"
+    if found and found in b"0123456789abcdef":
+        return f"this run has no thread {found.decode()}: an image has one for each .entry, a serve for each worker"
+    return f"a schedule is digits 0 to 9 and a to f, and here is {shown}"
+
+
+def at_place(name: str, line: int, column: int, rule: str, reason: str, text: str) -> str:
+    """A refusal as compilers write it: the place, the rule and the reason, and below them the line with a caret. The
+    column counts from 0."""
+    before, text = (plain(part) for part in (text[:column], text))
+    at, column = column, len(before)
+    cut = max(0, column - WIDE // 2) if len(text) > WIDE else 0
+    shown = text[cut : cut + WIDE]
+    return f"{name}:{line}:{at + 1}: {rule}: {reason}\n    {shown}\n    {' ' * (column - cut)}^"
+
+
+def plain(text: str) -> str:
+    """A line of bytes, each of which is a character here, as it is shown."""
+    return text.encode("latin-1", "replace").decode("utf-8", "replace").replace("\t", " ")
+
+
+def refusing(main: Callable[[], int]) -> Callable[[], int]:
+    """A script's main that ends with a line where it cannot do something."""
+
+    def refused() -> int:
+        try:
+            return main()
+        except Refused as error:
+            return give_up(error.line, error.status)
+
+    return refused

@@ -1,0 +1,436 @@
+"""The run that a tool shows: what it is a run of, its steps, and what the program answers about them.
+
+A schedule alone does not tell whether its steps are those of a plain run, of a serve, of a run under a monitor or
+beside a vault. A report does, or the options do; and where there is a report, the replay has to end as it says. A run
+that cannot be made again is refused here.
+"""
+
+import argparse
+import concurrent.futures
+import os
+import re
+import threading
+from collections.abc import Callable, Iterable, Iterator, Sequence
+from dataclasses import dataclass
+from typing import Any, TypeVar
+
+import probes
+from images import PAGE, Image, read_image, read_vault
+from names import ITEMS, MOST_ITEMS, TRAP, Item, read_items
+from places import IMAGE, REQUESTS, SCHEDULE, SCRIPT, Input, Refused, call_program, read_file
+from program import Progress, WorkFolder, find_program
+from run_report import Report, ReportError, Thread, read_report, thread_of
+from sources import Source, read_source
+
+PLAIN, SERVE, MONITOR, VAULT = "plain", "serve", "monitor", "vault"
+KINDS = {PLAIN: "a plain run", SERVE: "a serve", MONITOR: "a run under a monitor", VAULT: "a run beside a vault"}
+MOST_COMMANDS = 64
+MOST_STEPS_OF_DEBUG = 100000
+JOBS = os.cpu_count() or 1
+VAULT_SLOT, VAULT_CONTEXT = 63, "0.1"
+Given = TypeVar("Given")
+Made = TypeVar("Made")
+
+FILES = """IMAGE is an image, or a source, which is assembled first. SCHEDULE is a schedule, or a report of a run of
+the image: its line `schedule` is taken, and the end of the run is compared with it. A report tells what it is a run
+of. A schedule alone does not: give --monitor, --vault FILE or --requests FILE where it is no plain run.
+
+Status 0: success; 1: the run cannot be shown; 2: the line is not accepted; 3 to 7: as the program's; 130: Ctrl-C."""
+
+
+def add_options(parser: argparse.ArgumentParser) -> None:
+    """The files and options that say which run it is."""
+    parser.add_argument("image", metavar="IMAGE")
+    parser.add_argument("schedule", metavar="SCHEDULE")
+    kind = parser.add_mutually_exclusive_group()
+    kind.add_argument("--requests", metavar="FILE", help="the run is a serve of these requests")
+    kind.add_argument("--vault", metavar="FILE", help="the run is one beside this vault")
+    kind.add_argument("--monitor", action="store_true", help="the run is one under a monitor")
+    kind.add_argument("--plain", action="store_true", help="the run is none of these, though the guest makes call 21")
+    parser.add_argument("--frames", metavar="F", help="as for the program, 4096 if left out")
+    parser.add_argument("--budget", metavar="B", help="as for the program, 10000 if left out")
+    parser.add_argument(
+        "--workers", metavar="W", help="as for the program: of a serve, as many as its report has, or 4"
+    )
+    parser.add_argument("--source", metavar="SOURCE", help="the source of the image, for labels")
+    parser.add_argument("--program", help="the program; else what LWCRUN names, else this checkout's")
+
+
+@dataclass
+class Turn:
+    """A step of the run: its thread before and after it, where it came to, and the items that its call read, where
+    they are known."""
+
+    step: int
+    thread: int
+    was: Thread
+    now: Thread
+    stop: probes.Stop | None = None
+    items: list[Item] | None = None
+    before: Report | None = None
+    after: Report | None = None
+
+
+@dataclass
+class Run:
+    """A run that can be made again, as often as one likes. `place` is a number of its kept steps."""
+
+    program: str
+    files: dict[str, Input]
+    kind: str
+    options: list[str]
+    work: WorkFolder
+    image: Image
+    source: Source | None
+    steps: str = ""
+
+    @property
+    def name(self) -> str:
+        """What the run is of, in words."""
+        return KINDS[self.kind]
+
+    def words(self, schedule: str) -> list[str]:
+        """The words for the program that make the run with a schedule in a file."""
+        mode = {MONITOR: "monitor", VAULT: "vault"}.get(self.kind, "replay")
+        between, behind = [self.files[VAULT].path] if self.kind == VAULT else [], [
+            self.files[SERVE].path
+        ] if self.kind == SERVE else []
+        return [self.program, mode, *self.options, "--", self.files["image"].path, *between, schedule, *behind]
+
+    def text_of(self, schedule: str) -> str:
+        """The report of the run with a schedule in a file."""
+        return call_program(self.words(schedule), self.files.values()).decode()
+
+    def text_at(self, place: int) -> str:
+        """The report of the first steps."""
+        return self.text_of(self.write("schedule", self.steps[:place]))
+
+    def write(self, name: str, content: bytes | str) -> str:
+        """Writes a file for one call of the program. Each of the threads that ask side by side has its own."""
+        return self.work.write(f"{name}.{threading.get_ident()}", content)
+
+    def report(self, place: int) -> Report:
+        """The same, read."""
+        return read_report(self.text_at(place))
+
+    def answers(self, commands: Sequence[str]) -> list[str]:
+        """What the program's mode `debug` answers to a script of at most 64 commands, which only a plain run has."""
+        script = self.write("script", "".join(f"{command}\n" for command in commands))
+        files = [self.files["image"].path, self.write("schedule", self.steps), script]
+        words = [self.program, "debug", *self.options, "--", *files]
+        return call_program(words, [*self.files.values(), Input(SCRIPT, "the command", script)]).decode().splitlines()
+
+    def at(self, place: int, *commands: str) -> list[str]:
+        """What `debug` answers to commands at a place."""
+        return self.answers([f"goto {place}", *commands])[1:]
+
+    def slots(self, place: int, context: str) -> dict[int, str]:
+        """What the slots of a context have at a place of a plain run, by `debug`; those that are empty are left
+        out."""
+        lines = [
+            line
+            for first in (0, 32)
+            for line in self.at(place, *(f"slot {context} {slot}" for slot in range(first, first + 32)))
+        ]
+        found = {int(words[2]): words[3] for line in lines if len(words := line.split(" ", 3)) == 4}
+        return {slot: value for slot, value in found.items() if value != "empty"}
+
+
+# What the run is of.
+
+
+def schedule_in(text: str) -> str | None:
+    """The schedule of a report's line `schedule`, or None where the text has no such line."""
+    found = re.search(r"^schedule ([0-9a-f]+|-)$", text, re.MULTILINE)
+    return found[1].replace("-", "") if found else None
+
+
+def in_order(text: str) -> list[str]:
+    """The lines of a report; those of replies, which a stream writes first, at one place."""
+    lines = text.splitlines()
+    return sorted(lines, key=lambda line: not line.startswith("reply "))
+
+
+def kind_of(report: Report) -> str | None:
+    """What a report is of by its lines, or None where these do not tell."""
+    homes = {f"0.{worker + 1}" for worker in range(len(report.threads))}
+    if (
+        report.replies
+        or homes <= report.contexts.keys()
+        and all(it.status in ("idle", "done 0") for it in report.threads)
+        and ("0.0" not in report.contexts)
+    ):
+        return SERVE
+    if report.traps:
+        return MONITOR
+    return VAULT if "0.1" in report.contexts else None
+
+
+def given_kind(given: argparse.Namespace) -> str | None:
+    """What the run is of by the options, or None."""
+    return (
+        SERVE
+        if given.requests
+        else VAULT
+        if given.vault
+        else MONITOR
+        if given.monitor
+        else PLAIN
+        if given.plain
+        else None
+    )
+
+
+NEEDED = {SERVE: "its requests are needed, by --requests FILE", VAULT: "its vault is needed, by --vault FILE"}
+
+
+def kinds_to_try(given: argparse.Namespace, image: Image, report: Report | None) -> list[str]:
+    """What the run may be of, in the order in which that is tried."""
+    said, told = given_kind(given), kind_of(report) if report else None
+    if said and told and said != told:
+        raise Refused(f"{given.schedule} is the report of {KINDS[told]}, and not of {KINDS[said]}", 1)
+    if told and told in NEEDED and not said:
+        raise Refused(f"{given.schedule} is the report of {KINDS[told]}: {NEEDED[told]}", 1)
+    if said or told:
+        return [said or told or PLAIN]
+    if image.has_call(TRAP) and not report:
+        raise Refused(
+            f"{given.image} makes call {TRAP}, which only a run under a monitor has: give --monitor, or --plain",
+            1,
+        )
+    return [PLAIN, MONITOR] if report else [PLAIN]
+
+
+def open_run(given: argparse.Namespace, work: WorkFolder) -> Run:
+    """The run that the words of a line name, made once to its end."""
+    program = find_program(given.program)
+    source = read_source(given.source or given.image, work) if given.source or not is_image(given.image) else None
+    image_file = source.assemble(program, work) if source and not is_image(given.image) else Input(IMAGE, given.image)
+    listing = call_program([program, "dis", "--", image_file.path], [image_file]).decode()
+    image = read_image(image_file.read(), listing)
+    if source and given.source:
+        source.compare(program, image_file, work)
+    files = {"image": image_file}
+    files |= {
+        kind: Input(role, name)
+        for kind, role, name in ((SERVE, REQUESTS, given.requests), (VAULT, VAULT, given.vault))
+        if name
+    }
+    written, report, files["schedule"] = read_schedule(given.schedule, work)
+    differ: list[str] = []
+    for kind in kinds_to_try(given, image, report):
+        run = Run(program, files, kind, options_of(given, kind, report), work, image, source)
+        text = run.text_of(files["schedule"].path)
+        if not report or in_order(text) == in_order(written):
+            run.steps = read_report(text).schedule
+            return run
+        differ.append(difference(KINDS[kind], text, written))
+    raise Refused(
+        f"{given.schedule} is not what the program makes of this image and these options:\n" + "\n".join(differ), 1
+    )
+
+
+def difference(name: str, text: str, written: str) -> str:
+    """The first line at which a replay and a report differ."""
+    for ours, theirs in zip(in_order(text) + [""], in_order(written) + [""]):
+        if ours != theirs:
+            return f"  as {name}: the replay has `{ours[:100]}` where the report has `{theirs[:100]}`"
+    return f"  as {name}: the replay has more lines, or fewer"
+
+
+def is_image(name: str) -> bool:
+    """Whether a file begins as an image does, or is not there."""
+    try:
+        with open(name, "rb") as file:
+            return file.read(3) == b"LWC"
+    except OSError:
+        return True
+
+
+def read_schedule(name: str, work: WorkFolder) -> tuple[str, Report | None, Input]:
+    """The text of a schedule or report in a file, or in the standard input under the name `-`; the report, where it is
+    one; and the schedule as a file for the program."""
+    data = read_file(name)
+    text = data.decode("latin-1")
+    schedule = schedule_in(text)
+    if schedule is None:
+        return text, None, Input(SCHEDULE, name, work.write("schedule", data) if name == "-" else name)
+    try:
+        report = read_report(text)
+    except ReportError as error:
+        raise Refused(f"{name} has a line `schedule`, but is no report: {error}", 1) from error
+    base = text.index("schedule ") + len("schedule ")
+    return text, report, Input(SCHEDULE, name, work.write("schedule", schedule), base)
+
+
+def options_of(given: argparse.Namespace, kind: str, report: Report | None) -> list[str]:
+    """The options for the program. The number of workers is that of the report's threads, where it is not given."""
+    workers = given.workers or (str(len(report.threads)) if report and kind == SERVE else None)
+    if workers and kind != SERVE:
+        raise Refused("--workers is for a serve, with --requests FILE", 2)
+    return [
+        word
+        for name, value in (("frames", given.frames), ("budget", given.budget), ("workers", workers))
+        if value
+        for word in (f"--{name}", value)
+    ]
+
+
+# The steps, with what the program answers about each.
+
+
+def side_by_side(
+    work: Callable[[Given], Made], given: Iterable[Given], said: Callable[[int], str], name: str
+) -> Iterator[Made]:
+    """The results of some work, done side by side and handed out in order; no more than a few are begun ahead, so that
+    a failure ends soon."""
+    progress = Progress(name)
+    with concurrent.futures.ThreadPoolExecutor(JOBS) as pool:
+        waiting: list[concurrent.futures.Future[Made]] = []
+        try:
+            for made, it in enumerate(given, 1):
+                waiting.append(pool.submit(work, it))
+                if len(waiting) > 4 * JOBS:
+                    yield waiting.pop(0).result()
+                progress.show(said(made - len(waiting)))
+            while waiting:
+                yield waiting.pop(0).result()
+        finally:
+            for future in waiting:
+                future.cancel()
+            progress.clear()
+
+
+def beginnings(run: Run, last: int, name: str) -> Iterator[Report]:
+    """The reports after 0, 1, 2 .. steps."""
+    yield from side_by_side(
+        run.report, range(last + 1), lambda made: f"{made} of {last + 1} beginnings replayed", name
+    )
+
+
+def threads_by_debug(run: Run, last: int, name: str) -> Iterator[Thread]:
+    """The thread of each step of a plain run after it: the program answers for as many steps at once as a script has
+    commands."""
+
+    def ask(first: int) -> list[Thread]:
+        steps = range(first, min(first + MOST_COMMANDS // 2, last + 1))
+        lines = run.answers(
+            [line for step in steps for line in (f"goto {step}", f"thread {int(run.steps[step - 1], 16)}")]
+        )
+        found = [thread_of(line.split(" ")) for line in lines[1::3]]
+        for thread, line in zip(found, lines[2::3]):
+            thread.regs = [int(word) for word in line.split(" ")[2:]]
+        return found
+
+    starts = range(1, last + 1, MOST_COMMANDS // 2)
+    for found in side_by_side(ask, starts, lambda made: f"{made * MOST_COMMANDS // 2} of {last} steps", name):
+        yield from found
+
+
+def turns_of(run: Run, last: int, name: str, whole: bool) -> list[Turn]:
+    """The first steps of a run. With `whole` each has the reports before and after it; of a plain run the threads
+    alone are fewer questions."""
+    if whole or run.kind != PLAIN:
+        reports = list(beginnings(run, last, name))
+        made = [
+            Turn(i + 1, t := int(run.steps[i], 16), old.threads[t], new.threads[t], before=old, after=new)
+            for i, (old, new) in enumerate(zip(reports, reports[1:]))
+        ]
+    else:
+        latest, made = dict(enumerate(run.report(0).threads)), []
+        for i, now in enumerate(threads_by_debug(run, last, name)):
+            thread = int(run.steps[i], 16)
+            made.append(Turn(i + 1, thread, latest[thread], now))
+            latest[thread] = now
+    ask_stops(run, made, name)
+    return made
+
+
+def ask_stops(run: Run, turns: list[Turn], name: str) -> None:
+    """Notes where each step came to."""
+    asked = []
+    for turn in turns:
+        if turn.was.status == "idle":
+            continue
+        if turn.now.status.startswith(("done", "fault")) and turn.now.status != "fault 5":
+            turn.stop = probes.Stop(turn.now.pc, False, turn.now.regs)
+        else:
+            asked.append(turn)
+    most = probes.room(run.image)
+    if most <= 0:
+        return
+    parts = [asked[at : at + most] for at in range(0, len(asked), most)]
+
+    def ask(part: list[Turn]) -> list[probes.Stop]:
+        image = run.write("probe", probes.probe_image(run.image, [it.was for it in part]))
+        words = [run.program, "replay", image, run.write("schedule", probes.probe_schedule(len(part)))]
+        return probes.stops_in(call_program(words).decode())
+
+    for part, stops in zip(
+        parts, side_by_side(ask, parts, lambda made: f"{made} of {len(parts)} questions where steps went", name)
+    ):
+        for turn, stop in zip(part, stops):
+            turn.stop = stop
+
+
+def memory_by_debug(run: Run, asked: list[tuple[int, str, int, int]]) -> list[bytes | None]:
+    """Bytes of memory of a plain run: each is asked by a place, a context, an address and a length."""
+    commands: list[tuple[int, str]] = []
+    wanted = []
+    for place, context, address, length in asked:
+        pages = range(address // PAGE, (address + length - 1) // PAGE + 1)
+        wanted.append((len(commands), len(pages), address % PAGE, length))
+        commands += [(place, f"page {context} {page}") for page in pages]
+    lines: list[str] = []
+    for at in range(0, len(commands), MOST_COMMANDS // 2):
+        part = commands[at : at + MOST_COMMANDS // 2]
+        lines += run.answers([line for place, command in part for line in (f"goto {place}", command)])[1::2]
+    found: list[bytes | None] = []
+    for first, count, offset, length in wanted:
+        digits = [
+            line.split(" ")[3] if line.startswith("page ") else "absent" for line in lines[first : first + count]
+        ]
+        found.append(None if "absent" in digits else bytes.fromhex("".join(digits))[offset : offset + length])
+    return found
+
+
+class Memory:
+    """What is known of memory: a page that has been stored to, read to, mapped or unmapped in no context is as the
+    image or the vault has it, since a call takes a page over under its own number alone, and none takes a vault's page
+    out. Of a plain run the program tells the others."""
+
+    def __init__(self, run: Run) -> None:
+        self.run, self.changed = run, set[int]()
+        self.of_vault = read_vault(run.files[VAULT].read()) if run.kind == VAULT else {}
+        self.inside = {VAULT_CONTEXT} if run.kind == VAULT else set[str]()
+
+    def create(self, name: str, new: str) -> None:
+        """A context is made. One that is made in the vault has the vault's pages."""
+        if name in self.inside:
+            self.inside.add(new)
+
+    def note(self, first: int, last: int) -> None:
+        """Pages may have changed."""
+        self.changed.update(range(max(first, 0), min(last, self.run.image.most_pages)))
+
+    def read(self, place: int, context: str, address: int, length: int) -> bytes | None:
+        """Bytes of a context's memory at a place, or None where they are not known."""
+        pages = range(address // PAGE, (address + length - 1) // PAGE + 1)
+        start = self.of_vault if context in self.inside else self.run.image.pages
+        if all(page in start and page not in self.changed for page in pages):
+            return b"".join(start[page] for page in pages)[address % PAGE :][:length]
+        if (
+            self.run.kind != PLAIN
+            or pages.stop > self.run.image.most_pages
+            or len(self.run.steps) > MOST_STEPS_OF_DEBUG
+        ):
+            return None
+        return memory_by_debug(self.run, [(place, context, address, length)])[0]
+
+    def items(self, turn: Turn, call: int, regs: Sequence[int]) -> list[Item] | None:
+        """The items that a call reads, where they are known."""
+        address, count = (regs[register] for register in ITEMS[call])
+        if count == 0:
+            return []
+        data = self.read(turn.step - 1, turn.was.ctx, address, 16 * count) if count <= MOST_ITEMS else None
+        return None if data is None else read_items(data)
