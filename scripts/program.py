@@ -13,10 +13,13 @@ import time
 from collections.abc import Callable, Iterator, Sequence
 from contextlib import contextmanager, suppress
 from types import FrameType
-from typing import IO, Any, NoReturn
+from typing import IO, TYPE_CHECKING, Any, NoReturn
 
 from checkout import PROGRAM
 from checkout import TOP as TOP
+
+if TYPE_CHECKING:
+    from _typeshed import SupportsWrite
 
 GUESTS = os.path.join(TOP, "guests")
 LAUNCHER = os.path.join(TOP, "lwcrun")
@@ -38,20 +41,34 @@ def run_script(main: Callable[[], int]) -> NoReturn:
         # A file's name may be no text: then it is shown by escapes.
         if isinstance(stream, io.TextIOWrapper):
             stream.reconfigure(errors="backslashreplace")
+    status = status_of(main)
     try:
-        status = main()
         sys.stdout.flush()
+    except OSError:
+        # What could not be written is let go: Python would try again at the end, and fail in many lines.
+        os.dup2(os.open(os.devnull, os.O_WRONLY), sys.stdout.fileno())
+    sys.exit(status)
+
+
+def status_of(main: Callable[[], int]) -> int:
+    """The status with which a script ends, and a line on standard error where it could not go on."""
+    try:
+        try:
+            status = main()
+        except SystemExit as ended:
+            status = ended.code if isinstance(ended.code, int) else FAILED
+        sys.stdout.flush()
+        return status
     except KeyboardInterrupt:
-        status = 128 + signal.SIGINT
+        return 128 + signal.SIGINT
     except BrokenPipeError:
-        status = 128 + signal.SIGPIPE
+        return 128 + signal.SIGPIPE
     except OSError as error:
         say(f"{error.filename}: {error.strerror}" if error.filename else f"cannot write: {error.strerror}")
-        status = CANNOT_READ if error.filename else CANNOT_WRITE
+        return CANNOT_READ if error.filename else CANNOT_WRITE
     except UnicodeDecodeError as error:
         say(f"a file that should be text is not: {error.reason} at {error.start}")
-        status = FAILED
-    leave(status)
+        return FAILED
 
 
 def end_by_signal(number: int, _: FrameType | None) -> NoReturn:
@@ -59,15 +76,6 @@ def end_by_signal(number: int, _: FrameType | None) -> NoReturn:
     for other in (signal.SIGTERM, signal.SIGHUP, signal.SIGINT):
         signal.signal(other, signal.SIG_IGN)
     sys.exit(128 + number)
-
-
-def leave(status: int) -> NoReturn:
-    """Ends with a status. What could not be written by now is let go: Python would try again, in many lines."""
-    try:
-        sys.stdout.flush()
-    except OSError:
-        os.dup2(os.open(os.devnull, os.O_WRONLY), sys.stdout.fileno())
-    sys.exit(status)
 
 
 def say(line: str) -> None:
@@ -81,10 +89,18 @@ def give_up(line: str, status: int) -> NoReturn:
     sys.exit(status if status >= 0 else 128 - status)
 
 
+class Parser(argparse.ArgumentParser):
+    """A parser that does not let a failed write of its help pass in silence."""
+
+    def print_help(self, file: SupportsWrite[str] | None = None) -> None:
+        (file or sys.stdout).write(self.format_help())
+        sys.stdout.flush()
+
+
 def parser_of(doc: str | None) -> argparse.ArgumentParser:
     """A parser of a script's words. Its --help is the text of the script: what it does and prints, its statuses."""
     layout = argparse.RawDescriptionHelpFormatter
-    return argparse.ArgumentParser(prog=NAME, description=doc, formatter_class=layout, allow_abbrev=False)
+    return Parser(prog=NAME, description=doc, formatter_class=layout, allow_abbrev=False)
 
 
 def at_least(least: int) -> Callable[[str], int]:

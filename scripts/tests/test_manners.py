@@ -1,0 +1,102 @@
+"""The manners of each script: --help, words that it does not take, and how it ends."""
+
+from __future__ import annotations
+
+import os
+import subprocess
+from pathlib import Path
+
+import pytest
+from conftest import SCRIPTS, TOP
+
+# Scripts in shell, and ones that take what they are given to the program, read no options of their own.
+NAMES = sorted(
+    it.name for it in SCRIPTS.iterdir() if it.is_file() and os.access(it, os.X_OK) and "run_script" in it.read_text()
+)
+NEED_PROGRAM = [
+    "bench", "check-all", "check-alloc-faults", "check-guests", "check-io-faults", "check-replays", "check-serves",
+    "check-vaults",
+]  # fmt: skip
+
+
+def ended(name: str, *words: str, **more: str) -> subprocess.CompletedProcess[str]:
+    """How a script ends on these words."""
+    command, settings = [str(SCRIPTS / name), *words], {**os.environ, **more}
+    return subprocess.run(command, env=settings, capture_output=True, text=True, timeout=120, check=False)
+
+
+@pytest.mark.parametrize("name", NAMES)
+def test_help(name: str) -> None:
+    done = ended(name, "--help", LWCRUN="/nowhere")
+    assert (done.returncode, done.stderr) == (0, "")
+    assert done.stdout.startswith("usage: ") and "tatus" in done.stdout
+
+
+@pytest.mark.parametrize("name", [name for name in NAMES if name != "try-unproved"])
+def test_an_option_that_it_does_not_take(name: str) -> None:
+    done = ended(name, "--no-such-option", LWCRUN="/nowhere")
+    assert (done.returncode, done.stdout) == (2, "")
+    assert "Traceback" not in done.stderr
+
+
+@pytest.mark.parametrize("name", NAMES)
+def test_a_full_disk(name: str) -> None:
+    with open("/dev/full", "wb") as full:
+        done = subprocess.run([SCRIPTS / name, "--help"], stdout=full, stderr=subprocess.PIPE, text=True, check=False)
+    assert done.returncode != 0
+    assert len(done.stderr.splitlines()) == 1 and "Traceback" not in done.stderr
+
+
+@pytest.mark.parametrize("name", NAMES)
+def test_a_closed_pipe(name: str) -> None:
+    reading, writing = os.pipe()
+    os.close(reading)
+    done = subprocess.run([SCRIPTS / name, "--help"], stdout=writing, stderr=subprocess.PIPE, text=True, check=False)
+    os.close(writing)
+    assert (done.returncode, done.stderr) == (141, "")
+
+
+@pytest.mark.parametrize("name", NEED_PROGRAM)
+def test_no_program(name: str, tmp_path: Path) -> None:
+    done = ended(name, LWCRUN="/nowhere", TMPDIR=str(tmp_path))
+    assert done.returncode == 1
+    assert done.stderr.splitlines()[-1].endswith("no program is at /nowhere") and "Traceback" not in done.stderr
+    assert not list(tmp_path.iterdir())
+
+
+def macros(tmp_path: Path, text: str) -> subprocess.CompletedProcess[str]:
+    """What m4 makes of a source with the macros of guests/lwc.m4."""
+    source = tmp_path / "source.s.m4"
+    source.write_text(f"include(`lwc.m4')dnl\n{text}")
+    words = ["m4", "-I", str(TOP / "guests"), str(source)]
+    try:
+        return subprocess.run(words, capture_output=True, text=True, check=False)
+    except FileNotFoundError:
+        pytest.skip("GNU m4 is not there")
+
+
+@pytest.mark.parametrize(
+    ("text", "made"),
+    [
+        ("pages(share, 1, 3)", "00000000010000000100000003000000"),
+        ("slots(leave_out, 0, size(slots))", "01000000020000000000000040000000"),
+        ("uid(copy)", "02000000000000000000000001000000"),
+        ("pages(read_only, 2748, 2749)", "0000000003000000bc0a0000bd0a0000"),
+        ("pages(copy, 10, 11)pages(copy, 171, 172)", "00000000000000000a0000000b000000" "0000000000000000ab000000ac000000"),
+        ("byte(10)half(258)word(4294967295)word(-1)zeros(2)", "0a02010000ffffffff00000000" + "f" * 16 + "0000"),
+        ("text(`Hi, (you); #1 $1 %')byte(255)text(`x')", b"Hi, (you); #1 $1 %\xffx".hex()),
+        ("SYS call(on_behalf)", "SYS 20"),
+        ("ADDI r1, r2, refusal( NotFresh )", "ADDI r1, r2, -23"),
+        ("LI r1, page(3)", "LI r1, 12288"),
+        ("call: JMP call ; call(read), page(1) and `quotes'", "call: JMP call ; call(read), page(1) and `quotes'"),
+        (".page 0 -", ".page 0 -"),
+    ],
+)
+def test_macros(tmp_path: Path, text: str, made: str) -> None:
+    assert macros(tmp_path, f"{text}\n").stdout == f"{made}\n"
+
+
+def test_a_name_that_no_macro_knows(tmp_path: Path) -> None:
+    done = macros(tmp_path, "HALT\nSYS call(raed)\n")
+    assert done.returncode == 1
+    assert done.stderr == f"{tmp_path}/source.s.m4:3: there is no call raed\n"
