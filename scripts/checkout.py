@@ -2,9 +2,12 @@
 
 from __future__ import annotations
 
-import hashlib
 import os
-from collections.abc import Iterable, Iterator
+
+# The launcher reads this module each time, so it imports nothing that takes long.
+TYPE_CHECKING = False
+if TYPE_CHECKING:
+    from collections.abc import Iterable, Iterator
 
 TOP = os.path.dirname(os.path.dirname(os.path.realpath(__file__)))
 CRATES = os.path.join(TOP, "crates.txt")
@@ -79,15 +82,10 @@ def look_of(name: str, state: os.stat_result) -> Look:
     return name, state.st_mtime_ns, state.st_ctime_ns, state.st_size
 
 
-def sum_of(file: str) -> str:
-    with open(file, "rb") as content:
-        return hashlib.sha256(content.read()).hexdigest()
-
-
 def state_of(looks: list[Look]) -> str:
     """The state of the checkout: how the files look, and the program."""
     state = os.stat(PROGRAM)
-    return hashlib.sha256(repr((looks, state.st_mtime_ns, state.st_size)).encode()).hexdigest()
+    return repr((looks, state.st_mtime_ns, state.st_size))
 
 
 def is_built() -> bool:

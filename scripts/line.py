@@ -2,32 +2,25 @@
 
 from __future__ import annotations
 
-from typing import NamedTuple
-
 
 class LineError(Exception):
     """A line that the program does not accept, and why."""
 
 
-class Mode(NamedTuple):
-    """A mode: the names of what it works on, of which the last one may be left out; its options; and what it does."""
+# The launcher reads this module each time, so it imports nothing that takes long.
+class Mode:
+    """A mode: the names of what it works on, how many of these it needs, its options, and what it does."""
 
-    files: list[str]
-    options: list[str]
-    does: str
-    least: int = 0
-
-    def fewest(self) -> int:
-        return self.least or len(self.files)
+    def __init__(self, files: list[str], options: list[str], does: str, least: int | None = None) -> None:
+        self.files, self.options, self.does = files, options, does
+        self.least = len(files) if least is None else least
 
 
-class Option(NamedTuple):
+class Option:
     """An option, whose value is a number from 1 on."""
 
-    letter: str
-    most: int
-    default: int
-    means: str
+    def __init__(self, letter: str, most: int, default: int, means: str) -> None:
+        self.letter, self.most, self.default, self.means = letter, most, default, means
 
 
 RUNS = ["--frames", "--budget"]
@@ -70,7 +63,7 @@ def help_text() -> str:
     lines = ["usage: ./lwcrun MODE FILE .. [OPTION ..]", ""]
     lines += ["Modes, and what each does. Reports go to standard output.", ""]
     for mode, it in MODES.items():
-        files = [f"[{file}]" if place >= it.fewest() else file for place, file in enumerate(it.files)]
+        files = [f"[{file}]" if place >= it.least else file for place, file in enumerate(it.files)]
         lines.append(f"  {' '.join([mode, *files]):36}{it.does}")
     lines += ["", "Options, anywhere in the line:", ""]
     for option, value in OPTIONS.items():
@@ -106,8 +99,8 @@ def files_of_line(words: list[str]) -> list[str]:
     mode, files = MODES.get(places[0]), places[1:]
     if mode is None:
         raise LineError(f"no mode is called {places[0]!r}{meant(places[0])}")
-    if len(files) < mode.fewest():
-        raise LineError(f"{places[0]} also needs {' and '.join(mode.files[len(files):mode.fewest()])}")
+    if len(files) < mode.least:
+        raise LineError(f"{places[0]} also needs {' and '.join(mode.files[len(files):mode.least])}")
     if len(files) > len(mode.files):
         raise LineError(f"{places[0]} takes {' '.join(mode.files)}, and not {files[len(mode.files)]!r} too")
     for option, value in options.items():

@@ -3,6 +3,7 @@
 from __future__ import annotations
 
 import argparse
+import hashlib
 import io
 import os
 import signal
@@ -174,6 +175,12 @@ def end_session(session: int) -> None:
         with suppress(ProcessLookupError):
             if name.isdigit() and os.getsid(int(name)) == session:
                 os.kill(int(name), signal.SIGKILL)
+
+
+def sum_of(file: str) -> str:
+    """The sum of a file's bytes."""
+    with open(file, "rb") as content:
+        return hashlib.sha256(content.read()).hexdigest()
 
 
 def output_of(words: Sequence[str]) -> str:
