@@ -16,6 +16,7 @@ from typing import Any, TypeVar
 
 import probes
 from images import PAGE, Image, read_image, read_vault
+from line import OPTIONS
 from names import ITEMS, MOST_ITEMS, TRAP, Item, read_items
 from places import IMAGE, REQUESTS, SCHEDULE, SCRIPT, Input, Refused, call_program, read_file
 from program import Progress, WorkFolder, find_program
@@ -47,13 +48,23 @@ def add_options(parser: argparse.ArgumentParser) -> None:
     kind.add_argument("--vault", metavar="FILE", help="the run is one beside this vault")
     kind.add_argument("--monitor", action="store_true", help="the run is one under a monitor")
     kind.add_argument("--plain", action="store_true", help="the run is none of these, though the guest makes call 21")
-    parser.add_argument("--frames", metavar="F", help="as for the program, 4096 if left out")
-    parser.add_argument("--budget", metavar="B", help="as for the program, 10000 if left out")
-    parser.add_argument(
-        "--workers", metavar="W", help="as for the program: of a serve, as many as its report has, or 4"
-    )
+    for name, option in OPTIONS.items():
+        default = "as many as the report has, or 4" if name == "--workers" else str(option.default)
+        said = f"{option.means}, 1 to {option.most}; {default} if left out"
+        parser.add_argument(name, metavar=option.letter, type=within(option.most), help=said)
     parser.add_argument("--source", metavar="SOURCE", help="the source of the image, for labels")
     parser.add_argument("--program", help="the program; else what LWCRUN names, else this checkout's")
+
+
+def within(most: int) -> Callable[[str], str]:
+    """Reads the value of an option as the program does: a number from 1 on, of one to nine digits."""
+
+    def value(word: str) -> str:
+        if not re.fullmatch(r"[0-9]{1,9}", word) or not 1 <= int(word) <= most:
+            raise argparse.ArgumentTypeError(f"{word!r} is no number from 1 to {most}")
+        return word
+
+    return value
 
 
 @dataclass
