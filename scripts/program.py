@@ -57,7 +57,9 @@ def status_of(main: Callable[[], int]) -> int:
         try:
             status = main()
         except SystemExit as ended:
-            status = ended.code if isinstance(ended.code, int) else FAILED
+            status = ended.code if isinstance(ended.code, int) else FAILED if ended.code else 0
+            if isinstance(ended.code, str):
+                print(ended.code, file=sys.stderr)
         sys.stdout.flush()
         return status
     except KeyboardInterrupt:
