@@ -8,6 +8,8 @@ said to be.
 
 from dataclasses import dataclass, field
 
+from images import PAGE
+from memory import Memory
 from names import (
     BEHALF,
     CALLS,
@@ -25,12 +27,17 @@ from names import (
     TRAP,
     UNMAP,
     WORD,
+    answer,
+    arguments,
+    name_of,
+    number,
+    refusal_of,
+    status,
 )
-from names import Item, answer, arguments, mask, name_of, number, refusal_of, status
-from images import PAGE
-from run_report import Context, Report, Thread
-from runs import SERVE, VAULT, VAULT_CONTEXT, VAULT_SLOT, Memory, Run, Turn
+from run_report import Context, Report
+from runs import SERVE, VAULT, VAULT_CONTEXT, VAULT_SLOT, Run
 from slots import CONTEXT, NO_KEYS, NOT_KNOWN, Slots, Value
+from turns import Turn
 
 WORDS = {"LDB": "byte", "STB": "byte", "LDW": "word", "STW": "word"}
 
