@@ -57,7 +57,9 @@ def status_of(main: Callable[[], int]) -> int:
         try:
             status = main()
         except SystemExit as ended:
-            status = ended.code if isinstance(ended.code, int) else FAILED
+            status = ended.code if isinstance(ended.code, int) else FAILED if ended.code else 0
+            if isinstance(ended.code, str):
+                print(ended.code, file=sys.stderr)
         sys.stdout.flush()
         return status
     except KeyboardInterrupt:
@@ -165,16 +167,25 @@ def in_session(words: Sequence[str], folder: str, out: IO[Any], **more: str) -> 
     try:
         yield process
     finally:
-        end_session(process.pid)
-        process.wait()
+        while members := processes_of(process.pid):
+            for member in members:
+                with suppress(ProcessLookupError):
+                    os.kill(member, signal.SIGKILL)
+            process.wait()
+            time.sleep(0.01)
 
 
-def end_session(session: int) -> None:
-    """Ends each process of a session."""
-    for name in os.listdir("/proc"):
-        with suppress(ProcessLookupError):
-            if name.isdigit() and os.getsid(int(name)) == session:
-                os.kill(int(name), signal.SIGKILL)
+def processes_of(session: int) -> list[int]:
+    """The processes of a session that have not ended."""
+    found = []
+    for name in filter(str.isdigit, os.listdir("/proc")):
+        with suppress(OSError):
+            if os.getsid(int(name)) == session:
+                with open(f"/proc/{name}/stat", encoding="ascii", errors="replace") as file:
+                    state = file.read().rpartition(")")[2].split()[0]
+                if state not in "ZX" or int(name) == session:
+                    found.append(int(name))
+    return found
 
 
 def sum_of(file: str) -> str:

@@ -4,6 +4,7 @@ from __future__ import annotations
 
 import os
 import subprocess
+import time
 from pathlib import Path
 
 import pytest
@@ -62,6 +63,39 @@ def test_no_program(name: str, tmp_path: Path) -> None:
     assert done.returncode == 1
     assert done.stderr.splitlines()[-1].endswith("no program is at /nowhere") and "Traceback" not in done.stderr
     assert not list(tmp_path.iterdir())
+
+
+@pytest.mark.parametrize("name", [*(name for name in NEED_PROGRAM if name != "check-all"), "serve-many"])
+def test_a_signal_leaves_nothing(name: str, tmp_path: Path) -> None:
+    slow = tmp_path / "slow"
+    slow.write_text(f"#!/bin/sh\necho $$ >>'{tmp_path}/begun'\nexec sleep 60\n")
+    slow.chmod(0o755)
+    work = tmp_path / "work"
+    work.mkdir()
+    files = [str(TOP / "guests" / f"counter_handler.{kind}") for kind in ("lwc", "requests")]
+    words = [str(SCRIPTS / name), *(files if name == "serve-many" else [])]
+    settings = {**os.environ, "LWCRUN": str(slow), "TMPDIR": str(work)}
+    with subprocess.Popen(words, env=settings, stdout=subprocess.DEVNULL, stderr=subprocess.PIPE, text=True) as begun:
+        while not (tmp_path / "begun").exists() and begun.poll() is None:
+            time.sleep(0.05)
+        time.sleep(0.1)
+        begun.terminate()
+        _, said = begun.communicate(timeout=60)
+    if begun.returncode == 77 or "not there" in said:
+        pytest.skip("something that it needs is not there")
+    assert (begun.returncode, said) == (143, "")
+    assert not list(work.iterdir())
+    for line in (tmp_path / "begun").read_text().split():
+        assert not is_running(int(line))
+
+
+def is_running(number: int) -> bool:
+    """Whether a process runs, or has ended and was not waited for yet, ten seconds from now at most."""
+    for _ in range(100):
+        if not os.path.exists(f"/proc/{number}"):
+            return False
+        time.sleep(0.1)
+    return True
 
 
 def macros(tmp_path: Path, text: str) -> subprocess.CompletedProcess[str]:
