@@ -13,7 +13,7 @@ from program import Progress
 from run_report import Report, Thread, thread_of
 from runs import MOST_COMMANDS, PLAIN, Run
 
-JOBS = os.cpu_count() or 1
+JOBS = len(os.sched_getaffinity(0))
 Given = TypeVar("Given")
 Made = TypeVar("Made")
 
@@ -33,12 +33,10 @@ class Turn:
     after: Report | None = None
 
 
-def side_by_side(
-    work: Callable[[Given], Made], given: Iterable[Given], said: Callable[[int], str], name: str
-) -> Iterator[Made]:
+def side_by_side(work: Callable[[Given], Made], given: Iterable[Given], said: Callable[[int], str]) -> Iterator[Made]:
     """The results of some work, done side by side and handed out in order; no more than a few are begun ahead, so that
     a failure ends soon."""
-    progress = Progress(name)
+    progress = Progress()
     with concurrent.futures.ThreadPoolExecutor(JOBS) as pool:
         waiting: list[concurrent.futures.Future[Made]] = []
         try:
@@ -55,14 +53,12 @@ def side_by_side(
             progress.clear()
 
 
-def beginnings(run: Run, last: int, name: str) -> Iterator[Report]:
+def beginnings(run: Run, last: int) -> Iterator[Report]:
     """The reports after 0, 1, 2 .. steps."""
-    yield from side_by_side(
-        run.report, range(last + 1), lambda made: f"{made} of {last + 1} beginnings replayed", name
-    )
+    yield from side_by_side(run.report, range(last + 1), lambda made: f"{made} of {last + 1} beginnings replayed")
 
 
-def threads_by_debug(run: Run, last: int, name: str) -> Iterator[Thread]:
+def threads_by_debug(run: Run, last: int) -> Iterator[Thread]:
     """The thread of each step of a plain run after it: the program answers for as many steps at once as a script has
     commands."""
 
@@ -77,30 +73,30 @@ def threads_by_debug(run: Run, last: int, name: str) -> Iterator[Thread]:
         return found
 
     starts = range(1, last + 1, MOST_COMMANDS // 2)
-    for found in side_by_side(ask, starts, lambda made: f"{made * MOST_COMMANDS // 2} of {last} steps", name):
+    for found in side_by_side(ask, starts, lambda made: f"{made * MOST_COMMANDS // 2} of {last} steps"):
         yield from found
 
 
-def turns_of(run: Run, last: int, name: str, whole: bool) -> list[Turn]:
+def turns_of(run: Run, last: int, whole: bool) -> list[Turn]:
     """The first steps of a run. With `whole` each has the reports before and after it; of a plain run the threads
     alone are fewer questions."""
     if whole or run.kind != PLAIN:
-        reports = list(beginnings(run, last, name))
+        reports = list(beginnings(run, last))
         made = [
             Turn(i + 1, t := int(run.steps[i], 16), old.threads[t], new.threads[t], before=old, after=new)
             for i, (old, new) in enumerate(zip(reports, reports[1:]))
         ]
     else:
         latest, made = dict(enumerate(run.report(0).threads)), []
-        for i, now in enumerate(threads_by_debug(run, last, name)):
+        for i, now in enumerate(threads_by_debug(run, last)):
             thread = int(run.steps[i], 16)
             made.append(Turn(i + 1, thread, latest[thread], now))
             latest[thread] = now
-    ask_stops(run, made, name)
+    ask_stops(run, made)
     return made
 
 
-def ask_stops(run: Run, turns: list[Turn], name: str) -> None:
+def ask_stops(run: Run, turns: list[Turn]) -> None:
     """Notes where each step came to."""
     asked = []
     for turn in turns:
@@ -121,7 +117,7 @@ def ask_stops(run: Run, turns: list[Turn], name: str) -> None:
         return probes.stops_in(call_program(words).decode())
 
     for part, stops in zip(
-        parts, side_by_side(ask, parts, lambda made: f"{made} of {len(parts)} questions where steps went", name)
+        parts, side_by_side(ask, parts, lambda made: f"{made} of {len(parts)} questions where steps went")
     ):
         for turn, stop in zip(part, stops):
             turn.stop = stop
