@@ -124,11 +124,13 @@ fn append_parts(lines: &mut String, text: &str, separator: &str) -> io::Result<(
 
 /// Appends a text in which a backslash and n stand for the end of a line.
 fn append_text(lines: &mut String, text: &str) -> io::Result<()> {
-    let mut separator = "";
+    let mut is_first = true;
     for part in text.split("\\n") {
-        lines.push_str(separator)?;
+        if !is_first {
+            lines.push_str("\n")?;
+        }
         lines.push_str(part)?;
-        separator = "\n";
+        is_first = false;
     }
     Ok(())
 }
@@ -150,7 +152,7 @@ fn bytes_in(alloc: Global, digits: &str) -> Vec<u8> {
 fn hold_in(words: &str) -> Hold {
     let (held, awaited) = words.split_once(' ').unwrap_or((words, "line"));
     Hold {
-        held: number_in(held) as u32,
+        held: held.parse().unwrap_or(u32::MAX),
         awaited: awaited.parse().ok(),
     }
 }

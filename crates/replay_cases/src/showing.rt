@@ -45,19 +45,11 @@ fn shown(alloc: Global, line: &str) -> Result<String, AllocError> {
 /// The hexadecimal digits of bytes, with the number of zero bytes in place of many in a row.
 fn digits_of(alloc: Global, bytes: &[u8]) -> Result<String, AllocError> {
     let mut digits = String::new(alloc);
-    let mut rest = bytes;
-    'parts: while !rest.is_empty() {
-        let zeros = rest
-            .iter()
-            .position(|byte| *byte != 0)
-            .unwrap_or(rest.len());
-        if zeros >= MANY_ZEROS {
-            digits.push_str(format!(in alloc; "({zeros} zeros)")?.as_str())?;
-            rest = rest.get(zeros..).unwrap_or(&[]);
+    for run in bytes.chunk_by(|left, right| (*left == 0) == (*right == 0)) {
+        if run.first() == Some(&0) && MANY_ZEROS <= run.len() {
+            digits.push_str(format!(in alloc; "({} zeros)", run.len())?.as_str())?;
         } else {
-            let taken = zeros + 1;
-            digits.push_str(hex::encode(alloc, rest.get(..taken).unwrap_or(rest))?.as_str())?;
-            rest = rest.get(taken..).unwrap_or(&[]);
+            digits.push_str(hex::encode(alloc, run)?.as_str())?;
         }
     }
     Ok(digits)
