@@ -8,6 +8,8 @@ said to be.
 
 from dataclasses import dataclass, field
 
+from images import PAGE
+from memory import Memory
 from names import (
     BEHALF,
     CALLS,
@@ -25,12 +27,17 @@ from names import (
     TRAP,
     UNMAP,
     WORD,
+    answer,
+    arguments,
+    name_of,
+    number,
+    refusal_of,
+    status,
 )
-from names import Item, answer, arguments, mask, name_of, number, refusal_of, status
-from images import PAGE
-from run_report import Context, Report, Thread
-from runs import SERVE, VAULT, VAULT_CONTEXT, VAULT_SLOT, Memory, Run, Turn
+from run_report import Context, Report
+from runs import SERVE, VAULT, VAULT_CONTEXT, VAULT_SLOT, Run
 from slots import CONTEXT, NO_KEYS, NOT_KNOWN, Slots, Value
+from turns import Turn
 
 WORDS = {"LDB": "byte", "STB": "byte", "LDW": "word", "STW": "word"}
 
@@ -38,15 +45,13 @@ WORDS = {"LDB": "byte", "STB": "byte", "LDW": "word", "STW": "word"}
 @dataclass
 class Step:
     """What a step did: in a sentence and in the words of a trace, what else came of it, the place of its instruction,
-    the call that it made, and whether that was accepted, and whether it ended its thread by a fault."""
+    its kind, and whether it was a refused call, or ended its thread by a fault."""
 
     said: str
     line: str = ""
     more: list[str] = field(default_factory=list)
     place: int | None = None
-    call: int | None = None
     kind: str = ""
-    is_told: bool = True
     is_refused: bool = False
     is_fault: bool = False
 
@@ -139,9 +144,9 @@ class Story:
         stop = turn.stop
         if stop is None:
             self.slots.forget(*list(self.slots.tables))
-            return Step("does what the program cannot be asked: the image is too long", kind="unknown", is_told=False)
+            return Step("does what the program cannot be asked: the image is too long", kind="unknown")
         if stop.is_pause:
-            return Step("runs 256 private instructions and pauses", kind="pause", place=None)
+            return Step("runs 256 private instructions and pauses", kind="pause")
         name, operands = self.image.at(stop.place)
         if not name:
             return Step(f"finds no instruction {number(stop.place)}", kind="fault")
@@ -199,12 +204,8 @@ class Story:
         if call in ITEMS and turn.items is None:
             turn.items = self.memory.items(turn, call, regs)
         words = arguments(call, regs, turn.items)
-        step = Step(
-            f"makes call {call}, {CALLS.get(call, 'which is none')}",
-            f"{name_of(call)}({words})",
-            call=call,
-            kind="call",
-        )
+        said = f"makes call {call}, {CALLS.get(call, 'which is none')}"
+        step = Step(said, f"{name_of(call)}({words})", kind="call")
         if call == EXIT:
             step.said += f" ({words})"
         elif now.status == "idle":

@@ -1,4 +1,4 @@
-"""The run that a tool shows: what it is a run of, its steps, and what the program answers about them.
+"""The run that a tool shows: what it is a run of, and what the program answers about it.
 
 A schedule alone does not tell whether its steps are those of a plain run, of a serve, of a run under a monitor or
 beside a vault. A report does, or the options do; and where there is a report, the replay has to end as it says. A run
@@ -6,31 +6,24 @@ that cannot be made again is refused here.
 """
 
 import argparse
-import concurrent.futures
-import os
 import re
 import threading
-from collections.abc import Callable, Iterable, Iterator, Sequence
+from collections.abc import Callable, Sequence
 from dataclasses import dataclass
-from typing import Any, TypeVar
 
-import probes
-from images import PAGE, Image, read_image, read_vault
+from images import Image, read_image
 from line import OPTIONS
-from names import ITEMS, MOST_ITEMS, TRAP, Item, read_items
+from names import TRAP
 from places import IMAGE, REQUESTS, SCHEDULE, SCRIPT, Input, Refused, call_program, read_file
-from program import Progress, WorkFolder, find_program
-from run_report import Report, ReportError, Thread, read_report, thread_of
+from program import WorkFolder, find_program
+from run_report import Report, ReportError, read_report
 from sources import Source, read_source
 
 PLAIN, SERVE, MONITOR, VAULT = "plain", "serve", "monitor", "vault"
 KINDS = {PLAIN: "a plain run", SERVE: "a serve", MONITOR: "a run under a monitor", VAULT: "a run beside a vault"}
 MOST_COMMANDS = 64
 MOST_STEPS_OF_DEBUG = 100000
-JOBS = os.cpu_count() or 1
 VAULT_SLOT, VAULT_CONTEXT = 63, "0.1"
-Given = TypeVar("Given")
-Made = TypeVar("Made")
 
 FILES = """IMAGE is an image, or a source, which is assembled first. SCHEDULE is a schedule, or a report of a run of
 the image: its line `schedule` is taken, and the end of the run is compared with it. A report tells what it is a run
@@ -65,21 +58,6 @@ def within(most: int) -> Callable[[str], str]:
         return word
 
     return value
-
-
-@dataclass
-class Turn:
-    """A step of the run: its thread before and after it, where it came to, and the items that its call read, where
-    they are known."""
-
-    step: int
-    thread: int
-    was: Thread
-    now: Thread
-    stop: probes.Stop | None = None
-    items: list[Item] | None = None
-    before: Report | None = None
-    after: Report | None = None
 
 
 @dataclass
@@ -206,8 +184,7 @@ def kinds_to_try(given: argparse.Namespace, image: Image, report: Report | None)
         return [said or told or PLAIN]
     if image.has_call(TRAP) and not report:
         raise Refused(
-            f"{given.image} makes call {TRAP}, which only a run under a monitor has: give --monitor, or --plain",
-            1,
+            f"{given.image} makes call {TRAP}, which only a run under a monitor has: give --monitor, or --plain", 1
         )
     return [PLAIN, MONITOR] if report else [PLAIN]
 
@@ -285,163 +262,3 @@ def options_of(given: argparse.Namespace, kind: str, report: Report | None) -> l
         if value
         for word in (f"--{name}", value)
     ]
-
-
-# The steps, with what the program answers about each.
-
-
-def side_by_side(
-    work: Callable[[Given], Made], given: Iterable[Given], said: Callable[[int], str], name: str
-) -> Iterator[Made]:
-    """The results of some work, done side by side and handed out in order; no more than a few are begun ahead, so that
-    a failure ends soon."""
-    progress = Progress(name)
-    with concurrent.futures.ThreadPoolExecutor(JOBS) as pool:
-        waiting: list[concurrent.futures.Future[Made]] = []
-        try:
-            for made, it in enumerate(given, 1):
-                waiting.append(pool.submit(work, it))
-                if len(waiting) > 4 * JOBS:
-                    yield waiting.pop(0).result()
-                progress.show(said(made - len(waiting)))
-            while waiting:
-                yield waiting.pop(0).result()
-        finally:
-            for future in waiting:
-                future.cancel()
-            progress.clear()
-
-
-def beginnings(run: Run, last: int, name: str) -> Iterator[Report]:
-    """The reports after 0, 1, 2 .. steps."""
-    yield from side_by_side(
-        run.report, range(last + 1), lambda made: f"{made} of {last + 1} beginnings replayed", name
-    )
-
-
-def threads_by_debug(run: Run, last: int, name: str) -> Iterator[Thread]:
-    """The thread of each step of a plain run after it: the program answers for as many steps at once as a script has
-    commands."""
-
-    def ask(first: int) -> list[Thread]:
-        steps = range(first, min(first + MOST_COMMANDS // 2, last + 1))
-        lines = run.answers(
-            [line for step in steps for line in (f"goto {step}", f"thread {int(run.steps[step - 1], 16)}")]
-        )
-        found = [thread_of(line.split(" ")) for line in lines[1::3]]
-        for thread, line in zip(found, lines[2::3]):
-            thread.regs = [int(word) for word in line.split(" ")[2:]]
-        return found
-
-    starts = range(1, last + 1, MOST_COMMANDS // 2)
-    for found in side_by_side(ask, starts, lambda made: f"{made * MOST_COMMANDS // 2} of {last} steps", name):
-        yield from found
-
-
-def turns_of(run: Run, last: int, name: str, whole: bool) -> list[Turn]:
-    """The first steps of a run. With `whole` each has the reports before and after it; of a plain run the threads
-    alone are fewer questions."""
-    if whole or run.kind != PLAIN:
-        reports = list(beginnings(run, last, name))
-        made = [
-            Turn(i + 1, t := int(run.steps[i], 16), old.threads[t], new.threads[t], before=old, after=new)
-            for i, (old, new) in enumerate(zip(reports, reports[1:]))
-        ]
-    else:
-        latest, made = dict(enumerate(run.report(0).threads)), []
-        for i, now in enumerate(threads_by_debug(run, last, name)):
-            thread = int(run.steps[i], 16)
-            made.append(Turn(i + 1, thread, latest[thread], now))
-            latest[thread] = now
-    ask_stops(run, made, name)
-    return made
-
-
-def ask_stops(run: Run, turns: list[Turn], name: str) -> None:
-    """Notes where each step came to."""
-    asked = []
-    for turn in turns:
-        if turn.was.status == "idle":
-            continue
-        if turn.now.status.startswith(("done", "fault")) and turn.now.status != "fault 5":
-            turn.stop = probes.Stop(turn.now.pc, False, turn.now.regs)
-        else:
-            asked.append(turn)
-    most = probes.room(run.image)
-    if most <= 0:
-        return
-    parts = [asked[at : at + most] for at in range(0, len(asked), most)]
-
-    def ask(part: list[Turn]) -> list[probes.Stop]:
-        image = run.write("probe", probes.probe_image(run.image, [it.was for it in part]))
-        words = [run.program, "replay", image, run.write("schedule", probes.probe_schedule(len(part)))]
-        return probes.stops_in(call_program(words).decode())
-
-    for part, stops in zip(
-        parts, side_by_side(ask, parts, lambda made: f"{made} of {len(parts)} questions where steps went", name)
-    ):
-        for turn, stop in zip(part, stops):
-            turn.stop = stop
-
-
-def memory_by_debug(run: Run, asked: list[tuple[int, str, int, int]]) -> list[bytes | None]:
-    """Bytes of memory of a plain run: each is asked by a place, a context, an address and a length."""
-    commands: list[tuple[int, str]] = []
-    wanted = []
-    for place, context, address, length in asked:
-        pages = range(address // PAGE, (address + length - 1) // PAGE + 1)
-        wanted.append((len(commands), len(pages), address % PAGE, length))
-        commands += [(place, f"page {context} {page}") for page in pages]
-    lines: list[str] = []
-    for at in range(0, len(commands), MOST_COMMANDS // 2):
-        part = commands[at : at + MOST_COMMANDS // 2]
-        lines += run.answers([line for place, command in part for line in (f"goto {place}", command)])[1::2]
-    found: list[bytes | None] = []
-    for first, count, offset, length in wanted:
-        digits = [
-            line.split(" ")[3] if line.startswith("page ") else "absent" for line in lines[first : first + count]
-        ]
-        found.append(None if "absent" in digits else bytes.fromhex("".join(digits))[offset : offset + length])
-    return found
-
-
-class Memory:
-    """What is known of memory: a page that has been stored to, read to, mapped or unmapped in no context is as the
-    image or the vault has it, since a call takes a page over under its own number alone, and none takes a vault's page
-    out. Of a plain run the program tells the others."""
-
-    def __init__(self, run: Run) -> None:
-        self.run, self.changed = run, set[int]()
-        self.of_vault = read_vault(run.files[VAULT].read()) if run.kind == VAULT else {}
-        self.inside = {VAULT_CONTEXT} if run.kind == VAULT else set[str]()
-
-    def create(self, name: str, new: str) -> None:
-        """A context is made. One that is made in the vault has the vault's pages."""
-        if name in self.inside:
-            self.inside.add(new)
-
-    def note(self, first: int, last: int) -> None:
-        """Pages may have changed."""
-        self.changed.update(range(max(first, 0), min(last, self.run.image.most_pages)))
-
-    def read(self, place: int, context: str, address: int, length: int) -> bytes | None:
-        """Bytes of a context's memory at a place, or None where they are not known."""
-        pages = range(address // PAGE, (address + length - 1) // PAGE + 1)
-        start = self.of_vault if context in self.inside else self.run.image.pages
-        if all(page in start and page not in self.changed for page in pages):
-            return b"".join(start[page] for page in pages)[address % PAGE :][:length]
-        if (
-            self.run.kind != PLAIN
-            or pages.stop > self.run.image.most_pages
-            or len(self.run.steps) > MOST_STEPS_OF_DEBUG
-        ):
-            return None
-        return memory_by_debug(self.run, [(place, context, address, length)])[0]
-
-    def items(self, turn: Turn, call: int, regs: Sequence[int]) -> list[Item] | None:
-        """The items that a call reads, where they are known."""
-        address, count = (regs[register] for register in ITEMS[call])
-        if count == 0:
-            return []
-        data = self.read(turn.step - 1, turn.was.ctx, address, 16 * count) if count <= MOST_ITEMS else None
-        return None if data is None else read_items(data)

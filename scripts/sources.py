@@ -136,15 +136,13 @@ class Source:
 
     def listing(self) -> Iterator[str]:
         """Each instruction: its place, its label, the instruction, and the user's line."""
-        width = max((len(name) for names in self.labels.values() for name in names), default=0)
-        long = max((len(" ".join(word for _, word in line.words)) for line in self.made), default=0)
-        for place, line in enumerate(self.made):
-            names = self.labels.get(place, [""])
-            for name in names[:-1]:
-                yield f"{place:5}  {name + ':'}"
-            label = f"{names[-1]}:" if names[-1] else ""
-            text = f"{line.name} {', '.join(line.operands)}".strip()
-            yield f"{place:5}  {label:{width + 1}}  {text:{min(long, 40) + 1}}  {line.file}:{line.number}"
+        texts = [f"{line.name} {', '.join(line.operands)}".strip() for line in self.made]
+        names = [name for at in self.labels.values() for name in at]
+        wide, long = max(map(len, names), default=0) + 1, min(max(map(len, texts), default=0), 40)
+        for place, (line, text) in enumerate(zip(self.made, texts)):
+            *others, last = self.labels.get(place, [""])
+            yield from (f"{place:5}  {name}:" for name in others)
+            yield f"{place:5}  {last + ':' if last else '':{wide}}  {text:{long}}  {line.file}:{line.number}"
 
 
 def read_source(name: str, work: WorkFolder) -> Source:

@@ -130,6 +130,6 @@ def test_a_file_that_is_not_there(program: str) -> None:
 
 def test_another_source(program: str) -> None:
     assert program
-    words = [GUESTS / "store_load.lwc", GUESTS / "store_load.schedule", "--source", GUESTS / "zero_page.s"]
-    status, out, said = lines("trace", *words)
+    image, schedule, source = GUESTS / "store_load.lwc", GUESTS / "store_load.schedule", GUESTS / "zero_page.s"
+    status, out, said = lines("trace", image, schedule, "--source", source)
     assert (status, out) == (1, []) and said[0].endswith("the program makes another image of it")

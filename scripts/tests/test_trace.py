@@ -119,7 +119,7 @@ def test_a_run_under_a_monitor(program: str) -> None:
 
 def test_a_vault(program: str) -> None:
     assert program
-    words = ["--vault", GUESTS / "signer.vault"]
+    words: list[str | Path] = ["--vault", GUESTS / "signer.vault"]
     lines = [" ".join(line[3:]) for line in trace(GUESTS / "signer.s", GUESTS / "signer.schedule", *words)]
     # The vault is entered at slot 63, and each try to take its page or to write it is refused by 10.
     assert lines[0] == "23 <asking+2> switch(slot 63, argument 7) -> 0.1, slot 0 there"
@@ -135,7 +135,7 @@ def test_a_serve(program: str, tmp_path: Path) -> None:
     requests = tmp_path / "requests"
     requests.write_text("00\n01\n")
     (tmp_path / "schedule").write_text("0" * 20)
-    words = ["--requests", requests, "--workers", "1"]
+    words: list[str | Path] = ["--requests", requests, "--workers", "1"]
     lines = [" ".join(line) for line in trace(GUESTS / "counter_handler.s", tmp_path / "schedule", *words)]
     # A request of eight steps with the idle one: read, load, load, store, write, halt; a broken one ends at its word.
     assert [line for line in lines if "request" in line] == [
@@ -149,7 +149,7 @@ def test_a_serve(program: str, tmp_path: Path) -> None:
 
 def test_whether_a_context_is_closed(program: str) -> None:
     assert program
-    words = [GUESTS / "monitor.s", GUESTS / "monitor.schedule", "--monitor"]
+    words: list[str | Path] = [GUESTS / "monitor.s", GUESTS / "monitor.schedule", "--monitor"]
     assert answers("goto 3\ncontext 0.0\nc 1.0\n", *words) == [
         "at 3",
         "context 0.0 pages 1 slots 4 uid 0",
@@ -176,9 +176,21 @@ def test_what_debug_says_is_missing(program: str) -> None:
     ]
 
 
+def test_debug_shows_labels(program: str) -> None:
+    assert program
+    found = answers("forward 5\nt\n", GUESTS / "rollback.s", GUESTS / "rollback.schedule")
+    # The snapshot begins with 2^64 - 1 in r0; r1 is the slot of a descriptor of the context that was left, r2 the argument.
+    assert found == [
+        "at 5",
+        "thread 0 running ctx 1.0 pc 2",
+        "next 2 <top+2>: LI r8, 0",
+        "regs 0 -1 2 1" + " 0" * 13,
+    ]
+
+
 def test_what_debug_cannot_show(program: str) -> None:
     assert program
-    words = [GUESTS / "monitor.s", GUESTS / "monitor.schedule", "--monitor"]
+    words: list[str | Path] = [GUESTS / "monitor.s", GUESTS / "monitor.schedule", "--monitor"]
     assert answers("page 0.0 0\nslot 0.0 3\n", *words) == [
         "the program shows a page of a plain run alone, and this is a run under a monitor",
         "the program shows a slot of a plain run alone, and this is a run under a monitor",
@@ -197,6 +209,6 @@ def test_what_debug_cannot_show(program: str) -> None:
 )
 def test_find_change(program: str, what: list[str], said: str) -> None:
     assert program
-    words = [SCRIPTS / "find-change", GUESTS / "store_load.lwc", GUESTS / "store_load.schedule", *what]
-    done = subprocess.run(words, capture_output=True, text=True, timeout=300, check=False)
+    words = [str(it) for it in (SCRIPTS / "find-change", GUESTS / "store_load.lwc", GUESTS / "store_load.schedule")]
+    done = subprocess.run([*words, *what], capture_output=True, text=True, timeout=300, check=False)
     assert (done.stdout.splitlines()[0], done.returncode) == (said, 1 if "same" in said else 0)
