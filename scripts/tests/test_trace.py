@@ -176,6 +176,18 @@ def test_what_debug_says_is_missing(program: str) -> None:
     ]
 
 
+def test_debug_shows_labels(program: str) -> None:
+    assert program
+    found = answers("forward 5\nt\n", GUESTS / "rollback.s", GUESTS / "rollback.schedule")
+    # The snapshot begins with 2^64 - 1 in r0; r1 is the slot of a descriptor of the context that was left, r2 the argument.
+    assert found == [
+        "at 5",
+        "thread 0 running ctx 1.0 pc 2",
+        "next 2 <top+2>: LI r8, 0",
+        "regs 0 -1 2 1" + " 0" * 13,
+    ]
+
+
 def test_what_debug_cannot_show(program: str) -> None:
     assert program
     words: list[str | Path] = [GUESTS / "monitor.s", GUESTS / "monitor.schedule", "--monitor"]
