@@ -77,6 +77,10 @@ class Input:
 
     def __post_init__(self) -> None:
         self.path = self.path or self.name
+        try:
+            self.path.encode()
+        except UnicodeEncodeError as error:
+            raise Refused(f"the name {self.name!r} is no UTF-8, and the program takes no such name", 2) from error
 
     def read(self) -> bytes:
         """The bytes that the program reads."""
@@ -161,7 +165,8 @@ def at_place(name: str, line: int, column: int, rule: str, reason: str, text: st
 
 def plain(text: str) -> str:
     """A line of bytes, each of which is a character here, as it is shown."""
-    return text.encode("latin-1", "replace").decode("utf-8", "replace").replace("\t", " ")
+    shown = text.encode("latin-1", "replace").decode("utf-8", "replace").replace("\t", " ")
+    return "".join(it if it.isprintable() else "." for it in shown)
 
 
 def refusing(main: Callable[[], int]) -> Callable[[], int]:

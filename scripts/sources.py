@@ -149,6 +149,8 @@ def read_source(name: str, work: WorkFolder) -> Source:
     """The source in a file. Where its name ends in .m4 it is what m4 makes of it, with the macros of guests/lwc.m4."""
     if not name.endswith(".m4"):
         text = Input(IMAGE, name).read().decode("latin-1")
+        if text[:4] in ("LWC1", "LWC2"):
+            raise Refused(f"{name} is an image, and no source", 5)
         return Source(name, name, [Line(line, name, i) for i, line in enumerate(text.split("\n"), 1)])
     Input(IMAGE, name).read()
     macros = [MACROS] if os.path.exists(MACROS) else []
