@@ -161,7 +161,7 @@ def read_source(name: str, work: WorkFolder) -> Source:
     except FileNotFoundError as error:
         raise Refused(f"{name}: GNU m4 is needed (Debian's package m4)", 1) from error
     if done.returncode != 0:
-        raise Refused(done.stderr.decode(errors="replace").strip(), 1)
+        raise Refused(done.stderr.decode(errors="replace").strip(), 1, True)
     lines = unmarked(done.stdout.decode("latin-1"), name)
     return Source(name, work.write("source.s", "\n".join(line.text for line in lines).encode("latin-1")), lines)
 
