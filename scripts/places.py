@@ -11,7 +11,7 @@ import sys
 from collections.abc import Callable, Iterable, Sequence
 from dataclasses import dataclass
 
-from program import give_up
+from program import NAME, give_up
 
 WIDE = 100
 REFUSAL = re.compile(r"lwcrun: (image|input) refused: (\w+) at (\d+)$")
@@ -58,11 +58,12 @@ REASONS = {
 
 
 class Refused(Exception):
-    """What a tool cannot do, in a sentence, and the status with which it ends."""
+    """What a tool cannot do, in a sentence, and the status with which it ends. A line of the program, or one with a
+    place, has its own head; before any other one the script's name is printed."""
 
-    def __init__(self, line: str, status: int) -> None:
+    def __init__(self, line: str, status: int, has_head: bool = False) -> None:
         super().__init__(line)
-        self.line, self.status = line, status
+        self.line, self.status, self.has_head = line, status, has_head
 
 
 @dataclass
@@ -77,6 +78,10 @@ class Input:
 
     def __post_init__(self) -> None:
         self.path = self.path or self.name
+        try:
+            self.path.encode()
+        except UnicodeEncodeError as error:
+            raise Refused(f"the name {self.name!r} is no UTF-8, and the program takes no such name", 2) from error
 
     def read(self) -> bytes:
         """The bytes that the program reads."""
@@ -113,15 +118,15 @@ def call_program(
     found = REFUSAL.search(said)
     status = done.returncode if done.returncode > 0 else 128 - done.returncode
     if not found:
-        raise Refused(said or f"{words[0]}: ended with status {status}", status)
+        raise Refused(said or f"{words[0]}: ended with status {status}", status, True)
     what, rule, offset = found[1], found[2], int(found[3])
     if what == IMAGE and explain:
-        raise Refused(explain(rule, offset), status)
+        raise Refused(explain(rule, offset), status, True)
     role = IMAGE if what == IMAGE else ROLES.get(rule) or LONGEST.get(offset, "")
     for each in inputs:
         if each.role == role:
-            raise Refused(refusal(each, rule, offset), status)
-    raise Refused(said, status)
+            raise Refused(refusal(each, rule, offset), status, True)
+    raise Refused(said, status, True)
 
 
 def refusal(file: Input, rule: str, offset: int) -> str:
@@ -161,7 +166,8 @@ def at_place(name: str, line: int, column: int, rule: str, reason: str, text: st
 
 def plain(text: str) -> str:
     """A line of bytes, each of which is a character here, as it is shown."""
-    return text.encode("latin-1", "replace").decode("utf-8", "replace").replace("\t", " ")
+    shown = text.encode("latin-1", "replace").decode("utf-8", "replace").replace("\t", " ")
+    return "".join(it if it.isprintable() else "." for it in shown)
 
 
 def refusing(main: Callable[[], int]) -> Callable[[], int]:
@@ -171,6 +177,6 @@ def refusing(main: Callable[[], int]) -> Callable[[], int]:
         try:
             return main()
         except Refused as error:
-            return give_up(error.line, error.status)
+            return give_up(error.line if error.has_head else f"{NAME}: {error.line}", error.status)
 
     return refused

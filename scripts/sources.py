@@ -149,6 +149,8 @@ def read_source(name: str, work: WorkFolder) -> Source:
     """The source in a file. Where its name ends in .m4 it is what m4 makes of it, with the macros of guests/lwc.m4."""
     if not name.endswith(".m4"):
         text = Input(IMAGE, name).read().decode("latin-1")
+        if text[:4] in ("LWC1", "LWC2"):
+            raise Refused(f"{name} is an image, and no source", 5)
         return Source(name, name, [Line(line, name, i) for i, line in enumerate(text.split("\n"), 1)])
     Input(IMAGE, name).read()
     macros = [MACROS] if os.path.exists(MACROS) else []
@@ -159,7 +161,7 @@ def read_source(name: str, work: WorkFolder) -> Source:
     except FileNotFoundError as error:
         raise Refused(f"{name}: GNU m4 is needed (Debian's package m4)", 1) from error
     if done.returncode != 0:
-        raise Refused(done.stderr.decode(errors="replace").strip(), 1)
+        raise Refused(done.stderr.decode(errors="replace").strip(), 1, True)
     lines = unmarked(done.stdout.decode("latin-1"), name)
     return Source(name, work.write("source.s", "\n".join(line.text for line in lines).encode("latin-1")), lines)
 

@@ -73,10 +73,10 @@ def test_a_report_of_a_serve_needs_its_requests(program: str, tmp_path: Path) ->
     report = tmp_path / "report"
     report.write_text(SERVE_REPORT)
     status, out, said = lines("trace", GUESTS / "counter_handler.lwc", report)
-    needed = f"{report} is the report of a serve: its requests are needed, by --requests FILE"
+    needed = f"trace: {report} is the report of a serve: its requests are needed, by --requests FILE"
     assert (status, out, said) == (1, [], [needed])
     status, out, said = lines("debug", GUESTS / "counter_handler.lwc", report, "--monitor")
-    assert (status, said) == (1, [f"{report} is the report of a serve, and not of a run under a monitor"])
+    assert (status, said) == (1, [f"debug: {report} is the report of a serve, and not of a run under a monitor"])
 
 
 def test_a_report_of_another_run_is_refused(program: str, tmp_path: Path) -> None:
@@ -85,7 +85,7 @@ def test_a_report_of_another_run_is_refused(program: str, tmp_path: Path) -> Non
     report.write_text(PLAIN_REPORT.replace("regs 0 0 7 7", "regs 0 0 7 8"))
     status, out, said = lines("trace", GUESTS / "store_load.lwc", report)
     assert (status, out) == (1, [])
-    assert said[0] == f"{report} is not what the program makes of this image and these options:"
+    assert said[0] == f"trace: {report} is not what the program makes of this image and these options:"
     assert said[1].startswith("  as a plain run: the replay has `regs 0 0 7 7 ")
 
 
@@ -110,7 +110,7 @@ def test_a_run_is_of_one_kind(program: str) -> None:
     status, out, said = lines("trace", "image", "schedule", "--monitor", "--requests", "requests")
     assert (status, out) == (2, []) and "not allowed with" in said[-1]
     status, out, said = lines("draw-run", GUESTS / "store_load.lwc", GUESTS / "store_load.schedule", "--workers", "2")
-    assert (status, out, said) == (2, [], ["--workers is for a serve, with --requests FILE"])
+    assert (status, out, said) == (2, [], ["draw-run: --workers is for a serve, with --requests FILE"])
 
 
 def test_a_bad_schedule_has_its_place(program: str, tmp_path: Path) -> None:
@@ -125,7 +125,7 @@ def test_a_bad_schedule_has_its_place(program: str, tmp_path: Path) -> None:
 def test_a_file_that_is_not_there(program: str) -> None:
     assert program
     status, out, said = lines("trace", GUESTS / "store_load.lwc", "/nowhere/schedule")
-    assert (status, out) == (3, []) and said == ["cannot read /nowhere/schedule: No such file or directory"]
+    assert (status, out) == (3, []) and said == ["trace: cannot read /nowhere/schedule: No such file or directory"]
 
 
 def test_another_source(program: str) -> None:

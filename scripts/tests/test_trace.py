@@ -179,7 +179,7 @@ def test_what_debug_says_is_missing(program: str) -> None:
 def test_debug_shows_labels(program: str) -> None:
     assert program
     found = answers("forward 5\nt\n", GUESTS / "rollback.s", GUESTS / "rollback.schedule")
-    # The snapshot begins with 2^64 - 1 in r0; r1 is the slot of a descriptor of the context that was left, r2 the argument.
+    # The snapshot begins with 2^64 - 1 in r0; r1 is the slot of the descriptor that was left, r2 the argument.
     assert found == [
         "at 5",
         "thread 0 running ctx 1.0 pc 2",
