@@ -11,7 +11,7 @@ use Rattle.lwcrun_modes.specs.Ends.{End, Outside}
 -- a call over these files, whose output took these bytes and nothing before them, ended so
 pub record EndedOver (words : List (List ℕ)) (files : List Named) (e : End Rejection) (output : List ℕ) : Type 0 where
   pub outside : Outside
-  pub files : outside.files.contents ≡ bytes_of files
+  pub contents : outside.files.contents ≡ bytes_of files
   pub before : outside.out.taken ≡ Some []
   pub after : outside.out_after.taken ≡ Some output
   pub ended : CallEnded outside (command_of words) e
