@@ -1,5 +1,5 @@
 -- What comes of a line, by how it ended.
-use Rattle.std.proofs.Common.{◌≡◌, inl, ℕ, List, [], Option, None, Some, Result, Ok, Err, IfOk, ap, refl, string_bytes, subst, sym}
+use Rattle.std.proofs.Common.{◌≡◌, ◌∙◌, inl, ℕ, List, [], Option, None, Some, Result, Ok, Err, IfOk, refl, string_bytes, subst, sym}
 use Rattle.lwc_io.specs.Memory.{Named, bytes_of}
 use Rattle.lwc_io.specs.Outside.{FilesView, SinkView}
 use Rattle.lwcrun_c.specs.Lines.{IsOutcome}
@@ -27,14 +27,15 @@ of_command words files command before after out out_after e status output text a
       told = told;
     }
 
--- a line that is not accepted
-of_usage : (words : List (List ℕ)) (files : List Named) (view : FilesView) (out : SinkView) (status : ExitStatus) (output text : List ℕ) → command_of words ≡ None → view.contents ≡ bytes_of files → out.taken ≡ Some output → output ≡ [] → status ≡ status_of ends.Usage → text ≡ message_of ends.Usage → IsOutcome words files status output text
+-- a line that is not accepted, whose files are not fetched
+of_usage : (words : List (List ℕ)) (files : List Named) (status : ExitStatus) (text : List ℕ) → command_of words ≡ None → status ≡ status_of ends.Usage → text ≡ message_of ends.Usage → IsOutcome words files status [] text
 unfolding CallEnded
-of_usage words files view out status output text asked contents taken empty by told =
-    let o = outside view view out out in
+of_usage words files status text asked by told =
+    let view : FilesView = record { contents = bytes_of files; faults = λ _. 0; fetches = [] } in
+    let out : SinkView = record { taken = Some []; faults = 0 } in
     record {
       end = ends.Usage;
-      over = record { outside = o; contents = contents; before = subst (λ (bytes : List ℕ). out.taken ≡ Some bytes) empty taken; after = taken; ended = subst (λ (a : Option Command). CallEnded o a ends.Usage) (sym asked) (inl refl, refl, refl) };
+      over = record { outside = outside view view out out; contents = refl; before = refl; after = refl; ended = subst (λ (a : Option Command). CallEnded (outside view view out out) a ends.Usage) (sym asked) (inl refl, refl, refl) };
       by = by;
       told = told;
     }
@@ -51,7 +52,7 @@ left_by_command (Ok left) words files command before after out out_after e bytes
     of_command words files command before after out out_after e left.status left.output.items (string_bytes left.message) asked contents empty (subst (λ (b : List ℕ). out_after.taken ≡ Some b) (sym output) taken) ended by told
 left_by_command (Err error) words files command before after out out_after e bytes asked contents empty taken ended left = tt
 
-pub left_by_usage : (r : Result Outcome LineError) (words : List (List ℕ)) (files : List Named) (view : FilesView) (out : SinkView) (bytes : List ℕ) → command_of words ≡ None → view.contents ≡ bytes_of files → out.taken ≡ Some bytes → bytes ≡ [] → IsLeft ends.Usage bytes r → IfOk r (λ left. IsOutcome words files left.status left.output.items (string_bytes left.message))
-left_by_usage (Ok left) words files view out bytes asked contents taken empty (by, output, told) =
-    subst (λ (b : List ℕ). IsOutcome words files left.status b (string_bytes left.message)) (sym output) (of_usage words files view out left.status bytes (string_bytes left.message) asked contents taken empty by told)
-left_by_usage (Err error) words files view out bytes asked contents taken empty left = tt
+pub left_by_usage : (r : Result Outcome LineError) (words : List (List ℕ)) (files : List Named) (bytes : List ℕ) → command_of words ≡ None → bytes ≡ [] → IsLeft ends.Usage bytes r → IfOk r (λ left. IsOutcome words files left.status left.output.items (string_bytes left.message))
+left_by_usage (Ok left) words files bytes asked empty (by, output, told) =
+    subst (λ (b : List ℕ). IsOutcome words files left.status b (string_bytes left.message)) (sym (output ∙ empty)) (of_usage words files left.status (string_bytes left.message) asked by told)
+left_by_usage (Err error) words files bytes asked empty left = tt
