@@ -1,5 +1,5 @@
 -- Runs that a caller keeps as a value, and what it sees of them.
-use Rattle.std.specs.Prelude.{◌≡◌, ℕ, zero, suc, List, [], None, Ok, length}
+use Rattle.std.specs.Prelude.{◌≡◌, ◌*◌, if◌then◌else◌, ℕ, zero, suc, List, [], Option, None, Some, Ok, length, nat_lt}
 use Rattle.std.specs.FinMap as fm
 use Rattle.guest_image.specs.Reading.{image_at}
 use Rattle.guest_image.specs.declared.image.Image.{Image}
@@ -11,13 +11,18 @@ use Rattle.kernel_core.specs.declared.settings.Job.{Job}
 use Rattle.kernel_core.specs.declared.settings.Job.TheVariants as jobs
 use Rattle.kernel_core.specs.declared.settings.Settings.{Settings}
 use Rattle.kernel_core.specs.declared.thread.ThreadView.{ThreadView}
+use Rattle.lwc_base.specs.Cells.{slot_at}
 use Rattle.lwc_base.specs.Faults.{fault_number}
 use Rattle.lwc_base.specs.Frames.{used}
 use Rattle.lwc_base.specs.declared.descriptor.Descriptor.{Descriptor}
 use Rattle.lwc_base.specs.declared.descriptor.Descriptor.TheVariants as descriptors
 use Rattle.lwc_base.specs.declared.fault.ThreadStatus.{ThreadStatus}
 use Rattle.lwc_base.specs.declared.fault.ThreadStatus.TheVariants as statuses
-use Rattle.lwc_base.specs.World.{World}
+use Rattle.lwc_base.specs.Memory.{load}
+use Rattle.lwc_base.specs.World.{World, is_live}
+use Rattle.lwc_base.specs.declared.descriptor.TheConstants.{SLOTS}
+use Rattle.lwc_base.specs.declared.name.Name.{Name}
+use Rattle.lwc_base.specs.declared.page.TheConstants.{PAGE_BYTES}
 use Rattle.lwc_text.specs.Requests.{requests_at}
 use Rattle.lwcrun_c.specs.declared.runs.Run.{Run}
 use Rattle.lwcrun_c.specs.declared.runs.RunError.{RunError}
@@ -61,6 +66,15 @@ Sees run holds = (k : History) × IsAt run k × holds k
 -- the world of a kernel
 abbrev pub world_of : History → World
 world_of k = (machine_of k).environment.world
+
+-- the bytes of a page, where the context is live and the page is there
+abbrev pub page_at : World → Name → ℕ → Option (List ℕ)
+page_at w name p =
+    if is_live w name then (if nat_lt p w.size.pages then load w name (p * PAGE_BYTES) PAGE_BYTES else None) else None
+
+-- what a slot has, where the context is live and has a slot of this number
+abbrev pub slot_in : World → Name → ℕ → Option Descriptor
+slot_in w name n = if is_live w name then (if nat_lt n SLOTS then Some (slot_at w name n) else None) else None
 
 -- the size of a run as a caller sees it
 abbrev pub totals_of : History → Totals

@@ -1,23 +1,21 @@
 //! The functions that C calls. `include/lwcrun.h` says what each wants and answers; a caller that passes what no Rust
 //! reference may be, as a null pointer, breaks what every line here rests on.
 
-ghost use Rattle.std.specs.Prelude.{◌≡◌, ◌≢◌, ◌<◌, ◌*◌, Err, IfOk, IfSome, Some, map, string_bytes};
+ghost use Rattle.std.specs.Prelude.{◌≡◌, ◌≢◌, ◌<◌, Err, IfOk, IfSome, Some, map, string_bytes};
 ghost use Rattle.std.specs.Option.{option_map};
 ghost use Rattle.kernel_core.specs.Kernel.{machine_of, view_of};
-ghost use Rattle.lwc_base.specs.Cells.{slot_at};
-ghost use Rattle.lwc_base.specs.Memory.{load};
-ghost use Rattle.lwc_base.specs.declared.page.TheConstants.{PAGE_BYTES};
 ghost use Rattle.lwcrun_c.specs.Border.{line_of, named};
 ghost use Rattle.lwcrun_c.specs.Lines.{IsAnswer, IsOutcome};
-ghost use Rattle.lwcrun_c.specs.Runs.{Sees, slot_of, state_of, totals_of, world_of};
+ghost use Rattle.lwcrun_c.specs.Runs.{Sees, page_at, slot_in, slot_of, state_of, totals_of, world_of};
 ghost use Rattle.lwcrun_core.specs.Statuses.{exit_number};
 ghost use Rattle.lwcrun_line.specs.Lines.{RunsThreads, command_of};
 
 use crate::border::{Bytes, FileBytes, LineError, files_from, left_to_caller, words_from};
 use crate::lines::{Outcome, carry_out_line};
-use crate::runs::{Run, RunError};
+use crate::runs::Run;
 use crate::shapes::{SlotState, ThreadState, Totals};
 use crate::views;
+use lazy_world::LazyWorld;
 use lwc_base::Name;
 use std::alloc::Global;
 
@@ -87,9 +85,9 @@ pub extern "C" fn lwcrun_c_totals(alloc: Global, run: &Run<'_>, totals: &mut Tot
     ensures seen { result ≡ 0 → Sees run.now (λ k. totals.new ≡ totals_of k) }
     ensures unchanged { result ≢ 0 → totals.new ≡ totals.old }
 {
-    match run.kernel(alloc) {
-        Ok(kernel) => {
-            *totals = views::totals(&kernel);
+    match views::totals_of_run::<LazyWorld>(alloc, run) {
+        Ok(found) => {
+            *totals = found;
             0
         }
         Err(error) => error.number(),
@@ -108,22 +106,13 @@ pub extern "C" fn lwcrun_c_thread(
         → Sees run.now (λ k. option_map state_of (view_of (machine_of k) thread) ≡ Some state.new) }
     ensures unchanged { result ≢ 0 → state.new ≡ state.old }
 {
-    match thread_of(alloc, run, thread) {
+    match views::thread_of_run::<LazyWorld>(alloc, run, thread) {
         Ok(found) => {
             *state = found;
             0
         }
         Err(error) => error.number(),
     }
-}
-
-/// The thread of this number of a run.
-fn thread_of(alloc: Global, run: &Run<'_>, thread: u32) -> Result<ThreadState, RunError>
-    ensures { IfOk result (λ state.
-        Sees run.now (λ k. option_map state_of (view_of (machine_of k) thread) ≡ Some state)) }
-{
-    let kernel = run.kernel(alloc)?;
-    views::thread(&kernel, thread)
 }
 
 /// Copies the bytes of a page of the context of the name `job`:`context`. Answers 0, or why not, and then nothing is
@@ -138,14 +127,11 @@ pub extern "C" fn lwcrun_c_page(
     bytes: &mut [u8],
 ) -> u32
     ensures seen { result ≡ 0 → Sees run.now (λ k.
-        load (world_of k) (record { job = job; k = context }) (page * PAGE_BYTES) PAGE_BYTES ≡ Some bytes.new) }
+        page_at (world_of k) (record { job = job; k = context }) page ≡ Some bytes.new) }
     ensures unchanged { result ≢ 0 → bytes.new ≡ bytes.old }
 {
-    match run.kernel(alloc) {
-        Ok(kernel) => match views::copy_page(&kernel, Name { job, k: context }, page, bytes) {
-            Ok(()) => 0,
-            Err(error) => error.number(),
-        },
+    match views::copy_page_of_run::<LazyWorld>(alloc, run, Name { job, k: context }, page, bytes) {
+        Ok(()) => 0,
         Err(error) => error.number(),
     }
 }
@@ -162,22 +148,14 @@ pub extern "C" fn lwcrun_c_slot(
     state: &mut SlotState,
 ) -> u32
     ensures seen { result ≡ 0 → Sees run.now (λ k.
-        state.new ≡ slot_of (slot_at (world_of k) (record { job = job; k = context }) slot)) }
+        option_map slot_of (slot_in (world_of k) (record { job = job; k = context }) slot) ≡ Some state.new) }
     ensures unchanged { result ≢ 0 → state.new ≡ state.old }
 {
-    match slot_in(alloc, run, Name { job, k: context }, slot) {
+    match views::slot_of_run::<LazyWorld>(alloc, run, Name { job, k: context }, slot) {
         Ok(found) => {
             *state = found;
             0
         }
         Err(error) => error.number(),
     }
-}
-
-/// What is in a slot of the context of this name.
-fn slot_in(alloc: Global, run: &Run<'_>, name: Name, slot: u32) -> Result<SlotState, RunError>
-    ensures { IfOk result (λ state. Sees run.now (λ k. state ≡ slot_of (slot_at (world_of k) name slot))) }
-{
-    let kernel = run.kernel(alloc)?;
-    views::slot(&kernel, name, slot)
 }

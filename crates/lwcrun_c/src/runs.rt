@@ -13,10 +13,10 @@ ghost use Rattle.lwcrun_c.specs.Runs.{AreRequestsOf, IsAt, inputs_of, job_for, r
 
 use guest_image::{Image, ImageFault, read_image};
 use kernel_core::{Job, Kernel, OpenFault, Settings};
-use lazy_world::LazyWorld;
 use lwc_base::{MOST_BUDGET, MOST_FRAMES, MOST_STEPS, MOST_THREADS, Requests};
 use lwc_text::{InputFault, Schedule, make_steps, read_requests};
 use std::alloc::Global;
+use world_face::World;
 
 /// A run so far: the bytes of its image and of its requests, the steps that were asked for, each the number of the
 /// thread that makes it, and its settings. With no workers it is a run, which has no requests.
@@ -71,23 +71,46 @@ impl RunError {
 
 impl Run<'_> {
     /// A kernel where this run is.
-    pub fn kernel(&self, alloc: Global) -> Result<Kernel<LazyWorld>, RunError>
-        ensures { IfOk result (λ kernel. IsAt self.now kernel) }
+    pub fn kernel<W: World>(&self, alloc: Global) -> Result<Kernel<W>, RunError>
+        ensures kernel { IfOk result (λ kernel. IsAt self.now kernel) }
     {
         let steps = self.step_count()?;
         let settings = self.settings()?;
         let image = self.image_in(alloc)?;
         let requests = self.requests_in(alloc, settings.job)?;
-        let kernel = opened_with(alloc, &image, requests, steps, &settings)?;
+        let kernel = self.opened(alloc, &image, requests, steps, &settings)?;
         self.after_steps(alloc, kernel)
     }
 
-    /// The kernel after the steps.
-    fn after_steps(
+    /// A kernel at the start of this run, with room for this number of steps.
+    fn opened<W: World>(
         &self,
         alloc: Global,
-        mut kernel: Kernel<LazyWorld>,
-    ) -> Result<Kernel<LazyWorld>, RunError>
+        image: &Image,
+        requests: Requests,
+        steps: u32,
+        settings: &Settings,
+    ) -> Result<Kernel<W>, RunError>
+        requires image { IsImage image.now }
+        requires settings { IsSettings settings.now }
+        requires requests { MayHave settings.now.job requests }
+        requires steps { steps ≤ MOST_STEPS }
+        ensures opened { IfOk result (λ kernel. kernel
+            ≡ opened (inputs_of image.now requests settings.now) steps) }
+    {
+        match Kernel::open(alloc, image, requests, steps, settings) {
+            Ok(kernel) => Ok(kernel),
+            Err(OpenFault::OutOfMemory) => Err(RunError::OutOfMemory),
+            Err(OpenFault::ImageTooLarge { .. }) => Err(RunError::TooLarge),
+        }
+    }
+
+    /// The kernel after the steps.
+    fn after_steps<W: World>(
+        &self,
+        alloc: Global,
+        mut kernel: Kernel<W>,
+    ) -> Result<Kernel<W>, RunError>
         requires fresh { kernel.steps ≡ [] }
         requires room { kernel.room ≡ length self.now.steps.now }
         ensures inputs { IfOk result (λ after. after.inputs ≡ kernel.inputs) }
@@ -188,27 +211,6 @@ impl Run<'_> {
             Ok(steps) => Ok(Schedule::of(steps)),
             Err(_) => Err(RunError::OutOfMemory),
         }
-    }
-}
-
-/// A kernel at the start of a run or a serve, with room for this number of steps.
-fn opened_with(
-    alloc: Global,
-    image: &Image,
-    requests: Requests,
-    steps: u32,
-    settings: &Settings,
-) -> Result<Kernel<LazyWorld>, RunError>
-    requires image { IsImage image.now }
-    requires settings { IsSettings settings.now }
-    requires requests { MayHave settings.now.job requests }
-    requires steps { steps ≤ MOST_STEPS }
-    ensures { IfOk result (λ kernel. kernel ≡ opened (inputs_of image.now requests settings.now) steps) }
-{
-    match Kernel::open(alloc, image, requests, steps, settings) {
-        Ok(kernel) => Ok(kernel),
-        Err(OpenFault::OutOfMemory) => Err(RunError::OutOfMemory),
-        Err(OpenFault::ImageTooLarge { .. }) => Err(RunError::TooLarge),
     }
 }
 
