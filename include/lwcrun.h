@@ -69,8 +69,8 @@ struct lwcrun_answer {
    status, or one of LWCRUN_NEEDS_THREADS, LWCRUN_NOT_TEXT, LWCRUN_BAD_LENGTH and LWCRUN_NULL. Puts into `answer` what
    the program would write to its output and to its error output; both are empty where the status is none of the
    program's, or where memory ran out. */
-int lwcrun_line(const struct lwcrun_bytes *words, size_t word_count, const struct lwcrun_file *files, size_t file_count,
-                struct lwcrun_answer *answer);
+int lwcrun_line(const struct lwcrun_bytes *words, size_t word_count, const struct lwcrun_file *files,
+                size_t file_count, struct lwcrun_answer *answer);
 
 /* Frees what lwcrun_line put into an answer, and empties it. A null pointer and an empty answer are left alone. */
 void lwcrun_free(struct lwcrun_answer *answer);

@@ -1,5 +1,5 @@
-/* Serves the requests of a guest and compares the replies, and makes a run step by step. Ends with 0 where all is as it
-   has to be, and names what is not. Give it the folder of guests: embed GUESTS. */
+/* Serves the requests of a guest and compares the replies, and makes a run step by step. It ends with 0 where all is as
+   it has to be, and names what is not. Give it the folder of guests: embed GUESTS. */
 #include "lwcrun.h"
 
 #include <inttypes.h>

@@ -28,8 +28,8 @@ struct run_parts {
     uint32_t workers;
 };
 
-uint32_t lwcrun_c_line(const struct slice *words, size_t word_count, const struct file_slices *files, size_t file_count,
-                       struct slice answer[2]);
+uint32_t lwcrun_c_line(const struct slice *words, size_t word_count, const struct file_slices *files,
+                       size_t file_count, struct slice answer[2]);
 uint32_t lwcrun_c_totals(const struct run_parts *run, struct lwcrun_totals *totals);
 uint32_t lwcrun_c_thread(const struct run_parts *run, uint32_t thread, struct lwcrun_thread *state);
 uint32_t lwcrun_c_page(const struct run_parts *run, uint32_t job, uint32_t context, uint32_t page, uint8_t *bytes,
@@ -68,8 +68,8 @@ static int take_line(const struct lwcrun_bytes *words, size_t word_count, const 
     return LWCRUN_OK;
 }
 
-int lwcrun_line(const struct lwcrun_bytes *words, size_t word_count, const struct lwcrun_file *files, size_t file_count,
-                struct lwcrun_answer *answer) {
+int lwcrun_line(const struct lwcrun_bytes *words, size_t word_count, const struct lwcrun_file *files,
+                size_t file_count, struct lwcrun_answer *answer) {
     if (answer == NULL || (words == NULL && word_count > 0) || (files == NULL && file_count > 0)) return LWCRUN_NULL;
     if (word_count > PTRDIFF_MAX / sizeof *words || file_count > PTRDIFF_MAX / sizeof *files) return LWCRUN_BAD_LENGTH;
     struct slice taken[2] = {{nothing, 0}, {nothing, 0}};
@@ -131,7 +131,8 @@ static void free_run(struct run *run) {
 /* A run with copies of these bytes; null where there is no memory. */
 static struct run *new_run(struct slice image, struct slice requests) {
     struct run *run = calloc(1, sizeof *run);
-    uint8_t *bytes = requests.length > PTRDIFF_MAX - image.length ? NULL : new_array(image.length + requests.length, 1);
+    bool fits = requests.length <= PTRDIFF_MAX - image.length;
+    uint8_t *bytes = fits ? new_array(image.length + requests.length, 1) : NULL;
     if (run == NULL || bytes == NULL) {
         free(run);
         free(bytes);

@@ -1,9 +1,9 @@
 #!/usr/bin/env python3
 """Compares random replays through the library with those of the program, byte for byte, and times both.
 
-Give it the program: check_replays.py PROGRAM [COUNT]. It makes COUNT replays, 1000 if it is not given, of guests of guests/ and
-of random ones, under random schedules and options, a third of them serves, and some of them with bytes that are not
-accepted: status, output and message have to be the same. Then it times a replay of ten steps, as often, each way.
+Give it the program: check_replays.py PROGRAM [COUNT]. It makes COUNT replays, 1000 if no count is given: of guests of
+guests/ and of random ones, under random schedules and options. A third of them are serves, and some have bytes that are
+not accepted. Status, output and message have to be the same. Then it times a replay of ten steps, as often, each way.
 """
 
 import glob
@@ -118,10 +118,12 @@ def main():
         told = ", ".join(f"{number} with status {status}" for status, number in sorted(statuses.items()))
         print(f"{count} replays, {differ} differ: {told}")
         words = ["replay", "image", "schedule"]
-        files = {"image": lwcrun.assemble("LI r1, 1\n" + "LDB r0, r0, 0\n" * 10 + ".entry 0\n.page 0 -\n"), "schedule": b"0" * 10}
+        source = ".entry 0\n.page 0 -\n" + "LDB r0, r0, 0\n" * 10 + "HALT\n"
+        files = {"image": lwcrun.assemble(source), "schedule": b"0" * 10}
         process = seconds_of(lambda: by_program(program, folder, words, files), count)
         library = seconds_of(lambda: by_library(words, files), count)
-        print(f"a replay of ten steps, {count} times: {1e6 * process:.0f} us by a process, {1e6 * library:.0f} us by the library")
+        times = f"{1e6 * process:.0f} us by a process, {1e6 * library:.0f} us by the library"
+        print(f"a replay of ten steps, {count} times: {times}")
     return 0 if differ == 0 else 1
 
 

@@ -1,8 +1,8 @@
 """The kernel from Python: replays and serves of guests over bytes in memory, and runs that are made step by step.
 
 The shared library is the one that embed/build makes, or the one that the variable LWCRUN_LIBRARY names. A call that
-the library answers with another status than 0 raises `LwcrunError`, which has the status and the program's message. Reports
-are read by the scripts' own module, scripts/run_report.py.
+library answers with another status than 0 raises `LwcrunError`, which has the status and the program's message.
+Reports are read by the scripts' own module, scripts/run_report.py.
 """
 
 from __future__ import annotations
@@ -70,7 +70,7 @@ class Answer:
 
 @dataclass(frozen=True)
 class Thread:
-    """A thread of a run: its status as a report prints it, its registers, the next instruction, and its context J.K."""
+    """A thread of a run: its status as a report prints it, its registers, the next instruction, its context J.K."""
 
     status: str
     registers: tuple[int, ...]
@@ -203,7 +203,7 @@ def replay_text(
     budget: int = BUDGET,
     workers: int = WORKERS,
 ) -> bytes:
-    """The text of a replay, byte for byte what the program writes. With requests it is that of a serve by the workers."""
+    """The text of a replay, byte for byte what the program writes. With requests it is a serve by the workers."""
     words = ["replay", "image", "schedule"]
     options = ["--frames", str(frames), "--budget", str(budget)]
     files = {"image": image, "schedule": schedule.encode()}
@@ -232,8 +232,10 @@ def replay(
 def serve(
     image: bytes, requests: Iterable[bytes], *, frames: int = FRAMES, budget: int = BUDGET, workers: int = WORKERS
 ) -> Report:
-    """The report of a serve in which the workers take turns, one step each. The library starts no threads, so this is a
-    replay, with more and more steps until each request has its reply."""
+    """The report of a serve in which the workers take turns, one step each.
+
+    The library starts no threads, so this is a replay, with more and more steps until each request has its reply.
+    """
     asked = list(requests)
     turns = "".join(f"{thread:x}" for thread in range(workers))
     most = min(MOST_STEPS, len(asked) * (budget + 1) * max(workers, 1) + workers)

@@ -11,7 +11,7 @@ FIRST_CONTEXT = "0.0"
 
 
 def wanted(request):
-    """What the handler answers: its first byte is its order to break, and every other request counts to 1 in a fresh home."""
+    """What the handler answers: a first byte other than 0 breaks it, and else it counts to 1 in a fresh home."""
     return "fault 2 -" if request[:1] not in (b"", b"\0") else "done 0 01"
 
 

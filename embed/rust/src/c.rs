@@ -95,14 +95,27 @@ pub struct Slot {
 impl Slot {
     /// The slot as this crate's callers see it.
     pub fn seen(&self) -> SlotSeen {
-        let Slot { kind, first, second } = *self;
+        let Slot {
+            kind,
+            first,
+            second,
+        } = *self;
         match kind {
             0 => SlotSeen::Empty,
             1 => SlotSeen::Console,
-            2 => SlotSeen::File { file: first, at: second },
-            3 => SlotSeen::Request { request: first, at: second },
+            2 => SlotSeen::File {
+                file: first,
+                at: second,
+            },
+            3 => SlotSeen::Request {
+                request: first,
+                at: second,
+            },
             4 => SlotSeen::Reply { request: first },
-            _ => SlotSeen::Context(Name { job: first, k: second }),
+            _ => SlotSeen::Context(Name {
+                job: first,
+                k: second,
+            }),
         }
     }
 }

@@ -83,7 +83,10 @@ fn checked(number: i32) -> Result<(), Error> {
 
 /// Carries out a line of the program, its words from the mode on, over these files, and gives what it writes.
 pub fn carry_out(words: &[&str], files: &[(&str, &[u8])]) -> Result<Vec<u8>, Error> {
-    let words: Vec<c::Bytes> = words.iter().map(|word| c::Bytes::of(word.as_bytes())).collect();
+    let words: Vec<c::Bytes> = words
+        .iter()
+        .map(|word| c::Bytes::of(word.as_bytes()))
+        .collect();
     let files: Vec<c::File> = files
         .iter()
         .map(|(name, bytes)| c::File {
@@ -94,7 +97,13 @@ pub fn carry_out(words: &[&str], files: &[(&str, &[u8])]) -> Result<Vec<u8>, Err
     let mut answer = c::Answer::default();
     // SAFETY: the pointers lead to as many words and files as are said, which live until the call returns.
     let status = unsafe {
-        c::lwcrun_line(words.as_ptr(), words.len(), files.as_ptr(), files.len(), &mut answer)
+        c::lwcrun_line(
+            words.as_ptr(),
+            words.len(),
+            files.as_ptr(),
+            files.len(),
+            &mut answer,
+        )
     };
     let (output, message) = (copy_of(answer.output), copy_of(answer.message));
     // SAFETY: the answer is what the call put there, and nothing of it is used from here on.
@@ -206,11 +215,22 @@ pub struct Run {
 impl Run {
     /// A run of an image, or where the settings have workers a serve of the requests, written as in a file of requests.
     pub fn open(image: &[u8], requests: &[u8], settings: Settings) -> Result<Run, Error> {
-        let Settings { frames, budget, workers } = settings;
+        let Settings {
+            frames,
+            budget,
+            workers,
+        } = settings;
         let mut number = 0;
         // SAFETY: both slices live until the call returns, which copies them.
         checked(unsafe {
-            c::lwcrun_open(c::Bytes::of(image), c::Bytes::of(requests), frames, budget, workers, &mut number)
+            c::lwcrun_open(
+                c::Bytes::of(image),
+                c::Bytes::of(requests),
+                frames,
+                budget,
+                workers,
+                &mut number,
+            )
         })?;
         Ok(Run { number })
     }
@@ -236,15 +256,37 @@ impl Run {
         let mut totals = c::Totals::default();
         // SAFETY: the totals are there until the call returns.
         checked(unsafe { c::lwcrun_totals(self.number, &mut totals) })?;
-        let c::Totals { threads, steps, work, contexts, frames, peak } = totals;
-        Ok(Totals { threads, steps, work, contexts, frames, peak })
+        let c::Totals {
+            threads,
+            steps,
+            work,
+            contexts,
+            frames,
+            peak,
+        } = totals;
+        Ok(Totals {
+            threads,
+            steps,
+            work,
+            contexts,
+            frames,
+            peak,
+        })
     }
 
     /// The bytes of a page of a context.
     pub fn page(&self, context: Name, page: u32) -> Result<[u8; PAGE_BYTES], Error> {
         let mut bytes = [0; PAGE_BYTES];
         // SAFETY: the array has the bytes of a page.
-        checked(unsafe { c::lwcrun_page(self.number, context.job, context.k, page, bytes.as_mut_ptr()) })?;
+        checked(unsafe {
+            c::lwcrun_page(
+                self.number,
+                context.job,
+                context.k,
+                page,
+                bytes.as_mut_ptr(),
+            )
+        })?;
         Ok(bytes)
     }
 
