@@ -148,7 +148,7 @@ fn slot<W: World>(kernel: &Kernel<W>, name: Name, n: u32) -> Result<SlotState, R
 }
 
 /// Whether a context has the name.
-#[tactic(auto, using(lwc_debug::proofs::Living::living))]
+#[tactic(auto, using(crate::proofs::Living::living))]
 fn is_live<W: World>(world: &W, name: Name) -> bool
     ensures { result ≡ is_live (W.seen world.now) name }
 {

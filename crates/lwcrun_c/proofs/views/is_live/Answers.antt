@@ -1,5 +1,5 @@
 use Rattle.std.proofs.Common.{◌∙◌, sym}
-use Rattle.lwc_debug.proofs.Living.{live_name, other_by_parts, same_by_parts, still_missing}
+use Rattle.lwcrun_c.proofs.Living.{live_name, other_by_parts, same_by_parts, still_missing}
 use Rattle.lwcrun_c.proofs.views.is_live.Goals as goal
 
 pub returns-then-eq : goal.returns-then-eq

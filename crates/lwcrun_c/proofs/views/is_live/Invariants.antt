@@ -1,6 +1,6 @@
 use Rattle.std.proofs.Common.{take}
 use Rattle.std.specs.FinMap as fm
-use Rattle.lwc_debug.proofs.Living.{IsMissing}
+use Rattle.lwcrun_c.proofs.Living.{IsMissing}
 use Rattle.lwcrun_c.proofs.views.is_live.Given as goal
 
 -- none of the first names is this one
