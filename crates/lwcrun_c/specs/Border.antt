@@ -1,0 +1,21 @@
+-- What a caller hands over, as contracts see it.
+use Rattle.std.specs.Prelude.{ℕ, List, ◌∷◌, codes, map}
+use Rattle.lwc_io.specs.Memory.{Named}
+use Rattle.lwcrun_c.specs.declared.border.Bytes.{Bytes}
+use Rattle.lwcrun_c.specs.declared.border.FileBytes.{FileBytes}
+use Rattle.lwcrun_c.specs.declared.border.LineError.{LineError}
+use Rattle.lwcrun_c.specs.declared.border.LineError.TheVariants as errors
+
+-- the words of a line: the program's name, and the bytes of each word
+abbrev pub line_of : List Bytes → List (List ℕ)
+line_of words = codes "lwcrun" ∷ map (λ word. word.bytes.now) words
+
+-- a file and its name
+abbrev pub named : FileBytes → Named
+named file = record { name = file.name.now; bytes = file.bytes.now }
+
+-- the number of an error, which is no other exit status but that of out of memory
+abbrev pub error_number : LineError → ℕ
+error_number errors.OutOfMemory = 1
+error_number errors.NeedsThreads = 8
+error_number errors.NotText = 9

@@ -1,0 +1,18 @@
+//! The kernel for programs in C, and in what calls C: lines carried out over files in memory, and runs that are looked
+//! at step by step.
+#![tactic(auto)]
+
+mod border;
+mod exports;
+mod lines;
+mod messages;
+mod runs;
+mod shapes;
+mod views;
+
+pub use border::{Bytes, FileBytes};
+pub use exports::{
+    Answer, lwcrun_c_line, lwcrun_c_page, lwcrun_c_slot, lwcrun_c_thread, lwcrun_c_totals,
+};
+pub use runs::Run;
+pub use shapes::{SlotState, ThreadState, Totals};

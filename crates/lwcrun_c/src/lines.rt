@@ -1,0 +1,129 @@
+//! A line that is carried out over files in memory.
+
+ghost use Rattle.std.specs.Prelude.{◌≡◌, [], Err, IfErr, IfNone, IfOk, IfSome, map, string_bytes};
+ghost use Rattle.lwcrun_c.specs.Lines.{IsOutcome};
+ghost use Rattle.lwcrun_core.specs.Statuses.{message_of, status_of};
+ghost use Rattle.lwcrun_line.specs.Lines.{IsWithinLimits, RunsThreads, asked_by, command_of};
+ghost use Rattle.lwcrun_modes.specs.Ends.{Ended};
+ghost use Rattle.lwcrun_modes.specs.Views.{end_of, outside};
+ghost use Rattle.lwcrun_modes.specs.Works.{IsText, plan_of};
+
+use crate::border::LineError;
+use crate::messages::{message_of, status_of};
+use lwc_io::{Files, MemoryFiles, MemorySink, NamedFile, Sink};
+use lwcrun_core::{Ending, ExitStatus, Line, LineFault, read_line};
+use lwcrun_modes::{asm, debug_run, dis, lift, monitor, replay, replay_with_vault};
+use std::alloc::Global;
+
+/// What came of a line: its exit status, what it wrote, and its message.
+#[derive(Drop)]
+pub struct Outcome {
+    pub status: ExitStatus,
+    pub output: Vec<u8>,
+    pub message: String,
+}
+
+/// Carries out the line of these words, the program's name first, over files in memory. A name that no file has
+/// cannot be read; where two files have one name, the first counts.
+///
+/// # Errors
+///
+/// `NeedsThreads` only where the line is one of `run`, `serve`, `gen` or `stream`, and nothing is done then; or out
+/// of memory.
+pub fn carry_out_line(
+    alloc: Global,
+    words: &[String],
+    named: Vec<NamedFile>,
+) -> Result<Outcome, LineError>
+    ensures outcome { IfOk result (λ left. IsOutcome (map string_bytes words.now) named.items left.status
+        left.output.items (string_bytes left.message)) }
+    ensures threads { result ≡ Err LineError.NeedsThreads
+        → IfSome (command_of (map string_bytes words.now)) RunsThreads }
+{
+    let mut files = MemoryFiles::new(alloc, named, Vec::new(alloc))?;
+    let mut out = MemorySink::new(alloc, usize::MAX, Vec::new(alloc));
+    let line = match read_line(alloc, words) {
+        Ok(line) => line,
+        Err(LineFault::OutOfMemory) => return Err(LineError::OutOfMemory),
+        Err(LineFault::Usage) => return outcome_of(alloc, &out, &Ending::Usage),
+    };
+    match carry_out(alloc, &line, &mut files, &mut out) {
+        Some(ending) => outcome_of(alloc, &out, &ending),
+        None => Err(LineError::NeedsThreads),
+    }
+}
+
+/// Does what a line asks for, unless it runs threads.
+fn carry_out<'a, F: Files, O: Sink>(
+    alloc: Global,
+    line: &'a Line,
+    files: &mut F,
+    out: &mut O,
+) -> Option<Ending<'a>>
+    requires limits { IsWithinLimits (asked_by line.now) }
+    ensures ended { IfSome result (λ ending. Ended IsText
+        (outside (F.seen files.old) (F.seen files.new) (O.seen out.old) (O.seen out.new))
+        (plan_of (asked_by line.entry.now)) (end_of ending)) }
+    ensures threads { IfNone result (RunsThreads (asked_by line.entry.now)) }
+{
+    match line {
+        Line::Replay {
+            image,
+            schedule,
+            requests: None,
+            settings,
+        } => Some(replay(alloc, files, out, image, schedule, None, settings)),
+        Line::Replay {
+            image,
+            schedule,
+            requests: Some(requests),
+            settings,
+        } => Some(replay(
+            alloc,
+            files,
+            out,
+            image,
+            schedule,
+            Some(requests.as_str()),
+            settings,
+        )),
+        Line::Asm { source } => Some(asm(alloc, files, out, source)),
+        Line::Dis { image } => Some(dis(alloc, files, out, image)),
+        Line::Lift { image } => Some(lift(alloc, files, out, image)),
+        Line::Monitor {
+            image,
+            schedule,
+            settings,
+        } => Some(monitor(alloc, files, out, image, schedule, settings)),
+        Line::Vault {
+            image,
+            vault,
+            schedule,
+            settings,
+        } => Some(replay_with_vault(alloc, files, out, image, vault, schedule, settings)),
+        Line::Debug {
+            image,
+            schedule,
+            script,
+            settings,
+        } => Some(debug_run(alloc, files, out, image, schedule, script, settings)),
+        Line::Run { .. } | Line::Serve { .. } | Line::Gen { .. } | Line::Stream { .. } => None,
+    }
+}
+
+/// What came of a line that ended so, and wrote what this output has taken.
+fn outcome_of(alloc: Global, out: &MemorySink, ending: &Ending<'_>) -> Result<Outcome, LineError>
+    ensures status { IfOk result (λ left. left.status ≡ status_of (end_of ending.now)) }
+    ensures output { IfOk result (λ left. left.output.items ≡ out.now.bytes) }
+    ensures message { IfOk result (λ left. string_bytes left.message ≡ message_of (end_of ending.now)) }
+    ensures error { IfErr result (λ error. error ≡ LineError.OutOfMemory) }
+{
+    let Ok(message) = message_of(alloc, ending) else {
+        return Err(LineError::OutOfMemory);
+    };
+    Ok(Outcome {
+        status: status_of(ending),
+        output: Vec::from_slice(alloc, out.bytes())?,
+        message,
+    })
+}

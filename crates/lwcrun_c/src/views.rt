@@ -1,0 +1,164 @@
+//! What can be seen of a run.
+
+ghost use Rattle.std.specs.Prelude.{◌≡◌, IfOk, OnErr, OnOk, Some};
+ghost use Rattle.std.specs.Option.{option_map};
+ghost use Rattle.kernel_core.specs.Kernel.{machine_of, view_of};
+ghost use Rattle.lwc_base.specs.World.{is_live};
+ghost use Rattle.lwcrun_c.specs.Runs.{Sees, page_at, slot_in, slot_of, state_of, totals_of, world_of};
+
+use crate::runs::{Run, RunError};
+use crate::shapes::{SlotState, ThreadState, Totals};
+use kernel_core::Kernel;
+use lwc_base::{Name, PAGE_BYTES, SLOTS};
+use std::alloc::Global;
+use world_face::World;
+
+/// The totals of a run.
+pub fn totals_of_run<W: World>(alloc: Global, run: &Run<'_>) -> Result<Totals, RunError>
+    ensures totals { IfOk result (λ totals. Sees run.now (λ k. totals ≡ totals_of k)) }
+{
+    let kernel = run.kernel::<W>(alloc)?;
+    Ok(totals(&kernel))
+}
+
+/// The thread of this number of a run.
+///
+/// # Errors
+///
+/// `Missing` where there is none, or why there is no run.
+pub fn thread_of_run<W: World>(
+    alloc: Global,
+    run: &Run<'_>,
+    t: u32,
+) -> Result<ThreadState, RunError>
+    ensures state { IfOk result (λ state.
+        Sees run.now (λ k. option_map state_of (view_of (machine_of k) t) ≡ Some state)) }
+{
+    let kernel = run.kernel::<W>(alloc)?;
+    thread(&kernel, t)
+}
+
+/// Copies the bytes of a page of a context of a run.
+///
+/// # Errors
+///
+/// Those of `copy_page`, or why there is no run. The buffer is unchanged then.
+pub fn copy_page_of_run<W: World>(
+    alloc: Global,
+    run: &Run<'_>,
+    name: Name,
+    page: u32,
+    bytes: &mut [u8],
+) -> Result<(), RunError>
+    ensures page { OnOk result (Sees run.now (λ k. page_at (world_of k) name page ≡ Some bytes.new)) }
+    ensures error { OnErr result (bytes.new ≡ bytes.old) }
+{
+    let kernel = run.kernel::<W>(alloc)?;
+    copy_page(&kernel, name, page, bytes)
+}
+
+/// What is in a slot of a context of a run.
+///
+/// # Errors
+///
+/// Those of `slot`, or why there is no run.
+pub fn slot_of_run<W: World>(
+    alloc: Global,
+    run: &Run<'_>,
+    name: Name,
+    n: u32,
+) -> Result<SlotState, RunError>
+    ensures state { IfOk result (λ state.
+        Sees run.now (λ k. option_map slot_of (slot_in (world_of k) name n) ≡ Some state)) }
+{
+    let kernel = run.kernel::<W>(alloc)?;
+    slot(&kernel, name, n)
+}
+
+/// The totals.
+fn totals<W: World>(kernel: &Kernel<W>) -> Totals
+    ensures { result ≡ totals_of kernel.now }
+{
+    Totals {
+        threads: kernel.thread_count(),
+        steps: kernel.schedule().len() as u32,
+        work: kernel.work(),
+        contexts: kernel.world().context_count(),
+        frames: kernel.world().used(),
+        peak: kernel.peak(),
+    }
+}
+
+/// The thread of this number.
+///
+/// # Errors
+///
+/// `Missing` where there is none.
+fn thread<W: World>(kernel: &Kernel<W>, t: u32) -> Result<ThreadState, RunError>
+    ensures state { IfOk result (λ state. option_map state_of (view_of (machine_of kernel.now) t) ≡ Some state) }
+{
+    if t >= kernel.thread_count() {
+        return Err(RunError::Missing);
+    }
+    Ok(ThreadState::of(&kernel.thread(t)))
+}
+
+/// Copies the bytes of a page of the context of this name.
+///
+/// # Errors
+///
+/// `Missing` where the context is not live or the page is absent, `Length` where the buffer is not as long as a page.
+/// The buffer is unchanged then.
+fn copy_page<W: World>(
+    kernel: &Kernel<W>,
+    name: Name,
+    page: u32,
+    bytes: &mut [u8],
+) -> Result<(), RunError>
+    ensures page { OnOk result (page_at (world_of kernel.now) name page ≡ Some bytes.new) }
+    ensures error { OnErr result (bytes.new ≡ bytes.old) }
+{
+    if bytes.len() != PAGE_BYTES {
+        return Err(RunError::Length);
+    }
+    let world = kernel.world();
+    if !is_live(world, name) || page >= u32::from(world.pages()) {
+        return Err(RunError::Missing);
+    }
+    if world.bytes(name, page * PAGE_BYTES as u32, bytes) {
+        Ok(())
+    } else {
+        Err(RunError::Missing)
+    }
+}
+
+/// What is in a slot of the context of this name.
+///
+/// # Errors
+///
+/// `Missing` where the context is not live, or a context has no slot of this number.
+fn slot<W: World>(kernel: &Kernel<W>, name: Name, n: u32) -> Result<SlotState, RunError>
+    ensures state { IfOk result (λ state. option_map slot_of (slot_in (world_of kernel.now) name n) ≡ Some state) }
+{
+    let world = kernel.world();
+    if !is_live(world, name) || n >= u32::from(SLOTS) {
+        return Err(RunError::Missing);
+    }
+    Ok(SlotState::of(world.slot(name, n as u8)))
+}
+
+/// Whether a context has the name.
+#[tactic(auto, using(crate::proofs::Living::living))]
+fn is_live<W: World>(world: &W, name: Name) -> bool
+    ensures { result ≡ is_live (W.seen world.now) name }
+{
+    'contexts: for i in 0..world.context_count() {
+        let Some(found) = world.nth_context(i) else {
+            unreachable!();
+        };
+        if found == name {
+            return true;
+        }
+    }
+    false
+}
