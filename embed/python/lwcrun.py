@@ -332,11 +332,12 @@ class Run:
         state = _Slot()
         _check(_call().lwcrun_slot(self._number, *_name(context), slot, ctypes.byref(state)))
         first, second = state.first, state.second
-        return [
+        kinds = [
             "empty",
             "console",
             f"file {first} at {second}",
             f"request {first} at {second}",
             f"reply {first}",
             f"context {first}.{second}",
-        ][state.kind]
+        ]
+        return kinds[state.kind]
