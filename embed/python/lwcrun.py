@@ -340,4 +340,5 @@ class Run:
             f"reply {first}",
             f"context {first}.{second}",
         ]
-        return kinds[state.kind]
+        kind: int = state.kind
+        return kinds[kind]
