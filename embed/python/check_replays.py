@@ -40,7 +40,7 @@ def random_source(chosen):
         elif kind == 3:
             lines.append(f"{chosen.choice(['STB', 'STW'])} {register()}, {register()}, {8 * chosen.randrange(1100)}")
         elif kind == 4:
-            lines.append(f"{chosen.choice(['JZ', 'JNZ'])} {register()}, {chosen.randrange(count + 1)}")
+            lines.append(f"{chosen.choice(['JZ', 'JNZ'])} {register()}, {chosen.randrange(count)}")
         elif kind == 5:
             lines.append(f"SYS {chosen.choice([*range(1, 11), 16, 17, 18, 19, 20])}")
         elif kind == 6:

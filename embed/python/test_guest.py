@@ -7,7 +7,6 @@ import lwcrun
 import pytest
 
 GUESTS = os.path.join(lwcrun.TOP, "guests")
-FIRST_CONTEXT = "0.0"
 
 
 def wanted(request):
@@ -41,13 +40,14 @@ def test_each_of_200_requests_gets_the_reply_of_a_fresh_home(handler, workers):
 
 def test_a_step_at_a_time_shows_the_count_in_the_copy_alone(handler):
     with lwcrun.Run(handler, [b"\0"], frames=4, workers=1) as run:
+        home = run.thread().context
         copies = []
         while run.totals().work > 0:
             thread = run.step()
-            if thread.context != FIRST_CONTEXT:
+            if thread.context != home:
                 copies.append(run.page(thread.context, 0)[0])
                 assert run.slot(thread.context, 0).startswith("request 0 at ")
-            assert run.page(FIRST_CONTEXT, 0) == bytes(lwcrun.PAGE_BYTES)
+            assert run.page(home, 0) == bytes(lwcrun.PAGE_BYTES)
         assert copies[0] == 0 and copies[-1] == 1
 
 

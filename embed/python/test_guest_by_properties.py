@@ -12,7 +12,7 @@ with open(os.path.join(lwcrun.TOP, "guests", "counter_handler.lwc"), "rb") as _f
     HANDLER = _file.read()
 
 
-@hypothesis.settings(max_examples=50, deadline=None)
+@hypothesis.settings(max_examples=50, deadline=None, database=None)
 @hypothesis.given(requests=st.lists(st.binary(max_size=16), min_size=1, max_size=8), workers=st.integers(1, 16))
 def test_a_reply_depends_on_its_request_alone(requests, workers):
     """Beside others, and by any number of workers, a request gets the reply that it gets by itself."""
@@ -21,7 +21,7 @@ def test_a_reply_depends_on_its_request_alone(requests, workers):
     assert together == alone
 
 
-@hypothesis.settings(max_examples=50, deadline=None)
+@hypothesis.settings(max_examples=50, deadline=None, database=None)
 @hypothesis.given(
     words=st.lists(st.sampled_from(["replay", "dis", "image", "steps", "--frames", "4", "-", "--", ""]), max_size=6),
     image=st.binary(max_size=80),
