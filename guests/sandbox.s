@@ -1,5 +1,5 @@
-; a sandbox: a plugin in a closed context, which shares page 1 with its caller and tries what it can; run it by `run` or `monitor`
-; in the end the caller's word is as before, which thread 1 loads into r7, and so are its slots and its uid
+; a sandbox: a plugin in a closed context, which shares page 1 with its caller and tries what it can; use its schedule, by replay or monitor
+; in the end the caller's word is as before, which thread 1 loads into r7, and so are its slots and its uid; run needs --budget 100000, since thread 1 waits
 .entry caller
 .entry looks
 ; items for the plugin: leave out all slots, leave out page 0, share page 1; and behind them a word of the caller's own
