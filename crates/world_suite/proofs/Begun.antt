@@ -1,5 +1,5 @@
 -- What a world has in which a context has been made and its first pages mapped.
-use Rattle.std.proofs.Common.{◌≡◌, true, ℕ, ◌+◌, refl, subst, sym, ap, ◌∙◌}
+use Rattle.std.proofs.Common.{◌≡◌, true, false, ◌||◌, ℕ, ◌+◌, [], ◌∷◌, refl, subst, sym, ap, ◌∙◌}
 use Rattle.std.specs.FinMap as fm
 use Rattle.lwc_base.specs.declared.name.Name.{Name}
 use Rattle.lwc_base.specs.declared.size.WorldSize.{WorldSize}
@@ -8,7 +8,10 @@ use Rattle.lwc_base.specs.Fresh.{IsFresh}
 use Rattle.lwc_base.specs.Mapping.{map_pages}
 use Rattle.lwc_base.specs.Names.{name_cmp}
 use Rattle.lwc_base.specs.World.{World, Context, Counters, Group, is_live, next_context, add_context, empty_world}
+use Rattle.lwc_base.specs.Life.{Root, reap}
 use Rattle.lwc_base.proofs.Facts.{changes, counts, stays_fresh}
+use Rattle.lwc_base.proofs.Orders.{name-itself}
+use Rattle.lwc_base.proofs.Reaped.{kept-by_way}
 use Rattle.world_face.specs.Calls.{IsLive}
 use Rattle.world_suite.specs.Begun.{IsBegun}
 
@@ -72,3 +75,9 @@ module _ (size : WorldSize) (opened made mapped : World) (c : Name) (x : Context
 pub stays : (frames : ℕ) (w v u : World) (c : Name) → u ≡ v → is_live v c ≡ is_live w c → v.size ≡ w.size → IsBegun frames w c → IsLive u c × (u.size.pages ≡ 4)
 stays frames w v u c same live size begun =
     (ap (λ (x : World). is_live x c) same ∙ live ∙ begun.live, ap (λ (x : World). x.size.pages) same ∙ ap (λ (s : WorldSize). s.pages) (size ∙ begun.size))
+
+-- a context that is the root lives on
+pub kept_root : (w : World) (c : Name) → IsLive w c → IsLive (reap w (c ∷ [])) c
+kept_root w c live =
+    let itself = name-itself c in
+    kept-by_way w (c ∷ []) c live (Root c (ap (λ b. b || false) itself))

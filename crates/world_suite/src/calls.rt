@@ -432,6 +432,32 @@ fn reaps_a_context<W: World>(alloc: Global) -> Result<bool, Fail> {
     Ok(left == (1, true, 0))
 }
 
+/// Two contexts that name each other, of which the second is a copy: how many live while the first is the root and
+/// names the copy, and once it names it no more, and whether the first is the one that is left.
+#[tactic(auto, using(crate::proofs::Begun::kept_root, lwc_base::proofs::Facts::changes))]
+fn reap_two<W: World>(world: &mut W, c: Name) -> Result<(u32, u32, bool), Fail>
+    requires { IsBegun 2 (W.seen world.old) c }
+{
+    let (_, made) = clone_with(world, c, Mode::Copy, (1, 1))?;
+    let keys = Grant::None;
+    world.set_slot(c, 2, Lent::Ctx { name: made, keys });
+    world.set_slot(made, 2, Lent::Ctx { name: c, keys });
+    world.reap(&[c]);
+    let both = world.context_count();
+    world.set_slot(c, 2, Lent::Empty);
+    world.reap(&[c]);
+    let is_first = world.nth_context(0) == Some(c);
+    Ok((both, world.context_count(), is_first))
+}
+
+/// Two contexts that name each other live while one of them is reached, and no longer.
+fn reaps_a_cycle<W: World>(alloc: Global) -> Result<bool, Fail> {
+    let (mut world, c) = begun::<W>(alloc, 2)?;
+    let left = reap_two(&mut world, c);
+    drop(world);
+    Ok(left? == (2, 1, true))
+}
+
 #[test]
 fn bytes_are_stored_and_loaded(rt: HostRuntime) -> Result<(), Fail> {
     assert!(rt; stores_over_a_border::<WholeWorld>(rt.alloc())?);
@@ -479,5 +505,7 @@ fn pages_are_copied_read_only(rt: HostRuntime) -> Result<(), Fail> {
 fn what_nothing_reaches_is_dropped(rt: HostRuntime) -> Result<(), Fail> {
     assert!(rt; reaps_a_context::<WholeWorld>(rt.alloc())?);
     assert!(rt; reaps_a_context::<LazyWorld>(rt.alloc())?);
+    assert!(rt; reaps_a_cycle::<WholeWorld>(rt.alloc())?);
+    assert!(rt; reaps_a_cycle::<LazyWorld>(rt.alloc())?);
     Ok(())
 }
