@@ -7,7 +7,11 @@ use Rattle.std.proofs.lemmas.Bool.Decides.{nat_tests}
 use Rattle.std.proofs.lemmas.List.{length-map, take_all}
 use Rattle.std.proofs.lemmas.List.Elements.{All-more}
 use Rattle.std.proofs.lemmas.List.Folds.{list_any_none}
-use Rattle.std.proofs.lemmas.Option.{get_or_from_slice_get, slice_get_within}
+use Rattle.std.proofs.lemmas.Option.{get_or_from_slice_get, slice_get_past, slice_get_within}
+use Rattle.std.specs.Option.{option_map}
+use Rattle.kernel_core.specs.Kernel.{view_of}
+use Rattle.kernel_core.specs.Machine.{Machine}
+use Rattle.kernel_core.specs.declared.thread.Thread.{Thread}
 use Rattle.lwc_base.proofs.Orders.{other_name}
 use Rattle.lwc_base.specs.Names.{name_cmp}
 use Rattle.lwc_base.specs.World.{World, is_live}
@@ -52,3 +56,8 @@ pub live_name : (w : World) (c n : Name) (i : ℕ) → slice_get (fm.keys w.cont
 live_name w c n i found same = lives w i c (found ∙ ap Some same)
 
 pub ruleset living = (is_named, not_live)
+
+-- behind the last thread there is none
+pub no_view : (m : Machine) (t : ℕ) → length m.threads ≤ t → view_of m t ≡ None
+unfolding view_of
+no_view m t past = ap (option_map (λ (x : Thread). record { status = x.status; context = x.context; regs = x.regs })) (slice_get_past m.threads t past)

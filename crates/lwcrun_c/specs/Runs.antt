@@ -1,16 +1,18 @@
 -- Runs that a caller keeps as a value, and what it sees of them.
-use Rattle.std.specs.Prelude.{◌≡◌, ◌*◌, if◌then◌else◌, ℕ, zero, suc, List, [], Option, None, Some, Ok, length, nat_lt}
+use Rattle.std.specs.Prelude.{◌≡◌, ◌≢◌, ◌<◌, ◌≤◌, ◌*◌, if◌then◌else◌, ℕ, zero, suc, List, [], Option, None, Some, Ok, Err, length, nat_lt, All}
 use Rattle.std.specs.FinMap as fm
 use Rattle.guest_image.specs.Reading.{image_at}
 use Rattle.guest_image.specs.declared.image.Image.{Image}
 use Rattle.kernel_core.specs.Kernel.{History, machine_of}
 use Rattle.kernel_core.specs.Machine.{work}
 use Rattle.kernel_core.specs.Runs.{kept, peak}
+use Rattle.kernel_core.specs.Settings.{IsSettings}
 use Rattle.kernel_core.specs.Start.{Inputs, start, thread_count}
 use Rattle.kernel_core.specs.declared.settings.Job.{Job}
 use Rattle.kernel_core.specs.declared.settings.Job.TheVariants as jobs
 use Rattle.kernel_core.specs.declared.settings.Settings.{Settings}
 use Rattle.kernel_core.specs.declared.thread.ThreadView.{ThreadView}
+use Rattle.guest_image.specs.declared.fault.ImageRule.{ImageRule}
 use Rattle.lwc_base.specs.Cells.{slot_at}
 use Rattle.lwc_base.specs.Faults.{fault_number}
 use Rattle.lwc_base.specs.Frames.{used}
@@ -19,11 +21,14 @@ use Rattle.lwc_base.specs.declared.descriptor.Descriptor.TheVariants as descript
 use Rattle.lwc_base.specs.declared.fault.ThreadStatus.{ThreadStatus}
 use Rattle.lwc_base.specs.declared.fault.ThreadStatus.TheVariants as statuses
 use Rattle.lwc_base.specs.Memory.{load}
+use Rattle.lwc_base.specs.Outcomes.{Refusal}
 use Rattle.lwc_base.specs.World.{World, is_live}
 use Rattle.lwc_base.specs.declared.descriptor.TheConstants.{SLOTS}
+use Rattle.lwc_base.specs.declared.limits.TheConstants.{MOST_STEPS}
 use Rattle.lwc_base.specs.declared.name.Name.{Name}
 use Rattle.lwc_base.specs.declared.page.TheConstants.{PAGE_BYTES}
 use Rattle.lwc_text.specs.Requests.{requests_at}
+use Rattle.lwc_text.specs.declared.fault.InputRule.{InputRule}
 use Rattle.lwcrun_c.specs.declared.runs.Run.{Run}
 use Rattle.lwcrun_c.specs.declared.runs.RunError.{RunError}
 use Rattle.lwcrun_c.specs.declared.runs.RunError.TheVariants as errors
@@ -50,14 +55,39 @@ abbrev pub inputs_of : Image → List (List ℕ) → Settings → Inputs
 inputs_of image requests settings =
     record { image = image; vault = None; requests = requests; settings = settings }
 
--- a kernel is where a caller's run is: it was opened with the image and the requests that the bytes spell, and has kept
--- the steps of threads that had not ended
+-- a run is opened with this: the image and the requests that its bytes spell, and its settings
+pub record IsOpenedBy (run : Run) (inputs : Inputs) : Type 0 where
+  pub image : image_at run.image.now ≡ Ok inputs.image
+  pub vault : inputs.vault ≡ None
+  pub requests : AreRequestsOf inputs.settings.job run.requests.now inputs.requests
+  pub settings : inputs.settings ≡ settings_of run
+
+-- a kernel is where a caller's run is: it was opened so, and has kept the steps of threads that had not ended
 pub record IsAt (run : Run) (k : History) : Type 0 where
-  pub image : image_at run.image.now ≡ Ok k.inputs.image
-  pub vault : k.inputs.vault ≡ None
-  pub requests : AreRequestsOf k.inputs.settings.job run.requests.now k.inputs.requests
-  pub settings : k.inputs.settings ≡ settings_of run
+  pub inputs : IsOpenedBy run k.inputs
   pub steps : k.steps ≡ kept (start k.inputs) run.steps.now
+
+-- the steps of a run are few enough, and each is of a thread that it has
+pub record AreSteps (run : Run) : Type 0 where
+  pub few : length run.steps.now ≤ MOST_STEPS
+  pub threads : (inputs : Inputs) → IsOpenedBy run inputs → All (λ t. t < thread_count inputs) run.steps.now
+
+-- bytes are no requests of a job: a run has none, and those of a serve break a rule
+abbrev pub AreRefusedOf : Job → List ℕ → Type 0
+AreRefusedOf jobs.Run bytes = bytes ≢ []
+AreRefusedOf (jobs.Serve workers) bytes = (refusal : Refusal InputRule) × (requests_at bytes ≡ Err refusal)
+
+-- the cause of an error, where no kernel is where a run is: what of it is refused
+abbrev pub MayRefuse : Run → RunError → Type 0
+MayRefuse run errors.OutOfMemory = Unit {0}
+MayRefuse run errors.Image = (refusal : Refusal ImageRule) × (image_at run.image.now ≡ Err refusal)
+MayRefuse run errors.Requests = AreRefusedOf (job_for run.workers) run.requests.now
+MayRefuse run errors.TooLarge =
+    (image : Image) × (image_at run.image.now ≡ Ok image) × (run.frames < length image.pages)
+MayRefuse run errors.Settings = IsSettings (settings_of run) → ⊥
+MayRefuse run errors.Steps = AreSteps run → ⊥
+MayRefuse run errors.Missing = ⊥
+MayRefuse run errors.Length = ⊥
 
 -- this holds where a caller's run is
 abbrev pub Sees : Run → (History → Type 0) → Type 0
@@ -130,3 +160,7 @@ run_error_number errors.Settings = 10
 run_error_number errors.Steps = 11
 run_error_number errors.Missing = 12
 run_error_number errors.Length = 13
+
+-- a status that is not 0 is the number of an error of which this holds
+abbrev pub SaysWhy : ℕ → (RunError → Type 0) → Type 0
+SaysWhy status holds = status ≢ 0 → (error : RunError) × (status ≡ run_error_number error) × holds error

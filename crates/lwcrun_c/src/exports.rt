@@ -1,18 +1,29 @@
 //! The functions that C calls. `include/lwcrun.h` says what each wants and answers; a caller that passes what no Rust
 //! reference may be, as a null pointer, breaks what every line here rests on.
 
-ghost use Rattle.std.specs.Prelude.{◌≡◌, ◌≢◌, ◌<◌, Err, IfOk, IfSome, Some, map, string_bytes};
+ghost use Rattle.std.specs.Prelude.{◌≡◌, ◌≢◌, ◌<◌, Err, IfOk, IfSome, None, Some, length, map, string_bytes};
 ghost use Rattle.std.specs.Option.{option_map};
 ghost use Rattle.kernel_core.specs.Kernel.{machine_of, view_of};
+ghost use Rattle.lwc_base.specs.declared.page.TheConstants.{PAGE_BYTES};
 ghost use Rattle.lwcrun_c.specs.Border.{line_of, named};
 ghost use Rattle.lwcrun_c.specs.Lines.{IsAnswer, IsOutcome};
-ghost use Rattle.lwcrun_c.specs.Runs.{Sees, page_at, slot_in, slot_of, state_of, totals_of, world_of};
+ghost use Rattle.lwcrun_c.specs.Runs.{
+  MayRefuse,
+  Sees,
+  SaysWhy,
+  page_at,
+  slot_in,
+  slot_of,
+  state_of,
+  totals_of,
+  world_of,
+};
 ghost use Rattle.lwcrun_core.specs.Statuses.{exit_number};
 ghost use Rattle.lwcrun_line.specs.Lines.{RunsThreads, command_of};
 
 use crate::border::{Bytes, FileBytes, LineError, files_from, left_to_caller, words_from};
 use crate::lines::{Outcome, carry_out_line};
-use crate::runs::Run;
+use crate::runs::{Run, RunError};
 use crate::shapes::{SlotState, ThreadState, Totals};
 use crate::views;
 use lazy_world::LazyWorld;
@@ -83,6 +94,7 @@ fn put_answer(outcome: Outcome, answer: &mut Answer<'_>) -> u32
 #[unsafe(no_mangle)]
 pub extern "C" fn lwcrun_c_totals(alloc: Global, run: &Run<'_>, totals: &mut Totals) -> u32
     ensures seen { result ≡ 0 → Sees run.now (λ k. totals.new ≡ totals_of k) }
+    ensures refused { SaysWhy result (MayRefuse run.now) }
     ensures unchanged { result ≢ 0 → totals.new ≡ totals.old }
 {
     match views::totals_of_run::<LazyWorld>(alloc, run) {
@@ -104,6 +116,8 @@ pub extern "C" fn lwcrun_c_thread(
 ) -> u32
     ensures seen { result ≡ 0
         → Sees run.now (λ k. option_map state_of (view_of (machine_of k) thread) ≡ Some state.new) }
+    ensures refused { SaysWhy result (λ error. (error ≢ RunError.Missing → MayRefuse run.now error)
+        × (error ≡ RunError.Missing → Sees run.now (λ k. view_of (machine_of k) thread ≡ None))) }
     ensures unchanged { result ≢ 0 → state.new ≡ state.old }
 {
     match views::thread_of_run::<LazyWorld>(alloc, run, thread) {
@@ -128,6 +142,11 @@ pub extern "C" fn lwcrun_c_page(
 ) -> u32
     ensures seen { result ≡ 0 → Sees run.now (λ k.
         page_at (world_of k) (record { job = job; k = context }) page ≡ Some bytes.new) }
+    ensures refused { SaysWhy result (λ error.
+        (error ≢ RunError.Missing → error ≢ RunError.Length → MayRefuse run.now error)
+        × (error ≡ RunError.Missing → Sees run.now (λ k.
+        page_at (world_of k) (record { job = job; k = context }) page ≡ None))
+        × (error ≡ RunError.Length → length bytes.old ≢ PAGE_BYTES)) }
     ensures unchanged { result ≢ 0 → bytes.new ≡ bytes.old }
 {
     match views::copy_page_of_run::<LazyWorld>(alloc, run, Name { job, k: context }, page, bytes) {
@@ -149,6 +168,9 @@ pub extern "C" fn lwcrun_c_slot(
 ) -> u32
     ensures seen { result ≡ 0 → Sees run.now (λ k.
         option_map slot_of (slot_in (world_of k) (record { job = job; k = context }) slot) ≡ Some state.new) }
+    ensures refused { SaysWhy result (λ error. (error ≢ RunError.Missing → MayRefuse run.now error)
+        × (error ≡ RunError.Missing → Sees run.now (λ k.
+        slot_in (world_of k) (record { job = job; k = context }) slot ≡ None))) }
     ensures unchanged { result ≢ 0 → state.new ≡ state.old }
 {
     match views::slot_of_run::<LazyWorld>(alloc, run, Name { job, k: context }, slot) {

@@ -1,15 +1,24 @@
 //! A run that the caller keeps as a value: what it is opened with, and its steps so far.
 
-ghost use Rattle.std.specs.Prelude.{◌≡◌, ◌<◌, ◌≤◌, [], All, IfOk, IsTrue, Ok, length};
+ghost use Rattle.std.specs.Prelude.{◌≡◌, ◌<◌, ◌≤◌, [], All, IfErr, IfOk, IsTrue, Ok, length};
 ghost use Rattle.guest_image.specs.Limits.{IsImage};
 ghost use Rattle.guest_image.specs.Reading.{image_at};
 ghost use Rattle.kernel_core.specs.Kernel.{AreRequests, MayHave, opened};
 ghost use Rattle.kernel_core.specs.Runs.{kept};
 ghost use Rattle.kernel_core.specs.Settings.{IsJob, IsSettings};
 ghost use Rattle.kernel_core.specs.Start.{start};
-ghost use Rattle.lwc_base.specs.declared.limits.TheConstants.{MOST_STEPS, MOST_THREADS};
+ghost use Rattle.lwc_base.specs.declared.limits.TheConstants.{MOST_STEPS};
 ghost use Rattle.lwc_text.specs.Requests.{requests_at};
-ghost use Rattle.lwcrun_c.specs.Runs.{AreRequestsOf, IsAt, inputs_of, job_for, run_error_number, settings_of};
+ghost use Rattle.lwcrun_c.specs.Runs.{
+  AreRequestsOf,
+  IsAt,
+  IsOpenedBy,
+  MayRefuse,
+  inputs_of,
+  job_for,
+  run_error_number,
+  settings_of,
+};
 
 use guest_image::{Image, ImageFault, read_image};
 use kernel_core::{Job, Kernel, OpenFault, Settings};
@@ -73,6 +82,7 @@ impl Run<'_> {
     /// A kernel where this run is.
     pub fn kernel<W: World>(&self, alloc: Global) -> Result<Kernel<W>, RunError>
         ensures kernel { IfOk result (λ kernel. IsAt self.now kernel) }
+        ensures refused { IfErr result (MayRefuse self.now) }
     {
         let steps = self.step_count()?;
         let settings = self.settings()?;
@@ -95,8 +105,11 @@ impl Run<'_> {
         requires settings { IsSettings settings.now }
         requires requests { MayHave settings.now.job requests }
         requires steps { steps ≤ MOST_STEPS }
+        requires read { image_at self.now.image.now ≡ Ok image.now }
+        requires frames { settings.now.frames ≡ self.now.frames }
         ensures opened { IfOk result (λ kernel. kernel
             ≡ opened (inputs_of image.now requests settings.now) steps) }
+        ensures refused { IfErr result (MayRefuse self.now) }
     {
         match Kernel::open(alloc, image, requests, steps, settings) {
             Ok(kernel) => Ok(kernel),
@@ -113,11 +126,19 @@ impl Run<'_> {
     ) -> Result<Kernel<W>, RunError>
         requires fresh { kernel.steps ≡ [] }
         requires room { kernel.room ≡ length self.now.steps.now }
+        requires few { length self.now.steps.now ≤ MOST_STEPS }
+        requires opened { IsOpenedBy self.now kernel.inputs }
         ensures inputs { IfOk result (λ after. after.inputs ≡ kernel.inputs) }
         ensures steps { IfOk result (λ after. after.steps ≡ kept (start kernel.inputs) self.now.steps.now) }
+        ensures refused { IfErr result (MayRefuse self.now) }
     {
-        let steps = self.schedule(alloc, kernel.thread_count())?;
-        match make_steps(&mut kernel, &steps) {
+        if !are_below(self.steps, kernel.thread_count()) {
+            return Err(RunError::Steps);
+        }
+        let Ok(steps) = Vec::from_slice(alloc, self.steps) else {
+            return Err(RunError::OutOfMemory);
+        };
+        match make_steps(&mut kernel, &Schedule::of(steps)) {
             Ok(()) => Ok(kernel),
             Err(_) => Err(RunError::OutOfMemory),
         }
@@ -127,6 +148,7 @@ impl Run<'_> {
     fn step_count(&self) -> Result<u32, RunError>
         ensures count { IfOk result (λ count. count ≡ length self.now.steps.now) }
         ensures few { IfOk result (λ count. count ≤ MOST_STEPS) }
+        ensures refused { IfErr result (MayRefuse self.now) }
     {
         if self.steps.len() > MOST_STEPS as usize {
             return Err(RunError::Steps);
@@ -138,6 +160,7 @@ impl Run<'_> {
     fn settings(&self) -> Result<Settings, RunError>
         ensures settings { IfOk result (λ settings. settings ≡ settings_of self.now) }
         ensures limits { IfOk result IsSettings }
+        ensures refused { IfErr result (MayRefuse self.now) }
     {
         if !is_within(self.frames, MOST_FRAMES) || !is_within(self.budget, MOST_BUDGET) {
             return Err(RunError::Settings);
@@ -153,6 +176,8 @@ impl Run<'_> {
     fn job(&self) -> Result<Job, RunError>
         ensures job { IfOk result (λ job. job ≡ job_for self.now.workers) }
         ensures limits { IfOk result IsJob }
+        ensures refused { IfErr result (λ error.
+            (error ≡ RunError.Settings) × (IsJob (job_for self.now.workers) → ⊥)) }
     {
         match self.workers {
             0 => Ok(Job::Run),
@@ -165,6 +190,7 @@ impl Run<'_> {
     fn image_in(&self, alloc: Global) -> Result<Image, RunError>
         ensures image { IfOk result (λ image. image_at self.now.image.now ≡ Ok image) }
         ensures limits { IfOk result IsImage }
+        ensures refused { IfErr result (MayRefuse self.now) }
     {
         match read_image(alloc, self.image) {
             Ok(image) => Ok(image),
@@ -175,8 +201,10 @@ impl Run<'_> {
 
     /// The requests of a job.
     fn requests_in(&self, alloc: Global, job: Job) -> Result<Requests, RunError>
+        requires job { job ≡ job_for self.now.workers }
         ensures requests { IfOk result (λ requests. AreRequestsOf job self.now.requests.now requests) }
         ensures limits { IfOk result (λ requests. MayHave job requests) }
+        ensures refused { IfErr result (MayRefuse self.now) }
     {
         match job {
             Job::Run if self.requests.is_empty() => Ok(Requests::of(Vec::new(alloc))),
@@ -187,8 +215,10 @@ impl Run<'_> {
 
     /// The requests of a serve.
     fn requests_of_serve(&self, alloc: Global) -> Result<Requests, RunError>
+        requires serves { 1 ≤ self.now.workers }
         ensures requests { IfOk result (λ requests. requests_at self.now.requests.now ≡ Ok requests) }
         ensures limits { IfOk result AreRequests }
+        ensures refused { IfErr result (MayRefuse self.now) }
     {
         match read_requests(alloc, self.requests) {
             Ok(requests) => Ok(requests),
@@ -196,34 +226,20 @@ impl Run<'_> {
             Err(InputFault::Refused { .. }) => Err(RunError::Requests),
         }
     }
-
-    /// The steps, where all are of threads below this number.
-    fn schedule(&self, alloc: Global, threads: u32) -> Result<Schedule, RunError>
-        requires few { length self.now.steps.now ≤ MOST_STEPS }
-        requires threads { threads ≤ MOST_THREADS }
-        ensures steps { IfOk result (λ schedule. schedule ≡ self.now.steps.now) }
-        ensures threads { IfOk result (λ schedule. All (λ t. t < threads) schedule) }
-    {
-        if !are_below(self.steps, threads) {
-            return Err(RunError::Steps);
-        }
-        match Vec::from_slice(alloc, self.steps) {
-            Ok(steps) => Ok(Schedule::of(steps)),
-            Err(_) => Err(RunError::OutOfMemory),
-        }
-    }
 }
 
 /// Whether a number is 1 or more, and at most this one.
 fn is_within(number: u32, most: u32) -> bool
-    ensures { IsTrue result → (1 ≤ number) × (number ≤ most) }
+    ensures within { IsTrue result → (1 ≤ number) × (number ≤ most) }
+    ensures only { (1 ≤ number) × (number ≤ most) → IsTrue result }
 {
     1 <= number && number <= most
 }
 
 /// Whether all of these are below a number.
 fn are_below(steps: &[u8], end: u32) -> bool
-    ensures { IsTrue result → All (λ t. t < end) steps.now }
+    ensures below { IsTrue result → All (λ t. t < end) steps.now }
+    ensures only { All (λ t. t < end) steps.now → IsTrue result }
 {
     steps.iter().all(|t| u32::from(*t) < end)
 }

@@ -1,10 +1,11 @@
 //! What can be seen of a run.
 
-ghost use Rattle.std.specs.Prelude.{◌≡◌, IfOk, OnErr, OnOk, Some};
+ghost use Rattle.std.specs.Prelude.{◌≡◌, ◌≢◌, Err, IfErr, IfOk, None, OnErr, OnOk, Some, length};
 ghost use Rattle.std.specs.Option.{option_map};
 ghost use Rattle.kernel_core.specs.Kernel.{machine_of, view_of};
 ghost use Rattle.lwc_base.specs.World.{is_live};
-ghost use Rattle.lwcrun_c.specs.Runs.{Sees, page_at, slot_in, slot_of, state_of, totals_of, world_of};
+ghost use Rattle.lwc_base.specs.declared.page.TheConstants.{PAGE_BYTES};
+ghost use Rattle.lwcrun_c.specs.Runs.{MayRefuse, Sees, page_at, slot_in, slot_of, state_of, totals_of, world_of};
 
 use crate::runs::{Run, RunError};
 use crate::shapes::{SlotState, ThreadState, Totals};
@@ -16,6 +17,7 @@ use world_face::World;
 /// The totals of a run.
 pub fn totals_of_run<W: World>(alloc: Global, run: &Run<'_>) -> Result<Totals, RunError>
     ensures totals { IfOk result (λ totals. Sees run.now (λ k. totals ≡ totals_of k)) }
+    ensures refused { IfErr result (MayRefuse run.now) }
 {
     let kernel = run.kernel::<W>(alloc)?;
     Ok(totals(&kernel))
@@ -33,6 +35,8 @@ pub fn thread_of_run<W: World>(
 ) -> Result<ThreadState, RunError>
     ensures state { IfOk result (λ state.
         Sees run.now (λ k. option_map state_of (view_of (machine_of k) t) ≡ Some state)) }
+    ensures missing { result ≡ Err RunError.Missing → Sees run.now (λ k. view_of (machine_of k) t ≡ None) }
+    ensures refused { IfErr result (λ error. error ≢ RunError.Missing → MayRefuse run.now error) }
 {
     let kernel = run.kernel::<W>(alloc)?;
     thread(&kernel, t)
@@ -51,6 +55,11 @@ pub fn copy_page_of_run<W: World>(
     bytes: &mut [u8],
 ) -> Result<(), RunError>
     ensures page { OnOk result (Sees run.now (λ k. page_at (world_of k) name page ≡ Some bytes.new)) }
+    ensures missing { result ≡ Err RunError.Missing
+        → Sees run.now (λ k. page_at (world_of k) name page ≡ None) }
+    ensures length { result ≡ Err RunError.Length → length bytes.old ≢ PAGE_BYTES }
+    ensures refused { IfErr result (λ error. error ≢ RunError.Missing → error ≢ RunError.Length
+        → MayRefuse run.now error) }
     ensures error { OnErr result (bytes.new ≡ bytes.old) }
 {
     let kernel = run.kernel::<W>(alloc)?;
@@ -70,6 +79,8 @@ pub fn slot_of_run<W: World>(
 ) -> Result<SlotState, RunError>
     ensures state { IfOk result (λ state.
         Sees run.now (λ k. option_map slot_of (slot_in (world_of k) name n) ≡ Some state)) }
+    ensures missing { result ≡ Err RunError.Missing → Sees run.now (λ k. slot_in (world_of k) name n ≡ None) }
+    ensures refused { IfErr result (λ error. error ≢ RunError.Missing → MayRefuse run.now error) }
 {
     let kernel = run.kernel::<W>(alloc)?;
     slot(&kernel, name, n)
@@ -94,8 +105,11 @@ fn totals<W: World>(kernel: &Kernel<W>) -> Totals
 /// # Errors
 ///
 /// `Missing` where there is none.
+#[tactic(auto, using(crate::proofs::Living::no_view))]
 fn thread<W: World>(kernel: &Kernel<W>, t: u32) -> Result<ThreadState, RunError>
     ensures state { IfOk result (λ state. option_map state_of (view_of (machine_of kernel.now) t) ≡ Some state) }
+    ensures missing { IfErr result (λ error.
+        (error ≡ RunError.Missing) × (view_of (machine_of kernel.now) t ≡ None)) }
 {
     if t >= kernel.thread_count() {
         return Err(RunError::Missing);
@@ -116,6 +130,9 @@ fn copy_page<W: World>(
     bytes: &mut [u8],
 ) -> Result<(), RunError>
     ensures page { OnOk result (page_at (world_of kernel.now) name page ≡ Some bytes.new) }
+    ensures missing { result ≡ Err RunError.Missing → page_at (world_of kernel.now) name page ≡ None }
+    ensures length { result ≡ Err RunError.Length → length bytes.old ≢ PAGE_BYTES }
+    ensures only { IfErr result (λ error. error ≢ RunError.Missing → error ≡ RunError.Length) }
     ensures error { OnErr result (bytes.new ≡ bytes.old) }
 {
     if bytes.len() != PAGE_BYTES {
@@ -139,6 +156,8 @@ fn copy_page<W: World>(
 /// `Missing` where the context is not live, or a context has no slot of this number.
 fn slot<W: World>(kernel: &Kernel<W>, name: Name, n: u32) -> Result<SlotState, RunError>
     ensures state { IfOk result (λ state. option_map slot_of (slot_in (world_of kernel.now) name n) ≡ Some state) }
+    ensures missing { IfErr result (λ error.
+        (error ≡ RunError.Missing) × (slot_in (world_of kernel.now) name n ≡ None)) }
 {
     let world = kernel.world();
     if !is_live(world, name) || n >= u32::from(SLOTS) {
