@@ -30,8 +30,8 @@ machine_since inputs before t since = run (machine_made inputs before t) since
 
 -- of a history: each step is confined; a context that a step makes by the call for it, and that is untouched
 -- for some steps, is then as it was made; a thread that enters it by the next step goes on as it was made; and
--- steps that stay in a closed context leave the others, and where it has no descriptor of the console or of a reply, they
--- write nothing
+-- steps that stay in a closed context leave the others, and where it has no descriptor of the console or of a
+-- reply, they write nothing
 pub record IsConfinedRun (inputs : Inputs) (steps : List ℕ) : Type 0 where
   pub each : (before rest : List ℕ) (t : ℕ) → steps ≡ before ++ t ∷ rest →
       IsConfined (machine_after inputs before) t (machine_made inputs before t)
@@ -54,4 +54,5 @@ pub record IsConfinedRun (inputs : Inputs) (steps : List ℕ) : Type 0 where
       IsClosed (world_of (machine_after inputs before)) c →
       ((n : ℕ) → n < SLOTS → is_written (slot_at (world_of (machine_after inputs before)) c n) ≡ false) →
       StayIn (world_of (machine_after inputs before)) c (machine_after inputs before) during →
-      (run (machine_after inputs before) during).environment.channels ≡ (machine_after inputs before).environment.channels
+      (run (machine_after inputs before) during).environment.channels ≡
+          (machine_after inputs before).environment.channels

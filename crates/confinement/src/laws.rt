@@ -5,7 +5,8 @@ ghost use Rattle.access_cap.specs.Kinds.{is_chosen};
 ghost use Rattle.confinement.specs.Closed.{IsClosed, IsOfJob, LeavesOthers, StayIn};
 ghost use Rattle.confinement.specs.Confined.{IsConfined, IsLiveInBoth};
 ghost use Rattle.confinement.specs.Faults.{EndsByFault};
-ghost use Rattle.confinement.specs.Fences.{Fence, fence_of, IsMute, KeepsTo, LeavesOutside, StayInside, StayInsideOrAway, StaysInside};
+ghost use Rattle.confinement.specs.Fences.{Fence, fence_of, IsMute, KeepsTo, LeavesOutside, StayInside};
+ghost use Rattle.confinement.specs.Fences.{StayInsideOrAway, StaysInside};
 ghost use Rattle.confinement.specs.May.{IsGiven, MakesCall, MayChange, regs_at, world_of};
 ghost use Rattle.confinement.specs.One.{IsOneValue};
 ghost use Rattle.confinement.specs.Rest.{LacksKey, ReachesNoOther};
@@ -152,8 +153,8 @@ pub fn steps_inside_a_fence_leave_what_is_outside()
         ≡ (run (start inputs) before).environment.channels }
 {}
 
-/// Steps of which each is made inside a fence, or outside and away from it, keep to the fence; so each of those inside leaves what is
-/// outside.
+/// Steps of which each is made inside a fence, or outside and away from it, keep to the fence; so each of
+/// those inside leaves what is outside.
 pub fn steps_inside_or_away_keep_to_a_fence()
     ensures keep { (inputs : Inputs) (before during : List ℕ) (f : Fence) → CanOpen inputs →
         KeepsTo f (run (start inputs) before) → StayInsideOrAway f (run (start inputs) before) during →
@@ -185,8 +186,8 @@ pub fn a_closed_context_leaves_others()
         IsClosed (world_of (step (run (start inputs) steps) t)) c }
 {}
 
-/// A closed context keeps to its fence: inside are it and what the job of its threads makes from then on, and nothing is opened. So
-/// the laws of fences hold of it also where other threads make steps between.
+/// A closed context keeps to its fence: inside are it and what the job of its threads makes from then on, and
+/// nothing is opened. So the laws of fences hold of it also where other threads make steps between.
 pub fn a_closed_context_keeps_to_its_fence()
     ensures { (inputs : Inputs) (steps : List ℕ) (c : Name) (job : ℕ) → CanOpen inputs →
         IsClosed (world_of (run (start inputs) steps)) c → IsOfJob (run (start inputs) steps) c job →
@@ -203,8 +204,8 @@ pub fn a_context_without_descriptors_is_closed()
         IsClosed (world_of (run (step (run (start inputs) before) t) since)) c }
 {}
 
-/// The first three of these laws hold of each list of steps, for each beginning of it: so they do of the
-/// steps that a kernel has kept.
+/// The first three of these laws, and those of a closed context, hold of each list of steps, for each beginning
+/// of it: so they do of the steps that a kernel has kept.
 pub fn runs_are_confined()
     ensures { (inputs : Inputs) (steps : List ℕ) → CanOpen inputs → IsConfinedRun inputs steps }
 {}

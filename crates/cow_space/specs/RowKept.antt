@@ -8,7 +8,8 @@ use Rattle.cow_space.specs.declared.rows.TheConstants.{FREE_NODES}
 
 -- no two held frames have one stamp
 abbrev pub IsStamped : List Frame → Type 0
-IsStamped frames = (f g : ℕ) → 0 < frame_count frames f → 0 < frame_count frames g → frame_stamp frames f ≡ frame_stamp frames g → f ≡ g
+IsStamped frames = (f g : ℕ) → 0 < frame_count frames f → 0 < frame_count frames g →
+    frame_stamp frames f ≡ frame_stamp frames g → f ≡ g
 
 -- nothing else holds anything of the store, each held frame has a stamp of its own, and there are nodes for
 -- all trees and for one change

@@ -15,7 +15,8 @@ read_value maps i p = unwrap_or (row_of maps i p) Zero
 -- the value of a page once a piece is there: under the new tag if it parts, and else under its own
 abbrev pub written_value : List (ℕ → Option PageValue) → ℕ → ℕ → Piece → Tag → PageValue
 written_value maps i p piece tag =
-    stored_value (parts (row_tags maps) (row_of maps i p)) tag (read_value maps i p) (bytes_after piece p (bytes_of (read_value maps i p)))
+    stored_value (parts (row_tags maps) (row_of maps i p)) tag (read_value maps i p)
+    (bytes_after piece p (bytes_of (read_value maps i p)))
 
 -- the rows once a piece is written to a page of one
 abbrev pub write_page : List (ℕ → Option PageValue) → ℕ → ℕ → Piece → Tag → List (ℕ → Option PageValue)

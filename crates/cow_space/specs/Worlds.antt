@@ -32,5 +32,7 @@ pub record WorldLaws : Type 0 where
       worlds.tags_of_group pages x ≡ tags_of_place place
   pub used : (w : World) (cells : List Place) (numbers : List ℕ) → HoldAllTags cells numbers →
       worlds.tags w ≡ tags_at cells numbers → worlds.used w ≡ used cells
-  pub parting : (w : World) (cells : List Place) (numbers : List ℕ) (i p : ℕ) (value : PageValue) → HoldAllTags cells numbers →
-      worlds.tags w ≡ tags_at cells numbers → place_of cells i p ≡ cell.Own (Some value) → worlds.is_parting w value ≡ is_parting cells i p
+  pub parting : (w : World) (cells : List Place) (numbers : List ℕ) (i p : ℕ) (value : PageValue) →
+      HoldAllTags cells numbers →
+      worlds.tags w ≡ tags_at cells numbers → place_of cells i p ≡ cell.Own (Some value) →
+      worlds.is_parting w value ≡ is_parting cells i p

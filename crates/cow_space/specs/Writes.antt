@@ -17,7 +17,8 @@ page_value cells i p = unwrap_or (own_values (place_of cells i) p) Zero
 -- the value of a page once a piece is there: under the new tag if it parts, and else under its own
 abbrev pub written_value : List Place → ℕ → ℕ → Piece → Tag → PageValue
 written_value cells i p piece tag =
-    stored_value (is_parting cells i p) tag (page_value cells i p) (bytes_after piece p (bytes_of (page_value cells i p)))
+    stored_value (is_parting cells i p) tag (page_value cells i p)
+    (bytes_after piece p (bytes_of (page_value cells i p)))
 
 -- the places once a piece is written to a page of one
 abbrev pub write_page : List Place → ℕ → ℕ → Piece → Tag → List Place

@@ -1,4 +1,4 @@
-#![tactic(auto, unfolding(crate::specs::Seen::frames_of, crate::specs::Seen::pool, crate::specs::Seen::free_frames, crate::specs::Seen::free_nodes))]
+#![tactic(auto, unfolding(crate::specs::Seen::frames_of, crate::specs::Seen::pool, crate::specs::Seen::free_frames, crate::specs::Seen::free_nodes,),)]
 
 ghost use Rattle.std.specs.Prelude.{◌≡◌, ◌≢◌, ◌<◌, ◌≤◌, ◌+◌, ◌*◌, ◌⊎◌, ℕ, All, length, min, slice_set};
 ghost use Rattle.page_tree.specs.declared.store.TheConstants.{PAGES, TREE_NODES};

@@ -31,7 +31,8 @@ fn empty_trees(alloc: Global, rows: u32) -> Result<Vec<PageTree>, OutOfMemory>
 }
 
 impl Rows {
-    ghost use Rattle.std.specs.Prelude.{◌≡◌, ℕ, ◌+◌, ◌*◌, ◌<◌, ◌≤◌, ◌↔◌, true, false, IfNone, IfOk, IfSome, length, replicate, slice_index};
+    ghost use Rattle.std.specs.Prelude.{◌≡◌, ℕ, ◌+◌, ◌*◌, ◌<◌, ◌≤◌, ◌↔◌, true, false, IfNone, IfOk, IfSome, length};
+    ghost use Rattle.std.specs.Prelude.{replicate, slice_index};
     ghost use Rattle.page_tree.specs.declared.cell.PageCell.TheVariants as cell;
     ghost use Rattle.std.specs.Option.{option_copied};
     ghost use Rattle.page_tree.specs.declared.store.TheConstants.{PAGES, TREE_NODES};

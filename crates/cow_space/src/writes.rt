@@ -26,7 +26,7 @@ impl PageCells {
     ///
     /// `NoFrame` exactly where the frames in use and the one that the page takes are more than there are.
     /// Nothing changes then.
-    #[tactic(auto, unfolding(crate::specs::Seen::rights, crate::specs::Seen::frames_of, crate::specs::Seen::free_nodes))]
+    #[tactic(auto, unfolding(crate::specs::Seen::rights, crate::specs::Seen::frames_of, crate::specs::Seen::free_nodes,),)]
     pub fn write<L: Ledger>(
         &mut self,
         i: usize,
@@ -66,7 +66,7 @@ impl PageCells {
     /// written and does not part, and tells whether it did. No other page of any place changes, and no right
     /// does. If it did not, nothing changes.
     #[inline(always)]
-    #[tactic(auto, unfolding(crate::specs::Seen::rights, crate::specs::Seen::frames_of, crate::specs::Seen::free_nodes))]
+    #[tactic(auto, unfolding(crate::specs::Seen::rights, crate::specs::Seen::frames_of, crate::specs::Seen::free_nodes,),)]
     pub fn write_in_place(&mut self, i: usize, p: PageNumber, at: u32, piece: &[u8]) -> bool
         requires place { i < length (cells self.old) }
         ensures tells { (result ≡ true) ↔ (IsOwnPage (place_of (cells self.old) i p)

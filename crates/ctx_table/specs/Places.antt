@@ -14,7 +14,8 @@ pub record Places : Type 0 where
 
 -- they are stored as a pair
 abbrev pub places_code : Coded Places
-places_code = code_by (fm.FinMap name_cmp ℕ × ℕ) (coded× (fm.code the_row.coded coded_ℕ) coded_ℕ) (λ p. (p.map, p.room)) (λ p. record { map = p.0; room = p.1 }) (λ _. refl)
+places_code = code_by (fm.FinMap name_cmp ℕ × ℕ) (coded× (fm.code the_row.coded coded_ℕ) coded_ℕ)
+    (λ p. (p.map, p.room)) (λ p. record { map = p.0; room = p.1 }) (λ _. refl)
 
 -- a row has the name
 pub record IsAt (rows : List (Name × ℕ)) (name : Name) (i : ℕ) : Type 0 where

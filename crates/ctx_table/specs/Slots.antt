@@ -1,5 +1,6 @@
 -- How a table lays contexts out: each in a slot, and the place of each name in an index.
-use Rattle.std.specs.Prelude.{◌≡◌, ℕ, ◌<◌, ◌≤◌, Bool, true, false, List, [], ◌∷◌, Option, None, Some, count_by, is_some, length, map, slice_index_or}
+use Rattle.std.specs.Prelude.{◌≡◌, ℕ, ◌<◌, ◌≤◌, Bool, true, false, List, [], ◌∷◌, Option, None, Some, count_by}
+use Rattle.std.specs.Prelude.{is_some, length, map, slice_index_or}
 use Rattle.std.specs.FinMap as fm
 use Rattle.std.specs.Option.{option_map}
 use Rattle.lwc_base.specs.declared.name.Name.{Name}

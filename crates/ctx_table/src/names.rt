@@ -1,4 +1,5 @@
-ghost use Rattle.std.specs.Prelude.{◌≡◌, ◌==◌, ◌<◌, ◌≤◌, ◌↔◌, None, Some, IfOk, IfSome, count_by, false, is_none, length, replicate, slice_get, slice_index_or, slice_set, true};
+ghost use Rattle.std.specs.Prelude.{◌≡◌, ◌==◌, ◌<◌, ◌≤◌, ◌↔◌, None, Some, IfOk, IfSome, count_by, false, is_none};
+ghost use Rattle.std.specs.Prelude.{length, replicate, slice_get, slice_index_or, slice_set, true};
 ghost use Rattle.std.specs.FinMap as fm;
 ghost use Rattle.std.specs.List.{position};
 ghost use Rattle.ctx_table.specs.Contexts.{first_free};

@@ -1,4 +1,5 @@
-ghost use Rattle.std.specs.Prelude.{◌≡◌, ◌==◌, ℕ, ◌<◌, ◌≤◌, ◌↔◌, None, Some, IfOk, IfSome, count_by, false, length, is_some, replicate, slice_get, slice_index_or, slice_set, true};
+ghost use Rattle.std.specs.Prelude.{◌≡◌, ◌==◌, ℕ, ◌<◌, ◌≤◌, ◌↔◌, None, Some, IfOk, IfSome, count_by, false, length};
+ghost use Rattle.std.specs.Prelude.{is_some, replicate, slice_get, slice_index_or, slice_set, true};
 ghost use Rattle.std.specs.Borrow.{sem};
 ghost use Rattle.std.specs.FinMap as fm;
 ghost use Rattle.std.specs.Option.{option_map};

@@ -1,5 +1,6 @@
 -- How many objects that are held name a place.
-use Rattle.std.specs.Prelude.{◌≡◌, ◌≢◌, ℕ, ◌+◌, ◌-◌, ◌<◌, ◌==◌, ◌&&◌, if◌then◌else◌, Bool, false, List, Option, None, Some, count_by, length, nat_lt, slice_index, slice_set}
+use Rattle.std.specs.Prelude.{◌≡◌, ◌≢◌, ℕ, ◌+◌, ◌-◌, ◌<◌, ◌==◌, ◌&&◌, if◌then◌else◌, Bool, false, List, Option, None}
+use Rattle.std.specs.Prelude.{Some, count_by, length, nat_lt, slice_index, slice_set}
 use Rattle.fd_table.specs.Pools.{Held, count_of, held_at, slot_at}
 use Rattle.fd_table.specs.Slots.{Slot}
 use Rattle.fd_table.specs.Tables.{times}

@@ -1,5 +1,6 @@
 -- The tables of places over a pool, and how often their entries name an object.
-use Rattle.std.specs.Prelude.{◌≡◌, ℕ, ◌+◌, ◌-◌, ◌<◌, ◌==◌, if◌then◌else◌, List, count_by, length, map, nat_lt, replicate, slice_index, slice_index_or, sum_by}
+use Rattle.std.specs.Prelude.{◌≡◌, ℕ, ◌+◌, ◌-◌, ◌<◌, ◌==◌, if◌then◌else◌, List, count_by, length, map, nat_lt}
+use Rattle.std.specs.Prelude.{replicate, slice_index, slice_index_or, sum_by}
 use Rattle.lwc_base.specs.Capabilities.{has_bit}
 use Rattle.fd_table.specs.declared.table.Table.{Table}
 use Rattle.fd_table.specs.Pools.{Held, slot_at}

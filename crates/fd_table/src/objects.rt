@@ -1,7 +1,9 @@
-ghost use Rattle.std.specs.Prelude.{◌≡◌, ℕ, ◌+◌, ◌-◌, ◌≤◌, ◌<◌, ◌^◌, ◌∷◌, [], count_by, length, nat_lt, replicate, slice_index, IfOk, IfSome};
+ghost use Rattle.std.specs.Prelude.{◌≡◌, ℕ, ◌+◌, ◌-◌, ◌≤◌, ◌<◌, ◌^◌, ◌∷◌, [], count_by, length, nat_lt, replicate};
+ghost use Rattle.std.specs.Prelude.{slice_index, IfOk, IfSome};
 ghost use Rattle.std.specs.List.{list_any};
 ghost use Rattle.fd_table.specs.Fillings.{slot_of};
-ghost use Rattle.fd_table.specs.Objects.{counted_less, counted_more, is_naming, last_target, HoldsLess, HoldsMore, IsCounted, Takes};
+ghost use Rattle.fd_table.specs.Objects.{counted_less, counted_more, is_naming, last_target, HoldsLess, HoldsMore};
+ghost use Rattle.fd_table.specs.Objects.{IsCounted, Takes};
 ghost use Rattle.fd_table.specs.Pools.{count_of, free_of, held_at, no_held, recount};
 ghost use Rattle.fd_table.specs.Tables.{times};
 

@@ -1,4 +1,5 @@
-ghost use Rattle.std.specs.Prelude.{◌≡◌, ◌≢◌, ℕ, ◌+◌, ◌-◌, ◌<◌, ◌^◌, ◌↔◌, List, IfOk, IfSome, IfNone, IsNone, length, replicate, slice_set};
+ghost use Rattle.std.specs.Prelude.{◌≡◌, ◌≢◌, ℕ, ◌+◌, ◌-◌, ◌<◌, ◌^◌, ◌↔◌, List, IfOk, IfSome, IfNone, IsNone, length};
+ghost use Rattle.std.specs.Prelude.{replicate, slice_set};
 ghost use Rattle.lwc_base.specs.declared.page.TheConstants.{PAGE_BYTES};
 
 use lwc_base::{OutOfMemory, PAGE_BYTES, Tag};
@@ -42,7 +43,8 @@ impl Model for Pool {
 
 impl Pool {
     ghost use Rattle.std.specs.Borrow.{sem};
-    ghost use Rattle.frame_pool.specs.Frame.{frame_count, frame_stamp, frame_bytes, recount_frame, refill_frame, free_frames, used_frames, zero_frame};
+    ghost use Rattle.frame_pool.specs.Frame.{frame_count, frame_stamp, frame_bytes, recount_frame, refill_frame};
+    ghost use Rattle.frame_pool.specs.Frame.{free_frames, used_frames, zero_frame};
     ghost use Rattle.frame_pool.specs.PoolLending.{LendsBytes};
 
     /// A pool of this many frames, all free. The only error is out of memory.

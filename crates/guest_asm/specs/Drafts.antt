@@ -1,5 +1,6 @@
 -- The image that a source makes.
-use Rattle.std.specs.Prelude.{ℕ, ◌-◌, not, nat_lt, if◌then◌else◌, List, ◌++◌, length, map, find, replicate, Option, Some, None, is_some, Result, Ok, Err}
+use Rattle.std.specs.Prelude.{ℕ, ◌-◌, not, nat_lt, if◌then◌else◌, List, ◌++◌, length, map, find, replicate, Option}
+use Rattle.std.specs.Prelude.{Some, None, is_some, Result, Ok, Err}
 use Rattle.std.specs.Option.{unwrap_or}
 use Rattle.std.specs.List.{flat_map}
 use Rattle.lwc_base.specs.Outcomes.{Refusal, ◌>>=◌}

@@ -1,5 +1,6 @@
 -- The lines of a source, and the label and the words of a line.
-use Rattle.std.specs.Prelude.{ℕ, ◌+◌, ◌-◌, Bool, false, not, ◌||◌, ◌&&◌, nat_le, ◌==◌, if◌then◌else◌, List, [], ◌∷◌, length, take, drop, slice_index, filter, Option, Some, None}
+use Rattle.std.specs.Prelude.{ℕ, ◌+◌, ◌-◌, Bool, false, not, ◌||◌, ◌&&◌, nat_le, ◌==◌, if◌then◌else◌, List, [], ◌∷◌}
+use Rattle.std.specs.Prelude.{length, take, drop, slice_index, filter, Option, Some, None}
 use Rattle.std.specs.List.{slice_split, onto_first, position, before_first, prefix_len, list_all}
 use Rattle.std.specs.Str.Lines.{strip_carriage_return}
 

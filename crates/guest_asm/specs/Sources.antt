@@ -1,5 +1,6 @@
 -- What a source says, line after line.
-use Rattle.std.specs.Prelude.{ℕ, ◌+◌, if◌then◌else◌, List, [], ◌∷◌, ◌++◌, length, Option, Some, None, is_some, Result, Ok, Err}
+use Rattle.std.specs.Prelude.{ℕ, ◌+◌, if◌then◌else◌, List, [], ◌∷◌, ◌++◌, length, Option, Some, None, is_some}
+use Rattle.std.specs.Prelude.{Result, Ok, Err}
 use Rattle.std.specs.Map.{update}
 use Rattle.std.specs.Str.{bytes_eq}
 use Rattle.lwc_base.specs.Outcomes.{Refusal}
@@ -9,7 +10,8 @@ use Rattle.guest_asm.specs.declared.error.SourceRule.TheVariants.{BadLabel}
 use Rattle.guest_asm.specs.declared.parts.PageDraft.{PageDraft}
 use Rattle.guest_asm.specs.declared.parts.FileDraft.{FileDraft}
 use Rattle.guest_asm.specs.declared.parts.SlotDraft.{SlotDraft}
-use Rattle.guest_asm.specs.Statements.{Once, Immediate, Value, Label, Statement, Instruction, Uid, OfForm, Entry, Page, File, Slot, Coded, ◌>>=◌, line_of}
+use Rattle.guest_asm.specs.Statements.{Once, Immediate, Value, Label, Statement, Instruction, Uid, OfForm, Entry}
+use Rattle.guest_asm.specs.Statements.{Page, File, Slot, Coded, ◌>>=◌, line_of}
 
 -- the use of a label, and the offset of its line
 pub record Use : Type 0 where

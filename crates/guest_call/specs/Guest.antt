@@ -1,5 +1,6 @@
 -- What calls of guests have in common: the context that a slot names, a limit, the registers afterwards.
-use Rattle.std.specs.Prelude.{ℕ, ◌+◌, ◌%◌, ◌^◌, ◌||◌, if◌then◌else◌, Bool, List, [], ◌∷◌, Option, None, Some, is_none, nat_lt, slice_set}
+use Rattle.std.specs.Prelude.{ℕ, ◌+◌, ◌%◌, ◌^◌, ◌||◌, if◌then◌else◌, Bool, List, [], ◌∷◌, Option, None, Some}
+use Rattle.std.specs.Prelude.{is_none, nat_lt, slice_set}
 use Rattle.lwc_base.specs.declared.descriptor.Cap.{Cap}
 use Rattle.lwc_base.specs.declared.descriptor.Descriptor.{Descriptor}
 use Rattle.lwc_base.specs.declared.descriptor.Descriptor.TheVariants.{Empty, Ctx}

@@ -3,7 +3,8 @@ use Rattle.std.specs.Prelude.{ℕ, ◌<◌, ◌≤◌, ◌^◌, ◌≡◌, Bool,
 use Rattle.std.specs.List.{sum_by}
 use Rattle.lwc_base.specs.declared.channels.FileImage.{FileImage}
 use Rattle.lwc_base.specs.declared.descriptor.TheConstants.{SLOTS}
-use Rattle.lwc_base.specs.declared.limits.TheConstants.{MOST_FILE_BYTES, MOST_FILES, MOST_IMAGE_SLOTS, MOST_PAGES, MOST_RANGES, MOST_THREADS, PAGES_OF_FORM_ONE}
+use Rattle.lwc_base.specs.declared.limits.TheConstants.{MOST_FILE_BYTES, MOST_FILES, MOST_IMAGE_SLOTS, MOST_PAGES}
+use Rattle.lwc_base.specs.declared.limits.TheConstants.{MOST_RANGES, MOST_THREADS, PAGES_OF_FORM_ONE}
 use Rattle.lwc_base.specs.declared.page.TheConstants.{PAGE_BYTES}
 use Rattle.guest_isa.specs.declared.instr.Instr.{Instr}
 use Rattle.guest_isa.specs.Opcodes.{has_target}

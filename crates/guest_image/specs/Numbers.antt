@@ -1,5 +1,6 @@
 -- Numbers one after another: whether they rise, and the ranges that they make.
-use Rattle.std.specs.Prelude.{ℕ, ◌+◌, Bool, true, not, ◌&&◌, nat_lt, ◌==◌, if◌then◌else◌, List, [], ◌∷◌, Option, Some, None}
+use Rattle.std.specs.Prelude.{ℕ, ◌+◌, Bool, true, not, ◌&&◌, nat_lt, ◌==◌, if◌then◌else◌, List, [], ◌∷◌, Option}
+use Rattle.std.specs.Prelude.{Some, None}
 
 -- whether n is above the number before it, if there is one
 abbrev pub is_above : Option ℕ → ℕ → Bool

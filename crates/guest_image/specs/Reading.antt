@@ -1,15 +1,20 @@
 -- Reading an image from its first byte to its last, up to the first refusal.
-use Rattle.std.specs.Prelude.{ℕ, zero, suc, ◌+◌, Bool, false, ◌&&◌, nat_lt, nat_le, ◌==◌, if◌then◌else◌, List, [], ◌∷◌, ◌++◌, length, take, drop, slice_index, Option, Some, None, Result, Ok, Err}
+use Rattle.std.specs.Prelude.{ℕ, zero, suc, ◌+◌, Bool, false, ◌&&◌, nat_lt, nat_le, ◌==◌, if◌then◌else◌, List, []}
+use Rattle.std.specs.Prelude.{◌∷◌, ◌++◌, length, take, drop, slice_index, Option, Some, None, Result, Ok, Err}
 use Rattle.std.specs.Int.{w32, from_le_bytes}
 use Rattle.lwc_base.specs.Outcomes.{Refusal, ◌>>=◌}
 use Rattle.lwc_base.specs.declared.channels.FileImage.{FileImage}
 use Rattle.lwc_base.specs.declared.descriptor.TheConstants.{SLOTS}
-use Rattle.lwc_base.specs.declared.limits.TheConstants.{MOST_FILE_BYTES, MOST_FILES, MOST_IMAGE_BYTES, MOST_IMAGE_SLOTS, MOST_BYTES_OF_FORM_ONE, MOST_INSTRUCTIONS, MOST_RANGES, MOST_THREADS}
+use Rattle.lwc_base.specs.declared.limits.TheConstants.{MOST_FILE_BYTES, MOST_FILES, MOST_IMAGE_BYTES}
+use Rattle.lwc_base.specs.declared.limits.TheConstants.{MOST_IMAGE_SLOTS, MOST_BYTES_OF_FORM_ONE, MOST_INSTRUCTIONS}
+use Rattle.lwc_base.specs.declared.limits.TheConstants.{MOST_RANGES, MOST_THREADS}
 use Rattle.lwc_base.specs.declared.page.TheConstants.{PAGE_BYTES}
 use Rattle.guest_isa.specs.declared.instr.Instr.{Instr}
 use Rattle.guest_isa.specs.Spelling.{reading}
 use Rattle.guest_image.specs.declared.fault.ImageRule.{ImageRule}
-use Rattle.guest_image.specs.declared.fault.ImageRule.TheVariants.{TooLong, BadMagic, Truncated, BadCount, BadInstruction, BadTarget, BadPage, BadFile, BadSlot, BadEntry, Trailing}
+use Rattle.guest_image.specs.declared.fault.ImageRule.TheVariants.{TooLong, BadMagic, Truncated, BadCount}
+use Rattle.guest_image.specs.declared.fault.ImageRule.TheVariants.{BadInstruction, BadTarget, BadPage, BadFile}
+use Rattle.guest_image.specs.declared.fault.ImageRule.TheVariants.{BadSlot, BadEntry, Trailing}
 use Rattle.guest_image.specs.declared.header.Header.{Header}
 use Rattle.guest_image.specs.declared.image.Form.{Form}
 use Rattle.guest_image.specs.declared.image.Form.TheVariants.{One, Two}
@@ -238,8 +243,8 @@ abbrev pub begins_as_one : List ℕ → Bool
 begins_as_one (a ∷ b ∷ c ∷ d ∷ rest) = a == 0x4c && b == 0x57 && c == 0x43 && d == 0x31
 begins_as_one _ = false
 
--- the most bytes that a file may have. One that is longer than every image is refused at the limit of them all, whatever
--- it begins with; else a file that begins as form 1 has a limit of its own
+-- the most bytes that a file may have. One that is longer than every image is refused at the limit of them
+-- all, whatever it begins with; else a file that begins as form 1 has a limit of its own
 unfoldable pub limit_of : List ℕ → ℕ
 limit_of bytes =
     if nat_lt MOST_IMAGE_BYTES (length bytes) then MOST_IMAGE_BYTES

@@ -1,7 +1,9 @@
 -- The names of the rules.
 use Rattle.std.specs.Prelude.{ℕ, List, codes}
 use Rattle.guest_image.specs.declared.fault.ImageRule.{ImageRule}
-use Rattle.guest_image.specs.declared.fault.ImageRule.TheVariants.{TooLong, BadMagic, Truncated, BadCount, BadInstruction, BadTarget, BadPage, BadFile, BadSlot, BadEntry, Trailing}
+use Rattle.guest_image.specs.declared.fault.ImageRule.TheVariants.{TooLong, BadMagic, Truncated, BadCount}
+use Rattle.guest_image.specs.declared.fault.ImageRule.TheVariants.{BadInstruction, BadTarget, BadPage, BadFile}
+use Rattle.guest_image.specs.declared.fault.ImageRule.TheVariants.{BadSlot, BadEntry, Trailing}
 
 -- the bytes of a rule's name
 abbrev pub rule_name : ImageRule → List ℕ

@@ -1,5 +1,6 @@
 -- What an instruction is.
-use Rattle.std.specs.Prelude.{ℕ, Bool, ◌^◌, ◌+◌, ◌-◌, ◌&&◌, nat_lt, ◌==◌, if◌then◌else◌, IsTrue, List, ◌<◌, ◌≤◌, length, All}
+use Rattle.std.specs.Prelude.{ℕ, Bool, ◌^◌, ◌+◌, ◌-◌, ◌&&◌, nat_lt, ◌==◌, if◌then◌else◌, IsTrue, List, ◌<◌, ◌≤◌}
+use Rattle.std.specs.Prelude.{length, All}
 use Rattle.guest_isa.specs.declared.instr.Instr.{Instr}
 use Rattle.guest_isa.specs.Opcodes.{form_of}
 

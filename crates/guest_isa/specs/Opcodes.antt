@@ -1,7 +1,9 @@
 -- The table of operations, and what follows from it.
 use Rattle.std.specs.Prelude.{ℕ, Bool, true, false, Option, List, [], ◌∷◌, codes, find, ◌==◌, ◌||◌, nat_le}
 use Rattle.guest_isa.specs.declared.op.Op.{Op}
-use Rattle.guest_isa.specs.declared.op.Op.TheVariants.{Li, Lih, Mov, Add, Sub, Mul, Divu, Remu, And, Or, Xor, Shl, Shr, Ltu, Eq, Addi, Jmp, Jz, Jnz, Jal, Jr, Ldb, Ldw, Stb, Stw, Sys, Halt}
+use Rattle.guest_isa.specs.declared.op.Op.TheVariants.{Li, Lih, Mov, Add, Sub, Mul, Divu, Remu, And, Or, Xor, Shl}
+use Rattle.guest_isa.specs.declared.op.Op.TheVariants.{Shr, Ltu, Eq, Addi, Jmp, Jz, Jnz, Jal, Jr, Ldb, Ldw, Stb, Stw}
+use Rattle.guest_isa.specs.declared.op.Op.TheVariants.{Sys, Halt}
 use Rattle.guest_isa.specs.declared.op.Field.{Field}
 use Rattle.guest_isa.specs.declared.op.Field.TheVariants.{Rd, Ra, Rb, Imm}
 use Rattle.guest_isa.specs.declared.op.Form.{Form}

@@ -1,5 +1,6 @@
 ghost use Rattle.std.specs.Prelude.{◌≡◌, ℕ, not, find};
-ghost use Rattle.guest_isa.specs.Opcodes.{number_of, fields_of, mnemonic, op_of, form_of, is_private, is_shared, has_target};
+ghost use Rattle.guest_isa.specs.Opcodes.{number_of, fields_of, mnemonic, op_of, form_of, is_private, is_shared};
+ghost use Rattle.guest_isa.specs.Opcodes.{has_target};
 
 /// What an instruction does: one variant for each mnemonic, numbered by its opcode.
 #[derive(Clone, Copy, Debug, PartialEq, Eq)]

@@ -1,7 +1,9 @@
 -- What private instructions do to the registers. Sums, differences and products are modulo 2^64.
-use Rattle.std.specs.Prelude.{ℕ, ◌+◌, ◌-◌, ◌*◌, ◌/◌, ◌%◌, ◌^◌, ◌==◌, nat_lt, if◌then◌else◌, slice_index, slice_set, bit_and, bit_or, bit_xor}
+use Rattle.std.specs.Prelude.{ℕ, ◌+◌, ◌-◌, ◌*◌, ◌/◌, ◌%◌, ◌^◌, ◌==◌, nat_lt, if◌then◌else◌, slice_index, slice_set}
+use Rattle.std.specs.Prelude.{bit_and, bit_or, bit_xor}
 use Rattle.guest_isa.specs.declared.op.Op.{Op}
-use Rattle.guest_isa.specs.declared.op.Op.TheVariants.{Li, Lih, Mov, Add, Sub, Mul, Divu, Remu, And, Or, Xor, Shl, Shr, Ltu, Eq, Addi, Jmp, Jz, Jnz, Jal, Jr}
+use Rattle.guest_isa.specs.declared.op.Op.TheVariants.{Li, Lih, Mov, Add, Sub, Mul, Divu, Remu, And, Or, Xor, Shl}
+use Rattle.guest_isa.specs.declared.op.Op.TheVariants.{Shr, Ltu, Eq, Addi, Jmp, Jz, Jnz, Jal, Jr}
 use Rattle.guest_isa.specs.declared.instr.Instr.{Instr}
 use Rattle.guest_isa.specs.Instructions.{sx}
 use Rattle.lwc_base.specs.declared.regs.Regs.{Regs}

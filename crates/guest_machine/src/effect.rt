@@ -1,4 +1,5 @@
-ghost use Rattle.std.specs.Prelude.{◌≡◌, ◌<◌, ◌+◌, ◌%◌, ◌^◌, IfNone, IfSome, IsTrue, Some, false, slice_index, slice_set, true};
+ghost use Rattle.std.specs.Prelude.{◌≡◌, ◌<◌, ◌+◌, ◌%◌, ◌^◌, IfNone, IfSome, IsTrue, Some, false, slice_index};
+ghost use Rattle.std.specs.Prelude.{slice_set, true};
 ghost use Rattle.guest_isa.specs.Instructions.{IsInstruction};
 ghost use Rattle.guest_isa.specs.Opcodes.{is_private, is_shared};
 ghost use Rattle.guest_machine.specs.Effects.{quotient, remainder, effect};

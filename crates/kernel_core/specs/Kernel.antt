@@ -1,5 +1,6 @@
 -- What contracts see of a kernel.
-use Rattle.std.specs.Prelude.{◌≡◌, ◌≢◌, ℕ, ◌+◌, ◌-◌, ◌++◌, ◌∷◌, ◌≤◌, [], All, if◌then◌else◌, IfSome, List, None, Option, Some, length, slice_get}
+use Rattle.std.specs.Prelude.{◌≡◌, ◌≢◌, ℕ, ◌+◌, ◌-◌, ◌++◌, ◌∷◌, ◌≤◌, [], All, if◌then◌else◌, IfSome, List, None}
+use Rattle.std.specs.Prelude.{Option, Some, length, slice_get}
 use Rattle.std.specs.Option.{option_map}
 use Rattle.guest_image.specs.Limits.{IsImage, IsVault, pages_of}
 use Rattle.guest_image.specs.declared.image.Image.{Image}

@@ -1,5 +1,6 @@
 -- The whole machine: its threads, what they have in common, and the instructions.
-use Rattle.std.specs.Prelude.{ℕ, ◌+◌, ◌-◌, ◌*◌, Bool, true, false, List, [], Option, None, Some, length, map, slice_get, slice_index_or}
+use Rattle.std.specs.Prelude.{ℕ, ◌+◌, ◌-◌, ◌*◌, Bool, true, false, List, [], Option, None, Some, length, map}
+use Rattle.std.specs.Prelude.{slice_get, slice_index_or}
 use Rattle.std.specs.List.{range_with_len, sum_by}
 use Rattle.std.specs.Option.{option_map_or}
 use Rattle.guest_isa.specs.declared.instr.Instr.{Instr}

@@ -11,7 +11,8 @@ use Rattle.kernel_core.specs.Step.{Outcome, roots}
 use Rattle.kernel_core.specs.declared.thread.Thread.{Thread}
 use Rattle.lwc_base.specs.declared.fault.ThreadStatus.{ThreadStatus}
 use Rattle.lwc_base.specs.declared.fault.ThreadStatus.TheVariants.{Idle, Running, Done, Faulted}
-use Rattle.lwc_base.specs.declared.limits.TheConstants.{MOST_BUDGET, MOST_CONTEXTS_OF_JOB, MOST_GROUPS_OF_JOB, MOST_PAGES, MOST_RANGES, MOST_REQUESTS, MOST_THREADS}
+use Rattle.lwc_base.specs.declared.limits.TheConstants.{MOST_BUDGET, MOST_CONTEXTS_OF_JOB, MOST_GROUPS_OF_JOB}
+use Rattle.lwc_base.specs.declared.limits.TheConstants.{MOST_PAGES, MOST_RANGES, MOST_REQUESTS, MOST_THREADS}
 use Rattle.lwc_base.specs.declared.name.Name.{Name}
 use Rattle.lwc_base.specs.Channels.{Channels, HasItsFiles}
 use Rattle.lwc_base.specs.Holders.{IsGroup}

@@ -1,5 +1,6 @@
 -- The machine that a run or a serve of an image starts from.
-use Rattle.std.specs.Prelude.{ℕ, zero, suc, ◌+◌, ◌==◌, if◌then◌else◌, List, Option, None, Some, length, map, replicate, nat_lt, slice_index, take}
+use Rattle.std.specs.Prelude.{ℕ, zero, suc, ◌+◌, ◌==◌, if◌then◌else◌, List, Option, None, Some, length, map}
+use Rattle.std.specs.Prelude.{replicate, nat_lt, slice_index, take}
 use Rattle.std.specs.FinMap as fm
 use Rattle.std.specs.List.{enumerate_from, find}
 use Rattle.std.specs.Option.{option_map, option_map_or}

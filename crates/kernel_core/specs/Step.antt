@@ -1,5 +1,6 @@
 -- One step of a thread.
-use Rattle.std.specs.Prelude.{ℕ, ◌+◌, ◌-◌, ◌*◌, ◌%◌, ◌^◌, ◌==◌, ◌++◌, if◌then◌else◌, Bool, List, [], ◌∷◌, length, map, Option, None, Some, nat_le, nat_lt, slice_get, slice_index, slice_set}
+use Rattle.std.specs.Prelude.{ℕ, ◌+◌, ◌-◌, ◌*◌, ◌%◌, ◌^◌, ◌==◌, ◌++◌, if◌then◌else◌, Bool, List, [], ◌∷◌, length}
+use Rattle.std.specs.Prelude.{map, Option, None, Some, nat_le, nat_lt, slice_get, slice_index, slice_set}
 use Rattle.std.specs.Int.{w64, from_le_bytes, to_le_bytes}
 use Rattle.std.specs.Option.{option_map}
 use Rattle.guest_isa.specs.Instructions.{sx}
@@ -301,7 +302,8 @@ woken t (Some s) e x =
     else only (Some s) (unchanged e (with_status x (Done 0)))
 
 -- what a step leaves, by the thread's status
-abbrev pub thread_outcome : Calls → ℕ → Environment → Option Serve → List Instr → Thread → ThreadStatus → Option AfterStep
+abbrev pub thread_outcome : Calls → ℕ → Environment → Option Serve → List Instr → Thread → ThreadStatus →
+    Option AfterStep
 thread_outcome calls t e serve text x Running =
     Some (settled t serve (advance_outcome calls t e x (advanced text x.regs)))
 thread_outcome calls t e serve text x Idle = Some (woken t serve e x)

@@ -78,8 +78,8 @@ impl<W: World> Model for Kernel<W> {
 
     ghost use Rattle.kernel_core.specs.Steady.{IsSteady, history, machine};
 
-    ghost view = { λ k. history k.image.value (option_map (λ v. v.value) k.vault) k.requests.value k.settings k.schedule.items
-        k.room };
+    ghost view = { λ k. history k.image.value (option_map (λ v. v.value) k.vault) k.requests.value k.settings
+        k.schedule.items k.room };
 
     ghost invariant = { λ k. (vec_len k.schedule + k.room ≤ vec_capacity k.schedule)
         × IsSteady (machine (W.seen k.world) k.channels k.threads.items k.text k.serve) k.peak

@@ -27,7 +27,8 @@ pub record CopyStore (old new : PlacedWorld) (c : Name) (items : List Item) : Ty
   pub frames : free_frames new.places ≡ free_frames old.places
   pub pool : pool new.places ≡ pool old.places
   pub nodes : free_nodes old.places ≤ free_nodes new.places + copy_nodes (pieces (seen old) c items)
-  pub whole : CopiesPages items → HasOwnPages (context (seen old) c).cell → free_nodes old.places ≤ free_nodes new.places
+  pub whole : CopiesPages items → HasOwnPages (context (seen old) c).cell →
+      free_nodes old.places ≤ free_nodes new.places
 
 -- it takes few node steps, and at most one where all pages are copied and are the context's own
 pub record CopySteps (w : World) (c : Name) (items : List Item) (before after : ℕ) : Type 0 where

@@ -1,5 +1,6 @@
 -- The row and the rights of a place that gets what origins give.
-use Rattle.std.specs.Prelude.{if◌then◌else◌, nat_lt, ℕ, Bool, unwrap_or, ◌<◌, ◌+◌, ◌*◌, List, Option, None, Some, slice_index_or, All, length, min}
+use Rattle.std.specs.Prelude.{if◌then◌else◌, nat_lt, ℕ, Bool, unwrap_or, ◌<◌, ◌+◌, ◌*◌, List, Option, None, Some}
+use Rattle.std.specs.Prelude.{slice_index_or, All, length, min}
 use Rattle.std.specs.Option.{option_map}
 use Rattle.lwc_base.specs.declared.cell.Cell.{Cell}
 use Rattle.lwc_base.specs.declared.key.Key.TheVariants.{Page, Slot, Cred}
@@ -100,7 +101,8 @@ slot_origin slots n = slice_index_or slots n None
 
 -- a row with the slots below a number that origins give
 abbrev pub with_slots : ℕ → (ℕ → Row) → List (Option Origin) → Row → Row
-with_slots count rows slots row (Slot n) = if nat_lt n count then given_or rows (Slot n) (row (Slot n)) (slot_origin slots n) else row (Slot n)
+with_slots count rows slots row (Slot n) =
+    if nat_lt n count then given_or rows (Slot n) (row (Slot n)) (slot_origin slots n) else row (Slot n)
 with_slots count rows slots row k = row k
 
 -- the row of a place with what origins give

@@ -1,5 +1,6 @@
 -- A reap at places: which place links to which, which groups are marked, and what is left of a map of names.
-use Rattle.std.specs.Prelude.{◌≡◌, ◌≢◌, ℕ, ◌==◌, ◌||◌, Bool, true, false, not, List, Option, None, Some, nat_le, slice_index_or}
+use Rattle.std.specs.Prelude.{◌≡◌, ◌≢◌, ℕ, ◌==◌, ◌||◌, Bool, true, false, not, List, Option, None, Some, nat_le}
+use Rattle.std.specs.Prelude.{slice_index_or}
 use Rattle.std.specs.Ordering.{is_eq}
 use Rattle.std.specs.FinMap as fm
 use Rattle.fd_table.specs.Slots.{context_of}
@@ -71,5 +72,6 @@ keeps marks n None = true
 keeps marks n (Some p) = nat_le n p || is_marked marks p
 
 -- what is left of a map by a test of the places of its names
-unfoldable pub left_by : {X : Type 0} → fm.FinMap name_cmp ℕ → (Option ℕ → Bool) → fm.FinMap name_cmp X → fm.FinMap name_cmp X
+unfoldable pub left_by : {X : Type 0} → fm.FinMap name_cmp ℕ → (Option ℕ → Bool) → fm.FinMap name_cmp X →
+    fm.FinMap name_cmp X
 left_by places test m = fm.retain_keys m (λ c. test (fm.get places c))

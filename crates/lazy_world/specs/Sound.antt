@@ -39,11 +39,13 @@ IsAllOwn row = (k : Key) → is_own (row k) ≡ true
 
 -- a job has taken each tag of a row
 abbrev pub HasOldTags : (ℕ → Counters) → Row → Type 0
-HasOldTags next row = (p : ℕ) (tag : Tag) (bytes : List ℕ) → row (Page p) ≡ Own (Some (Data tag bytes)) → tag.k < (next tag.job).tags
+HasOldTags next row =
+    (p : ℕ) (tag : Tag) (bytes : List ℕ) → row (Page p) ≡ Own (Some (Data tag bytes)) → tag.k < (next tag.job).tags
 
 -- each tag of rows stands under one page number
 abbrev pub HasOneHome : (ℕ → Row) → Type 0
-HasOneHome rows = (i j p q : ℕ) (tag : Tag) (a b : List ℕ) → rows i (Page p) ≡ Own (Some (Data tag a)) → rows j (Page q) ≡ Own (Some (Data tag b)) → p ≡ q
+HasOneHome rows = (i j p q : ℕ) (tag : Tag) (a b : List ℕ) → rows i (Page p) ≡ Own (Some (Data tag a)) →
+    rows j (Page q) ≡ Own (Some (Data tag b)) → p ≡ q
 
 -- each page that a cell names a group for is there in the group
 abbrev pub HasItsPages : Parts → Type 0
@@ -64,6 +66,7 @@ pub record IsSound (s : Parts) : Type 0 where
   pub pages : HasItsPages s
 
 -- a cell keeps to the groups that have been named in at most one way
-pub named_cell-prop : (next : ℕ → Counters) (job : ℕ) (k : Key) (cell : Cell (ValueOf k)) → IsProp (InCell (named_groups next) job k cell)
+pub named_cell-prop : (next : ℕ → Counters) (job : ℕ) (k : Key) (cell : Cell (ValueOf k)) →
+    IsProp (InCell (named_groups next) job k cell)
 named_cell-prop next job k (Own value) = Unit-prop
 named_cell-prop next job k (Common g) = le_prop

@@ -1,5 +1,6 @@
 -- What places get of the cells and rights of a context, and from where.
-use Rattle.std.specs.Prelude.{◌≡◌, ◌≢◌, ℕ, ◌<◌, ◌≤◌, ◌==◌, if◌then◌else◌, Bool, true, false, List, Option, None, Some, unwrap_or}
+use Rattle.std.specs.Prelude.{◌≡◌, ◌≢◌, ℕ, ◌<◌, ◌≤◌, ◌==◌, if◌then◌else◌, Bool, true, false, List, Option, None}
+use Rattle.std.specs.Prelude.{Some, unwrap_or}
 use Rattle.lwc_base.specs.declared.cell.Cell.{Cell}
 use Rattle.lwc_base.specs.declared.cell.Cell.TheVariants as cells
 use Rattle.lwc_base.specs.declared.item.Item.{Item}
@@ -48,12 +49,14 @@ taken_cell w g Unmap k cell = cells.Own (nothing k)
 taken_cell w g CopyRead k cell = cells.Own (value_of w k cell)
 
 -- the cell of a value that is taken over; where no item names the key the old one stays
-abbrev pub overlaid_cell : World → Name → Option Mode → (k : Key) → Cell (ValueOf k) → Cell (ValueOf k) → Cell (ValueOf k)
+abbrev pub overlaid_cell : World → Name → Option Mode → (k : Key) → Cell (ValueOf k) → Cell (ValueOf k) →
+    Cell (ValueOf k)
 overlaid_cell w g None k cell old = old
 overlaid_cell w g (Some m) k cell old = taken_cell w g m k cell
 
 -- the cell that a place gets by a transfer, of a context's cell, and where it has an old one
-abbrev pub transferred_cell : World → Transfer → Option Mode → (k : Key) → Cell (ValueOf k) → Cell (ValueOf k) → Cell (ValueOf k)
+abbrev pub transferred_cell : World → Transfer → Option Mode → (k : Key) → Cell (ValueOf k) → Cell (ValueOf k) →
+    Cell (ValueOf k)
 transferred_cell w (transfers.Mark g) m k cell old = shared_cell g (unwrap_or m Copy) k cell
 transferred_cell w transfers.Move m k cell old = cells.Own (moved_value (unwrap_or m Copy) k cell)
 transferred_cell w (transfers.Clone g) m k cell old = taken_cell w g (unwrap_or m Copy) k cell
@@ -151,7 +154,8 @@ overlaid_origin g (Some m) found from to = taken_origin g m found from to
 -- where a place gets what it has under a key by a transfer
 abbrev pub origin_of : Transfer → Option Mode → Found → ℕ → ℕ → Option Origin
 origin_of (transfers.Mark g) m found from to = if moved_origin m found.kind then Some (origins.Common g) else None
-origin_of transfers.Move m found from to = Some (if moved_origin m found.kind then origins.CopyOf from else origins.Absent)
+origin_of transfers.Move m found from to =
+    Some (if moved_origin m found.kind then origins.CopyOf from else origins.Absent)
 origin_of (transfers.Clone g) m found from to = taken_origin g (unwrap_or m Copy) found from to
 origin_of (transfers.Overlay g) m found from to = overlaid_origin g m found from to
 
@@ -185,13 +189,16 @@ CanGet count to None = Unit {0}
 CanGet count to (Some origin) = IsApart count to origin
 
 -- an origin gives a place this cell under a key
-pub record Gives (count : ℕ) (rows : ℕ → Row) (to : ℕ) (k : Key) (wanted : Cell (ValueOf k)) (origin : Option Origin) : Type 0 where
+pub record Gives (count : ℕ) (rows : ℕ → Row) (to : ℕ) (k : Key) (wanted : Cell (ValueOf k))
+    (origin : Option Origin) : Type 0 where
   pub cell : given_or rows k (rows to k) origin ≡ wanted
   pub can : CanGet count to origin
 
 -- what is found under a key is the cell there, and what its group has
-pub record IsFound (w : World) (contexts count : ℕ) (rows : ℕ → Row) (k : Key) (cell : Cell (ValueOf k)) (found : Found) : Type 0 where
+pub record IsFound (w : World) (contexts count : ℕ) (rows : ℕ → Row) (k : Key) (cell : Cell (ValueOf k))
+    (found : Found) : Type 0 where
   pub kind : found.kind ≡ kind_in k cell
-  pub value : (g : Name) → cell ≡ cells.Common g → given rows k (copied_origin found.holder) ≡ cells.Own ((group w g).value k)
+  pub value : (g : Name) → cell ≡ cells.Common g →
+      given rows k (copied_origin found.holder) ≡ cells.Own ((group w g).value k)
   pub behind : (j : ℕ) → found.holder ≡ Some j → contexts ≤ j
   pub inside : (j : ℕ) → found.holder ≡ Some j → j < count

@@ -1,4 +1,5 @@
-ghost use Rattle.std.specs.Prelude.{◌≡◌, ◌+◌, ◌-◌, ◌*◌, ◌<◌, ◌≤◌, IfNone, IfSome, Option, false, is_some, length, map, slice_index, true};
+ghost use Rattle.std.specs.Prelude.{◌≡◌, ◌+◌, ◌-◌, ◌*◌, ◌<◌, ◌≤◌, IfNone, IfSome, Option, false, is_some, length};
+ghost use Rattle.std.specs.Prelude.{map, slice_index, true};
 ghost use Rattle.std.specs.Option.{option_copied, option_map_or};
 ghost use Rattle.lwc_base.specs.declared.limits.TheConstants.{MOST_PAGES};
 ghost use Rattle.lwc_base.specs.declared.page.PageValue.{PageValue};

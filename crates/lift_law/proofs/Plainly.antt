@@ -77,7 +77,7 @@ module _ (w : World) (io : Channels) where
   opening-wide targets file =
       ended-wide (open_refusals w io targets file) (open_refusals (wide w) io targets file) (placed (wide w) io targets.slots (File file 0)) (placed w io targets.slots (File file 0))
       (λ i. first_refusal ((nat_le (length io.files) file, NoFile)
-      ∷ (not (option_map_or (may_open (uid-wide w targets.cred i)) (slice_get io.files file) false), NotPermitted) ∷ place-wide targets.slots i))
+      ∷ (not (option_map_or (λ found. may_open (uid-wide w targets.cred i) found.owner found.public) (slice_get io.files file) false), NotPermitted) ∷ place-wide targets.slots i))
       (λ none. placed-wide targets.slots (File file 0))
 
   closing-wide : (s : Name) (n : ℕ) → closing (wide w) io s n ≡ wide_outcome (closing w io s n)

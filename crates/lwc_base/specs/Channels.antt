@@ -39,8 +39,8 @@ abbrev pub bytes_in : List (List ℕ) → ℕ → List ℕ
 bytes_in lists i = slice_index_or lists i []
 
 -- whether a uid may open a file: it is 0 or the owner, or the file is public
-abbrev pub may_open : ℕ → FileImage → Bool
-may_open uid file = uid == 0 || uid == file.owner || file.public
+abbrev pub may_open : ℕ → ℕ → Bool → Bool
+may_open uid owner public = uid == 0 || uid == owner || public
 
 -- whether a uid may become the one that is asked for: it is 0 or that one
 abbrev pub may_set : ℕ → ℕ → Bool

@@ -20,7 +20,9 @@ use Rattle.lwc_base.specs.Overlay.{overlay, with_overlay}
 use Rattle.lwc_base.specs.Saved.{save, with_saved}
 use Rattle.lwc_base.specs.Sharing.{clone_context, cloned_context, moved_values, needs_group, share, with_shared}
 use Rattle.lwc_base.specs.Store.{Piece, after_store, parting_count, put_pages}
-use Rattle.lwc_base.specs.World.{World, Context, Counters, Group, add_context, add_group, change_context, change_counters, change_group, context, empty_world, group, groups_of, is_live, live_of, next_context, next_group}
+use Rattle.lwc_base.specs.World.{World, Context, Counters, Group, add_context, add_group, change_context}
+use Rattle.lwc_base.specs.World.{change_counters, change_group, context, empty_world, group, groups_of, is_live}
+use Rattle.lwc_base.specs.World.{live_of, next_context, next_group}
 
 -- the same names live, nothing more is counted, and the size is the same
 pub record KeepsNames (w v : World) : Type 0 where

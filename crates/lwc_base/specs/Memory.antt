@@ -1,5 +1,6 @@
 -- The bytes of a context's memory.
-use Rattle.std.specs.Prelude.{ℕ, ◌+◌, ◌-◌, ◌*◌, ◌/◌, ◌%◌, ◌==◌, if◌then◌else◌, Bool, List, [], Option, None, Some, map, is_some, nat_le, slice_index}
+use Rattle.std.specs.Prelude.{ℕ, ◌+◌, ◌-◌, ◌*◌, ◌/◌, ◌%◌, ◌==◌, if◌then◌else◌, Bool, List, [], Option, None, Some}
+use Rattle.std.specs.Prelude.{map, is_some, nat_le, slice_index}
 use Rattle.std.specs.List.{range_with_len, list_all}
 use Rattle.std.specs.Option.{option_map_or}
 use Rattle.lwc_base.specs.declared.name.Name.{Name}

@@ -1,5 +1,6 @@
 -- The mode of a key under a list of items.
-use Rattle.std.specs.Prelude.{◌≡◌, ℕ, ◌<◌, ◌≤◌, ◌&&◌, Bool, true, false, List, Option, nat_le, length, nat_lt, unwrap_or, All}
+use Rattle.std.specs.Prelude.{◌≡◌, ℕ, ◌<◌, ◌≤◌, ◌&&◌, Bool, true, false, List, Option, nat_le, length, nat_lt}
+use Rattle.std.specs.Prelude.{unwrap_or, All}
 use Rattle.std.specs.List.{find, AllPairs}
 use Rattle.std.specs.Option.{option_map}
 use Rattle.lwc_base.specs.declared.descriptor.TheConstants.{SLOTS}

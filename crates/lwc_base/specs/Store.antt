@@ -1,5 +1,6 @@
 -- The store of bytes: which pages part, when there are too few frames, and what the pages are afterwards.
-use Rattle.std.specs.Prelude.{ℕ, ◌+◌, ◌-◌, ◌*◌, ◌&&◌, if◌then◌else◌, Bool, not, List, [], ◌∷◌, count_by, length, map, nat_le, nat_lt, slice_index, unwrap_or}
+use Rattle.std.specs.Prelude.{ℕ, ◌+◌, ◌-◌, ◌*◌, ◌&&◌, if◌then◌else◌, Bool, not, List, [], ◌∷◌, count_by, length, map}
+use Rattle.std.specs.Prelude.{nat_le, nat_lt, slice_index, unwrap_or}
 use Rattle.std.specs.List.{range_with_len}
 use Rattle.lwc_base.specs.declared.name.Name.{Name}
 use Rattle.lwc_base.specs.declared.name.Tag.{Tag}

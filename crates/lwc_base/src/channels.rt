@@ -127,18 +127,18 @@ impl Channels {
     }
 }
 
-/// Whether a uid may open a file.
-pub fn may_open(uid: u32, file: &FileImage) -> bool
-    ensures { result ≡ spec.may_open uid file.now }
+/// Whether a uid may open a file of this owner, which others may open too where it is public.
+pub fn may_open(uid: u32, owner: u32, public: bool) -> bool
+    ensures { result ≡ spec.may_open uid owner public }
 {
-    uid == 0 || uid == file.owner || file.public
+    uid == 0 || uid == owner || public
 }
 
 /// Whether a uid may become the one that is asked for.
-pub fn may_set(uid: u32, asked: u64) -> bool
+pub fn may_set(uid: u32, asked: u32) -> bool
     ensures { result ≡ spec.may_set uid asked }
 {
-    uid == 0 || u64::from(uid) == asked
+    uid == 0 || uid == asked
 }
 
 /// The bytes written to a reply, with room for as many as it may have.

@@ -33,8 +33,8 @@ pub record IsAnother (m : Machine) (c v : Name) : Type 0 where
 abbrev pub text_of : Machine → List ℕ → List ℕ
 text_of m steps = report_of (run m steps) (peak m steps) steps
 
--- these steps learn nothing of the bytes in these contexts' own pages: without those bytes they come to the same machine, but
--- for the bytes, the same steps are legal, and the report is the same
+-- these steps learn nothing of the bytes in these contexts' own pages: without those bytes they come to the
+-- same machine, but for the bytes, the same steps are legal, and the report is the same
 pub record LearnNothing (m : Machine) (steps : List ℕ) (others : List Name) : Type 0 where
   pub machine : run (without_bytes others m) steps ≡ without_bytes others (run m steps)
   pub legal : kept (without_bytes others m) steps ≡ kept m steps

@@ -1,5 +1,6 @@
 -- The call that makes a new context: its refusals in their order, and what it does where none of them holds.
-use Rattle.std.specs.Prelude.{◌≡◌, ◌<◌, ℕ, ◌+◌, ◌++◌, ◌-◌, ◌%◌, ◌^◌, ◌&&◌, Bool, true, List, [], ◌∷◌, Option, None, Some, is_none, nat_le, slice_index, slice_set, unwrap_or}
+use Rattle.std.specs.Prelude.{◌≡◌, ◌<◌, ℕ, ◌+◌, ◌++◌, ◌-◌, ◌%◌, ◌^◌, ◌&&◌, Bool, true, List, [], ◌∷◌, Option, None}
+use Rattle.std.specs.Prelude.{Some, is_none, nat_le, slice_index, slice_set, unwrap_or}
 use Rattle.guest_call.specs.Asked as asked
 use Rattle.guest_call.specs.Asked.{item_refusals}
 use Rattle.guest_call.specs.Guest.{are_too_many}

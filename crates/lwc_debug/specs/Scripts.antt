@@ -1,5 +1,7 @@
 -- What a script is, and how it is read.
-use Rattle.std.specs.Prelude.{◌≡◌, ℕ, ◌-◌, ◌≤◌, ◌==◌, Bool, ◌||◌, IsTrue, nat_le, nat_lt, if◌then◌else◌, List, [], length, take, slice_index_or, bytes_eq, codes, All, Option, Some, None, is_some, Result, Ok, Err}
+use Rattle.std.specs.Prelude.{◌≡◌, ℕ, ◌-◌, ◌≤◌, ◌==◌, Bool, ◌||◌, IsTrue, nat_le, nat_lt, if◌then◌else◌, List, []}
+use Rattle.std.specs.Prelude.{length, take, slice_index_or, bytes_eq, codes, All, Option, Some, None, is_some}
+use Rattle.std.specs.Prelude.{Result, Ok, Err}
 use Rattle.std.specs.List.{after_first, before_first, filter_map, range_with_len}
 use Rattle.std.specs.Option.{option_and_then, option_map}
 use Rattle.std.specs.Str.Lines.{lines}
@@ -18,7 +20,8 @@ use Rattle.lwc_debug.specs.declared.script.TheConstants.{MOST_SCRIPT_BYTES}
 -- the name of a context: its job, a dot, and its number there
 abbrev pub name_of : List ℕ → Option Name
 name_of word =
-    option_and_then (λ job. option_map (λ k. record { job = job; k = k }) (number_of (after_first (λ b. b == 0x2e) word)))
+    option_and_then (λ job. option_map (λ k. record { job = job; k = k })
+        (number_of (after_first (λ b. b == 0x2e) word)))
     (number_of (before_first (λ b. b == 0x2e) word))
 
 -- a name, a space, and a number

@@ -1,5 +1,6 @@
 -- What a debugger writes: the answer to each command, at the place of the run where it is given.
-use Rattle.std.specs.Prelude.{ℕ, ◌+◌, ◌-◌, ◌*◌, ◌++◌, if◌then◌else◌, List, [], ◌∷◌, Option, None, Some, codes, decimal, length, nat_le, nat_lt, take}
+use Rattle.std.specs.Prelude.{ℕ, ◌+◌, ◌-◌, ◌*◌, ◌++◌, if◌then◌else◌, List, [], ◌∷◌, Option, None, Some, codes}
+use Rattle.std.specs.Prelude.{decimal, length, nat_le, nat_lt, take}
 use Rattle.std.specs.Option.{option_map_or}
 use Rattle.guest_image.specs.declared.image.Image.{Image}
 use Rattle.kernel_core.specs.Kernel.{view_of}
@@ -62,11 +63,13 @@ slot_text (Ctx name cap) = codes "context " ++ name_text name
 
 -- the line of a page
 abbrev pub page_line : Name → ℕ → Option (List ℕ) → List ℕ
-page_line name p bytes = codes "page " ++ name_text name ++ codes " " ++ decimal p ++ codes " " ++ page_text bytes ++ codes "\n"
+page_line name p bytes =
+    codes "page " ++ name_text name ++ codes " " ++ decimal p ++ codes " " ++ page_text bytes ++ codes "\n"
 
 -- the line of a slot
 abbrev pub slot_line : Name → ℕ → Descriptor → List ℕ
-slot_line name n value = codes "slot " ++ name_text name ++ codes " " ++ decimal n ++ codes " " ++ slot_text value ++ codes "\n"
+slot_line name n value =
+    codes "slot " ++ name_text name ++ codes " " ++ decimal n ++ codes " " ++ slot_text value ++ codes "\n"
 
 -- a line of a context, if it lives
 abbrev pub of_live : World → Name → List ℕ → List ℕ
@@ -78,7 +81,8 @@ answer m count at (Goto n) = move_line (place_in count (Some n))
 answer m count at (Forward n) = move_line (place_in count (asked_place at (Forward n)))
 answer m count at (Back n) = move_line (place_in count (asked_place at (Back n)))
 answer m count at (Thread t) = option_map_or (thread_lines t) (view_of m t) (codes "no thread\n")
-answer m count at (Context name) = of_live m.environment.world name (context_line name (summary_of m.environment.world name))
+answer m count at (Context name) =
+    of_live m.environment.world name (context_line name (summary_of m.environment.world name))
 answer m count at (Page name p) =
     of_live m.environment.world name
     (if nat_lt p m.environment.world.size.pages

@@ -1,6 +1,7 @@
 //! Scripts: commands, one a line.
 
-ghost use Rattle.std.specs.Prelude.{◌≡◌, ◌≤◌, ◌∷◌, ◌++◌, ◌+◌, ◌<◌, ◌^◌, ◌==◌, IfErr, IfOk, List, None, Ok, OnOk, [], length};
+ghost use Rattle.std.specs.Prelude.{◌≡◌, ◌≤◌, ◌∷◌, ◌++◌, ◌+◌, ◌<◌, ◌^◌, ◌==◌, IfErr, IfOk, List, None, Ok, OnOk, []};
+ghost use Rattle.std.specs.Prelude.{length};
 ghost use Rattle.std.specs.List.{after_first, before_first, filter_map, position_or_len};
 ghost use Rattle.std.specs.Option.{option_map};
 ghost use Rattle.lwc_base.specs.Outcomes.{Answers, Fails, IsFound, unless_refused};

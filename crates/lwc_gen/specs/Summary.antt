@@ -1,5 +1,6 @@
 -- The summary of the replies of a generated server.
-use Rattle.std.specs.Prelude.{ℕ, ◌^◌, ◌%◌, ◌==◌, ◌++◌, Bool, false, if◌then◌else◌, nat_lt, codes, count_by, decimal, drop, length, map, take, List, [], Option, Some, None}
+use Rattle.std.specs.Prelude.{ℕ, ◌^◌, ◌%◌, ◌==◌, ◌++◌, Bool, false, if◌then◌else◌, nat_lt, codes, count_by, decimal}
+use Rattle.std.specs.Prelude.{drop, length, map, take, List, [], Option, Some, None}
 use Rattle.std.specs.Int.{from_le_bytes, w64}
 use Rattle.std.specs.List.{range_with_len, sum_by}
 use Rattle.kernel_core.specs.Machine.{Machine, reply_of}

@@ -17,4 +17,5 @@ from_parts parts =
 -- the code of a list of fetches
 abbrev pub fetches_code : Coded (List Fetch)
 fetches_code =
-    coded_list (code_by Parts (coded× (coded_list coded_ℕ) (coded× coded_ℕ (coded× coded_ℕ (coded_option coded_ℕ)))) to_parts from_parts (λ _. refl))
+    coded_list (code_by Parts (coded× (coded_list coded_ℕ)
+    (coded× coded_ℕ (coded× coded_ℕ (coded_option coded_ℕ)))) to_parts from_parts (λ _. refl))

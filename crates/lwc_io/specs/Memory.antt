@@ -1,5 +1,6 @@
 -- The files and the sink in memory, as their contracts see them.
-use Rattle.std.specs.Prelude.{ℕ, Bool, ◌&&◌, ◌||◌, List, ◌∷◌, ◌++◌, [], length, Option, option_map, unwrap_or, is_none, slice_get, slice_index, slice_set, bytes_eq, position, ◌==◌, nat_lt}
+use Rattle.std.specs.Prelude.{ℕ, Bool, ◌&&◌, ◌||◌, List, ◌∷◌, ◌++◌, [], length, Option, option_map, unwrap_or}
+use Rattle.std.specs.Prelude.{is_none, slice_get, slice_index, slice_set, bytes_eq, position, ◌==◌, nat_lt}
 use Rattle.std.specs.List.{list_any}
 use Rattle.lwc_io.specs.Outside.{Fetch, incremented}
 

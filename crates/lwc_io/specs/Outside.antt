@@ -1,5 +1,6 @@
 -- What files and sinks give and take, and how they count what failed.
-use Rattle.std.specs.Prelude.{◌≡◌, ◌↔◌, ℕ, ◌+◌, ◌<◌, ◌≤◌, min, List, [], ◌∷◌, ◌++◌, length, take, drop, Option, None, Some, option_map, Result, Ok, Err, IfSome}
+use Rattle.std.specs.Prelude.{◌≡◌, ◌↔◌, ℕ, ◌+◌, ◌<◌, ◌≤◌, min, List, [], ◌∷◌, ◌++◌, length, take, drop, Option, None}
+use Rattle.std.specs.Prelude.{Some, option_map, Result, Ok, Err, IfSome}
 
 -- a fetch: of the file of that name, from the offset `at` on, of at most `most` bytes; it gave this number of
 -- them, 0 at the file's end, and none where it failed

@@ -32,15 +32,16 @@ pub data LeavesContexts (s : Monitored) (after : Machine) (t : ℕ) : Type 0 whe
       Enters s.machine after x m → LeavesRegisters s.machine after t x.context →
       after.environment.channels ≡ s.machine.environment.channels → LeavesContexts s after t
 
--- nothing has changed but values of pages that a context has, alone or in common with others: the same contexts live, each cell is
--- the same but for its own pages, and so are rights, registers and channels
+-- nothing has changed but values of pages that a context has, alone or in common with others: the same
+-- contexts live, each cell is the same but for its own pages, and so are rights, registers and channels
 pub record LeavesButPages (m after : Machine) (d : Name) : Type 0 where
   pub live : (e : Name) → is_live (world_of after) e ≡ is_live (world_of m) e
   pub cells : (e : Name) (k : Key) → is_live (world_of m) e ≡ true → IsKey (world_of m).size.pages k →
       ((context (world_of after) e).cell k ≡ (context (world_of m) e).cell k) ⊎ ((e ≡ d) × (p : ℕ) × (k ≡ Page p))
   pub rights : (e : Name) (p : ℕ) → right_at (world_of after) e p ≡ right_at (world_of m) e p
   pub values : (e : Name) (k : Key) → is_live (world_of m) e ≡ true → IsKey (world_of m).size.pages k →
-      (value_at (world_of after) e k ≡ value_at (world_of m) e k) ⊎ (IsOneValue (world_of m) d e k × (p : ℕ) × (k ≡ Page p))
+      (value_at (world_of after) e k ≡ value_at (world_of m) e k) ⊎
+      (IsOneValue (world_of m) d e k × (p : ℕ) × (k ≡ Page p))
   pub entries : (e : Name) → is_live (world_of m) e ≡ true →
       (context (world_of after) e).entry ≡ (context (world_of m) e).entry
   pub saved : (e : Name) (s : ℕ) → is_live (world_of m) e ≡ true →

@@ -1,4 +1,5 @@
-ghost use Rattle.std.specs.Prelude.{◌≡◌, ◌≢◌, ◌<◌, ◌≤◌, ◌++◌, false, true, IfErr, IfOk, IsOk, None, OnErr, OnOk, Some, length};
+ghost use Rattle.std.specs.Prelude.{◌≡◌, ◌≢◌, ◌<◌, ◌≤◌, ◌++◌, false, true, IfErr, IfOk, IsOk, None, OnErr, OnOk};
+ghost use Rattle.std.specs.Prelude.{Some, length};
 ghost use Rattle.std.specs.FinMap as fm;
 ghost use Rattle.guest_image.specs.Limits.{IsImage};
 ghost use Rattle.kernel_core.specs.declared.acting.Change.TheVariants as changes;

@@ -174,7 +174,7 @@ module _ (r : ℕ) where
       opening-shifted : (targets : CallContexts) (file : ℕ) → calls.opening (shifted_world r w) (shifted_channels r io) (shifted_targets r targets) file ≡ shifted_end r (calls.opening w io targets file)
       opening-shifted targets file =
           ended-shifted (calls.open_refusals w io targets file) _ (calls.placed w io targets.slots (File file 0)) _
-          (λ i. (leb (length (files-shifted i)) file, NoFile) ∷ (not (option_map_or (may_open (uid-shifted targets.cred i)) (slice_get (files-shifted i) file) false), NotPermitted) ∷ place-shifted targets.slots i)
+          (λ i. (leb (length (files-shifted i)) file, NoFile) ∷ (not (option_map_or (λ found. may_open (uid-shifted targets.cred i) found.owner found.public) (slice_get (files-shifted i) file) false), NotPermitted) ∷ place-shifted targets.slots i)
           (placed-shifted targets.slots (File file 0))
 
       is_empty-shifted : (s : Name) (n : ℕ) → is_empty (descriptor_for (shifted_world r w) (shifted_name r s) n) ≡ is_empty (descriptor_for w s n)

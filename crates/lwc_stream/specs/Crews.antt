@@ -22,7 +22,8 @@ pub record HasServed (process : Lock Inputs) (pass : Carried) (puts : End) : Typ
   pub put : puts.values ≡ finished_by process.name pass
 
 -- the workers have served, each with its own pass and its own queue, and what each did at the gate is in its log
-pub record HaveServed {V : Type 0} (pass : V → Carried) (puts : V → End) (log : V → List Visit) (process : Lock Inputs) (before after : List V) : Type 0 where
+pub record HaveServed {V : Type 0} (pass : V → Carried) (puts : V → End) (log : V → List Visit)
+    (process : Lock Inputs) (before after : List V) : Type 0 where
   pub served : All (λ w. HasServed process (pass w) (puts w)) after
   pub numbers : map (λ w. (pass w).held.number) after ≡ map (λ w. (pass w).held.number) before
   pub queues : map (λ w. (puts w).queue) after ≡ map (λ w. (puts w).queue) before

@@ -1,5 +1,6 @@
 -- Replies that wait until those to all earlier requests are shown.
-use Rattle.std.specs.Prelude.{◌≡◌, ◌⊎◌, ℕ, ◌<◌, ◌≤◌, Bool, List, [], ◌∷◌, ◌++◌, Option, None, Some, length, slice_get, slice_index_or, slice_set}
+use Rattle.std.specs.Prelude.{◌≡◌, ◌⊎◌, ℕ, ◌<◌, ◌≤◌, Bool, List, [], ◌∷◌, ◌++◌, Option, None, Some, length}
+use Rattle.std.specs.Prelude.{slice_get, slice_index_or, slice_set}
 use Rattle.lwc_io.specs.Outside.{SinkView}
 use Rattle.lwc_stream.specs.Replies.{IsAmong, IsWritten, lines_of}
 use Rattle.snapshot_host.specs.declared.finishing.Finished.{Finished}
@@ -21,7 +22,8 @@ pub record IsStreamed (taken : List (List Finished)) (held : Held) (shown : List
   pub among : (i : ℕ) (x : Finished) → slice_get shown i ≡ Some x → IsAmong taken x
   pub waits : (i : ℕ) (x : Finished) → at held.places i ≡ Some x → (x.request ≡ i) × IsAmong taken x
   pub here : (x : Finished) → IsAmong taken x →
-      (x.request < held.next) ⊎ ((length held.places ≤ x.request) ⊎ ((y : Finished) × (at held.places x.request ≡ Some y)))
+      (x.request < held.next) ⊎ ((length held.places ≤ x.request) ⊎
+      ((y : Finished) × (at held.places x.request ≡ Some y)))
 
 -- replies were taken and shown, and the lines of those that are shown were written
 pub record HasShown (taken : List (List Finished)) (held : Held) (failed : Bool) (before now : SinkView) : Type 0 where

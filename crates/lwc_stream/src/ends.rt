@@ -1,5 +1,6 @@
 //! The two ends of a worker's queue. Replies go through it in pieces, so that it takes memory only where bytes are.
-ghost use Rattle.std.specs.Prelude.{◌≡◌, ◌++◌, ◌∷◌, ◌<◌, ◌≤◌, ◌^◌, false, true, [], IfOk, IfSome, IsNone, MatchOption, length, vec_capacity};
+ghost use Rattle.std.specs.Prelude.{◌≡◌, ◌++◌, ◌∷◌, ◌<◌, ◌≤◌, ◌^◌, false, true, [], IfOk, IfSome, IsNone};
+ghost use Rattle.std.specs.Prelude.{MatchOption, length, vec_capacity};
 ghost use Rattle.lwc_base.specs.declared.limits.TheConstants.{MOST_REPLY_BYTES};
 ghost use Rattle.lwc_stream.specs.Queues.{CanFollow, arrived, end_of, reply_with};
 ghost use Rattle.lwc_stream.specs.declared.ends.TheConstants.{PIECE_BYTES};

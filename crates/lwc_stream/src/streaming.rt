@@ -38,8 +38,9 @@ pub struct Streamed<W: World> {
 /// Each thread is carried by a worker of its own where one can be started, and comes to the gate before each
 /// turn, and tells it of each request that it finished: the log at the place of its pass grows by these visits.
 /// Further logs stay as they are. A line may be written while workers go on: no clause says so, tests show it.
-/// All memory is taken before the first turn, but for what starting threads takes: what runs later has no allocator but a
-/// heap of that memory. No clause says so; `scripts/check-alloc-faults` shows that no worker waits for memory.
+/// All memory is taken before the first turn, but for what starting threads takes: what runs later has no
+/// allocator but a heap of that memory. No clause says so; `scripts/check-alloc-faults` shows that no worker
+/// waits for memory.
 ///
 /// # Errors
 ///
@@ -152,7 +153,8 @@ fn finish<R: Wait, W: World, L: Drop, O: Sink>(
     ensures passes { result.passes.items ≡ map (λ w. w.pass) workers.items }
     ensures logs { logs.new.items ≡ map (λ w. w.log) workers.items ++ logs.old.items }
     ensures written { (before : SinkView) →
-        HasShown (map (λ e. e.values) desk.entry.takes.items) desk.entry.waiting desk.entry.writer before (O.seen out.old) →
+        HasShown (map (λ e. e.values) desk.entry.takes.items) desk.entry.waiting desk.entry.writer before
+        (O.seen out.old) →
         (shown : List Finished)
         × AreShown (map (λ w. w.puts.values) workers.items) (length desk.entry.waiting.places) shown
         × IsWritten result.failed before (O.seen out.new) (lines_of shown) }

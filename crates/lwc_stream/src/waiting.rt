@@ -10,9 +10,9 @@ use std::marker::Model;
 use std::sync::Wait;
 use std::thread;
 
-/// A heap with room for the bytes of this many replies, however long each is: where no hole of it is large enough for one
-/// more, each live block is at most as long as a reply, and so is each hole. It touches no memory. The only error is out of
-/// memory.
+/// A heap with room for the bytes of this many replies, however long each is: where no hole of it is large
+/// enough for one more, each live block is at most as long as a reply, and so is each hole. It touches no
+/// memory. The only error is out of memory.
 pub(crate) fn heap_for(alloc: Global, replies: usize) -> Result<LocalHeap, OutOfMemory>
     requires { replies < 2 ^ 32 }
 {

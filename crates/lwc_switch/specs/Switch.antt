@@ -1,5 +1,6 @@
 -- The call that takes a thread to another context: its refusals in order, and what it does where none holds.
-use Rattle.std.specs.Prelude.{◌≡◌, ◌≢◌, ◌<◌, ℕ, ◌++◌, Bool, true, List, [], ◌∷◌, Option, None, Some, is_none, slice_index, slice_set, unwrap_or}
+use Rattle.std.specs.Prelude.{◌≡◌, ◌≢◌, ◌<◌, ℕ, ◌++◌, Bool, true, List, [], ◌∷◌, Option, None, Some, is_none}
+use Rattle.std.specs.Prelude.{slice_index, slice_set, unwrap_or}
 use Rattle.std.specs.Option.{option_map}
 use Rattle.guest_call.specs.Changes.{IsUntouched}
 use Rattle.guest_call.specs.Guest.{descriptor_for, link_of, slot_refusals, with_answer}

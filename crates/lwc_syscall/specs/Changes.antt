@@ -1,5 +1,6 @@
 -- What plain calls do to the world and the channels.
-use Rattle.std.specs.Prelude.{◌≡◌, ◌≢◌, ◌<◌, ◌≤◌, ℕ, ◌+◌, ◌==◌, ◌&&◌, Bool, List, Option, Some, true, false, length, nat_le, nat_lt, slice_index}
+use Rattle.std.specs.Prelude.{◌≡◌, ◌≢◌, ◌<◌, ◌≤◌, ℕ, ◌+◌, ◌==◌, ◌&&◌, Bool, List, Option, Some, true, false, length}
+use Rattle.std.specs.Prelude.{nat_le, nat_lt, slice_index}
 use Rattle.std.specs.FinMap as fm
 use Rattle.std.specs.List.{list_any}
 use Rattle.std.specs.Option.{option_map_or}
@@ -124,7 +125,8 @@ pub record ChangesOnly (w v : World) (targets : CallContexts) (keys : Key → Bo
 abbrev pub KeepsReadOnly : World → World → (Name → ℕ → Type 0) → Type 0
 KeepsReadOnly w v IsLeftOut =
     (e : Name) (p : ℕ) (value : Option PageValue) → (IsLeftOut e p → ⊥) →
-    (context w e).cell (Page p) ≡ Own value → right_at w e p ≡ MayRead → ((context v e).cell (Page p) ≡ Own value) × (right_at v e p ≡ MayRead)
+    (context w e).cell (Page p) ≡ Own value → right_at w e p ≡ MayRead →
+    ((context v e).cell (Page p) ≡ Own value) × (right_at v e p ≡ MayRead)
 
 -- the memory of three contexts is this one, and a call maps or unmaps this page of it
 abbrev pub IsMapped : CallContexts → Option PlainCall → List ℕ → Name → ℕ → Type 0

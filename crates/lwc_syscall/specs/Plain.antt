@@ -1,5 +1,7 @@
 -- The plain calls over a context for the memory, one for the slots and one for the credential.
-use Rattle.std.specs.Prelude.{ℕ, ◌+◌, ◌*◌, ◌==◌, ◌||◌, ◌^◌, if◌then◌else◌, Bool, true, false, not, List, [], ◌∷◌, ◌++◌, Option, None, Some, drop, is_none, length, nat_le, nat_lt, slice_get, slice_index, slice_set, take, unwrap_or}
+use Rattle.std.specs.Prelude.{ℕ, ◌+◌, ◌*◌, ◌==◌, ◌||◌, ◌^◌, if◌then◌else◌, Bool, true, false, not, List, [], ◌∷◌}
+use Rattle.std.specs.Prelude.{◌++◌, Option, None, Some, drop, is_none, length, nat_le, nat_lt, slice_get}
+use Rattle.std.specs.Prelude.{slice_index, slice_set, take, unwrap_or}
 use Rattle.std.specs.Option.{option_map_or}
 use Rattle.guest_call.specs.Guest.{descriptor_for}
 use Rattle.lwc_base.specs.Cells.{put_slot, put_uid, uid_at}
@@ -15,11 +17,14 @@ use Rattle.lwc_base.specs.Summaries.{is_empty}
 use Rattle.lwc_base.specs.World.{World}
 use Rattle.lwc_base.specs.declared.descriptor.Descriptor.{Descriptor}
 use Rattle.lwc_base.specs.declared.descriptor.Descriptor.TheVariants.{Empty, Console, File, Request, Reply}
-use Rattle.lwc_base.specs.declared.limits.TheConstants.{MOST_BYTES_OF_CALL, MOST_CONSOLE_BYTES, MOST_RANGES, MOST_REPLY_BYTES}
+use Rattle.lwc_base.specs.declared.limits.TheConstants.{MOST_BYTES_OF_CALL, MOST_CONSOLE_BYTES, MOST_RANGES}
+use Rattle.lwc_base.specs.declared.limits.TheConstants.{MOST_REPLY_BYTES}
 use Rattle.lwc_base.specs.declared.name.Name.{Name}
 use Rattle.lwc_base.specs.declared.page.TheConstants.{PAGE_BYTES}
 use Rattle.lwc_base.specs.declared.refusal.Refusal.{Refusal}
-use Rattle.lwc_base.specs.declared.refusal.Refusal.TheVariants.{BadCall, BadFd, WrongKind, BadAddress, BadRange, NoSlot, NoFrame, NotPermitted, NoFile, TooManyRanges, ReplyFull, TooLong, ReadOnly}
+use Rattle.lwc_base.specs.declared.refusal.Refusal.TheVariants.{BadCall, BadFd, WrongKind, BadAddress, BadRange}
+use Rattle.lwc_base.specs.declared.refusal.Refusal.TheVariants.{NoSlot, NoFrame, NotPermitted, NoFile, TooManyRanges}
+use Rattle.lwc_base.specs.declared.refusal.Refusal.TheVariants.{ReplyFull, TooLong, ReadOnly}
 use Rattle.lwc_syscall.specs.declared.answer.CallAnswer.{CallAnswer}
 use Rattle.lwc_syscall.specs.declared.answer.CallAnswer.TheVariants.{Value, Exit, Refused}
 use Rattle.lwc_syscall.specs.declared.calls.CallContexts.{CallContexts}
@@ -58,7 +63,8 @@ place_refusals w s = (is_none (lowest_empty w s), NoSlot) ∷ []
 abbrev pub open_refusals : World → Channels → CallContexts → ℕ → List (Bool × Refusal)
 open_refusals w io targets file =
     (nat_le (length io.files) file, NoFile)
-    ∷ (not (option_map_or (may_open (uid_at w targets.cred)) (slice_get io.files file) false), NotPermitted)
+    ∷ (not (option_map_or (λ found. may_open (uid_at w targets.cred) found.owner found.public)
+        (slice_get io.files file) false), NotPermitted)
     ∷ place_refusals w targets.slots
 
 -- call 1: the lowest empty slot becomes a descriptor of a file, at its beginning

@@ -1,5 +1,6 @@
 -- The call that makes a plain call over contexts that a mask chooses.
-use Rattle.std.specs.Prelude.{◌≡◌, ◌≤◌, true, Option, Some, ℕ, if◌then◌else◌, ◌||◌, ◌++◌, Bool, not, List, [], ◌∷◌, nat_lt, slice_index, unwrap_or}
+use Rattle.std.specs.Prelude.{◌≡◌, ◌≤◌, true, Option, Some, ℕ, if◌then◌else◌, ◌||◌, ◌++◌, Bool, not, List, [], ◌∷◌}
+use Rattle.std.specs.Prelude.{nat_lt, slice_index, unwrap_or}
 use Rattle.access_cap.specs.Kinds.{has_kinds, is_chosen}
 use Rattle.guest_call.specs.Guest.{descriptor_for, link_of, slot_refusals}
 use Rattle.lwc_base.specs.Capabilities.{empty_cap}

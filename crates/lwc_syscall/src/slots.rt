@@ -30,7 +30,8 @@ pub fn open<W: World>(
     if file >= files.len() as u64 {
         return CallAnswer::Refused(Refusal::NoFile);
     }
-    if !may_open(world.uid(targets.cred), &files[file as usize]) {
+    let found = &files[file as usize];
+    if !may_open(world.uid(targets.cred), found.owner, found.public) {
         return CallAnswer::Refused(Refusal::NotPermitted);
     }
     let file = file as u8;

@@ -16,7 +16,7 @@ pub fn set_uid<W: World>(world: &mut W, cred: Name, uid: u64) -> CallAnswer
     if uid > u64::from(u32::MAX) {
         return CallAnswer::Refused(Refusal::BadRange);
     }
-    if !may_set(world.uid(cred), uid) {
+    if !may_set(world.uid(cred), uid as u32) {
         return CallAnswer::Refused(Refusal::NotPermitted);
     }
     world.set_uid(cred, uid as u32);

@@ -1,5 +1,6 @@
 -- What a request file is, and how it is read.
-use Rattle.std.specs.Prelude.{◌≡◌, ℕ, zero, suc, ◌+◌, ◌-◌, ◌*◌, ◌%◌, ◌≤◌, not, nat_lt, nat_le, ◌==◌, if◌then◌else◌, List, [], length, map, slice_index_or, All, Option, Some, None, Result, Ok, Err}
+use Rattle.std.specs.Prelude.{◌≡◌, ℕ, zero, suc, ◌+◌, ◌-◌, ◌*◌, ◌%◌, ◌≤◌, not, nat_lt, nat_le, ◌==◌, if◌then◌else◌}
+use Rattle.std.specs.Prelude.{List, [], length, map, slice_index_or, All, Option, Some, None, Result, Ok, Err}
 use Rattle.std.specs.List.{after_first, filter_map, position_or_len, range_with_len}
 use Rattle.std.specs.Option.{option_map}
 use Rattle.std.specs.Result.{result_ok}
@@ -8,7 +9,8 @@ use Rattle.hex.specs.Hex.{decode_of, is_hex_digit}
 use Rattle.lwc_base.specs.Outcomes.{Refusal, unless_refused}
 use Rattle.lwc_base.specs.declared.limits.TheConstants.{MOST_REQUESTS, MOST_REQUEST_BYTES, MOST_REQUEST_FILE_BYTES}
 use Rattle.lwc_text.specs.declared.fault.InputRule.{InputRule}
-use Rattle.lwc_text.specs.declared.fault.InputRule.TheVariants.{TooLong, TooManyRequests, BadHex, RequestTooLong, OddLength}
+use Rattle.lwc_text.specs.declared.fault.InputRule.TheVariants.{TooLong, TooManyRequests, BadHex, RequestTooLong}
+use Rattle.lwc_text.specs.declared.fault.InputRule.TheVariants.{OddLength}
 use Rattle.lwc_text.specs.Schedules.{refusal_of}
 
 -- the request of a line: the bytes of its digits, in either case, if it is pairs of them

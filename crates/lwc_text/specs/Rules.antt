@@ -1,7 +1,10 @@
 -- The names of the rules.
 use Rattle.std.specs.Prelude.{ℕ, List, codes}
 use Rattle.lwc_text.specs.declared.fault.InputRule.{InputRule}
-use Rattle.lwc_text.specs.declared.fault.InputRule.TheVariants.{TooLong, BadThread, TooManySteps, TooManyRequests, BadHex, RequestTooLong, OddLength, TooMuchWork, Truncated, BadEntry, BadPage, SlotTaken, BadCommand, TooManyCommands}
+use Rattle.lwc_text.specs.declared.fault.InputRule.TheVariants.{TooLong, BadThread, TooManySteps, TooManyRequests}
+use Rattle.lwc_text.specs.declared.fault.InputRule.TheVariants.{BadHex, RequestTooLong, OddLength, TooMuchWork}
+use Rattle.lwc_text.specs.declared.fault.InputRule.TheVariants.{Truncated, BadEntry, BadPage, SlotTaken, BadCommand}
+use Rattle.lwc_text.specs.declared.fault.InputRule.TheVariants.{TooManyCommands}
 
 -- the bytes of a rule's name
 abbrev pub rule_name : InputRule → List ℕ

@@ -1,5 +1,6 @@
 -- What steps in the vault hand out.
-use Rattle.std.specs.Prelude.{◌==◌, ◌&&◌, if◌then◌else◌, ℕ, Bool, false, not, List, [], ◌∷◌, Option, None, Some, slice_get, slice_index, take}
+use Rattle.std.specs.Prelude.{◌==◌, ◌&&◌, if◌then◌else◌, ℕ, Bool, false, not, List, [], ◌∷◌, Option, None, Some}
+use Rattle.std.specs.Prelude.{slice_get, slice_index, take}
 use Rattle.std.specs.Ordering.{eq_by_cmp}
 use Rattle.confinement.specs.May.{regs_at}
 use Rattle.guest_isa.specs.declared.instr.Instr.{Instr}

@@ -18,7 +18,8 @@ pub record EndedOver (words : List (List ℕ)) (files : List Named) (e : End Rej
 
 -- what came of a line over these files: what comes of it in the program, by the same clauses, with the status and the
 -- message of that end
-pub record IsOutcome (words : List (List ℕ)) (files : List Named) (status : ExitStatus) (output text : List ℕ) : Type 0 where
+pub record IsOutcome (words : List (List ℕ)) (files : List Named) (status : ExitStatus)
+    (output text : List ℕ) : Type 0 where
   pub end : End Rejection
   pub over : EndedOver words files end output
   pub by : status ≡ status_of end

@@ -1,5 +1,6 @@
 -- Runs that a caller keeps as a value, and what it sees of them.
-use Rattle.std.specs.Prelude.{◌≡◌, ◌≢◌, ◌<◌, ◌≤◌, ◌*◌, if◌then◌else◌, ℕ, zero, suc, List, [], Option, None, Some, Ok, Err, length, nat_lt, All}
+use Rattle.std.specs.Prelude.{◌≡◌, ◌≢◌, ◌<◌, ◌≤◌, ◌*◌, if◌then◌else◌, ℕ, zero, suc, List, [], Option, None, Some, Ok}
+use Rattle.std.specs.Prelude.{Err, length, nat_lt, All}
 use Rattle.std.specs.FinMap as fm
 use Rattle.guest_image.specs.Reading.{image_at}
 use Rattle.guest_image.specs.declared.image.Image.{Image}

@@ -1,5 +1,6 @@
 -- What a line of words asks for.
-use Rattle.std.specs.Prelude.{◌≡◌, ◌≤◌, ℕ, ◌||◌, if◌then◌else◌, List, Option, None, Some, is_some, bytes_eq, codes, string_bytes}
+use Rattle.std.specs.Prelude.{◌≡◌, ◌≤◌, ℕ, ◌||◌, if◌then◌else◌, List, Option, None, Some, is_some, bytes_eq, codes}
+use Rattle.std.specs.Prelude.{string_bytes}
 use Rattle.std.specs.Option.{option_map, option_and_then}
 use Rattle.kernel_core.specs.Settings.{IsSettings}
 use Rattle.kernel_core.specs.declared.settings.Settings.{Settings}

@@ -16,7 +16,8 @@ FileContents = List ℕ → Option (List ℕ)
 
 -- what the file of a name may be read as, on the way to an end of a plan: its contents, where they are known; and on
 -- the way to a work, bytes
-pub record MayBeReadAs {R W : Type 0} (files : FileContents) (name : List ℕ) (end : Result W R) (bytes : List ℕ) : Type 0 where
+pub record MayBeReadAs {R W : Type 0} (files : FileContents) (name : List ℕ) (end : Result W R)
+    (bytes : List ℕ) : Type 0 where
   pub contents : MayBeContents (files name) bytes
   pub range : OnOk end (All (λ b. b < 256) bytes)
 

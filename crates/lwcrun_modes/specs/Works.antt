@@ -1,7 +1,8 @@
 -- What a call does: its work, its plan, and the text that it writes.
 use Rattle.std.specs.Prelude.{◌≡◌, ℕ, List, [], Option, None, Some, Result}
 use Rattle.guest_dis.specs.Listing.{listing}
-use Rattle.lwc_base.specs.declared.limits.TheConstants.{MOST_IMAGE_BYTES, MOST_REQUEST_FILE_BYTES, MOST_SCHEDULE_BYTES, MOST_SOURCE_BYTES, MOST_STEPS}
+use Rattle.lwc_base.specs.declared.limits.TheConstants.{MOST_IMAGE_BYTES, MOST_REQUEST_FILE_BYTES}
+use Rattle.lwc_base.specs.declared.limits.TheConstants.{MOST_SCHEDULE_BYTES, MOST_SOURCE_BYTES, MOST_STEPS}
 use Rattle.guest_image.specs.Limits.{lifted}
 use Rattle.guest_image.specs.Spelling.{spelling}
 use Rattle.guest_image.specs.declared.image.Image.{Image}
@@ -22,7 +23,8 @@ use Rattle.lwc_vault.specs.Secrets.{beside}
 use Rattle.lwcrun_modes.specs.declared.ending.Rejection.{Rejection}
 use Rattle.thread_carrier.specs.Visits.{after_visits}
 use Rattle.thread_carrier.specs.declared.visit.Visit.{Visit}
-use Rattle.lwcrun_modes.specs.Inputs.{bounded_requests_of, fitting_image_of, fitting_vault_for, image_of, requests_of, schedule_of, script_of, source_of}
+use Rattle.lwcrun_modes.specs.Inputs.{bounded_requests_of, fitting_image_of, fitting_vault_for, image_of}
+use Rattle.lwcrun_modes.specs.Inputs.{requests_of, schedule_of, script_of, source_of}
 use Rattle.lwcrun_line.specs.Lines.{Command}
 use Rattle.lwcrun_line.specs.Lines as commands
 use Rattle.lwcrun_modes.specs.Plans.{Plan, Read, Write, accepted}
@@ -77,7 +79,8 @@ inputs_of image requests settings =
     record { image = image; vault = None; requests = requests; settings = settings }
 
 -- a file is read by a grammar, and what it is says what follows
-abbrev pub read_by : {A : Type 0} → (List ℕ → Result A Rejection) → ℕ → List ℕ → (A → Plan Rejection Work) → Plan Rejection Work
+abbrev pub read_by : {A : Type 0} → (List ℕ → Result A Rejection) → ℕ → List ℕ → (A → Plan Rejection Work) →
+    Plan Rejection Work
 read_by grammar limit name next = Read name limit (λ bytes. accepted (grammar bytes) next)
 
 -- what follows the schedule of a replay: a serve reads its requests

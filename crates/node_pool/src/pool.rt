@@ -1,4 +1,5 @@
-ghost use Rattle.std.specs.Prelude.{◌≡◌, ℕ, ◌+◌, ◌-◌, ◌<◌, ◌^◌, ◌↔◌, List, IfOk, IfSome, IfNone, IsNone, length, replicate, slice_set};
+ghost use Rattle.std.specs.Prelude.{◌≡◌, ℕ, ◌+◌, ◌-◌, ◌<◌, ◌^◌, ◌↔◌, List, IfOk, IfSome, IfNone, IsNone, length};
+ghost use Rattle.std.specs.Prelude.{replicate, slice_set};
 
 use lwc_base::OutOfMemory;
 use pool_base::{Counts, Steps, put_next};

@@ -30,7 +30,8 @@ entry_steps level = if level == LEAF_LEVEL then 0 else 1 + most_nodes (level - 1
 -- part
 abbrev pub share_steps : ℕ → ℕ
 share_steps zero = 0
-share_steps (suc level) = copy_steps (suc level) + entries_in (suc level) * entry_steps (suc level) + 2 * share_steps level
+share_steps (suc level) =
+    copy_steps (suc level) + entries_in (suc level) * entry_steps (suc level) + 2 * share_steps level
 
 -- for a range of the pages of an open link, beside one for each entry that it passes
 abbrev pub open_steps : ℕ → ℕ

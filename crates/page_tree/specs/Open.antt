@@ -18,7 +18,8 @@ IsOpenBelow nodes (suc level) link p =
 -- a node of a level has no entries past that of its page p, whose link is open from there on
 pub record IsOpenNode (nodes : List Node) (level n p : ℕ) : Type 0 where
   pub later : (i : ℕ) → p / NODE_ENTRIES ^ (level - 1) < i → entry_of nodes n i ≡ 0
-  pub way : IsOpenBelow nodes (level - 1) (entry_of nodes n (p / NODE_ENTRIES ^ (level - 1))) (p % NODE_ENTRIES ^ (level - 1))
+  pub way : IsOpenBelow nodes (level - 1) (entry_of nodes n (p / NODE_ENTRIES ^ (level - 1)))
+        (p % NODE_ENTRIES ^ (level - 1))
 
 -- a tree has nothing from page p on, and nobody else holds a node on the way there
 abbrev pub IsOpen : List Node → ℕ → ℕ → Type 0
@@ -28,7 +29,8 @@ IsOpen nodes tree p = IsOpenBelow nodes ROOT_LEVEL tree p
 abbrev pub passed_below : ℕ → ℕ → ℕ
 passed_below zero p = 0
 passed_below (suc zero) p = 0
-passed_below (suc (suc level)) p = p / NODE_ENTRIES ^ suc level + passed_below (suc level) (p % NODE_ENTRIES ^ suc level)
+passed_below (suc (suc level)) p =
+    p / NODE_ENTRIES ^ suc level + passed_below (suc level) (p % NODE_ENTRIES ^ suc level)
 
 -- on the way down a tree to a page
 abbrev pub entries_passed : ℕ → ℕ

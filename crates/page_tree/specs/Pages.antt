@@ -27,7 +27,8 @@ link_of nodes link i = if link == 0 then 0 else entry_of nodes (link - 1) i
 -- the entry for a page on the way down from what a link leads to, which has this level
 unfoldable pub entry_below : List Node → ℕ → ℕ → ℕ → ℕ
 entry_below nodes zero link p = link
-entry_below nodes (suc level) link p = entry_below nodes level (link_of nodes link (p / NODE_ENTRIES ^ level)) (p % NODE_ENTRIES ^ level)
+entry_below nodes (suc level) link p =
+    entry_below nodes level (link_of nodes link (p / NODE_ENTRIES ^ level)) (p % NODE_ENTRIES ^ level)
 
 -- what a tree has for a page
 unfoldable pub page : List Node → ℕ → ℕ → PageCell

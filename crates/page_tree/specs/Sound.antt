@@ -1,5 +1,6 @@
 -- When a store of nodes and frames is sound.
-use Rattle.std.specs.Prelude.{◌≡◌, ℕ, ◌+◌, ◌^◌, ◌<◌, ◌≤◌, ◌==◌, if◌then◌else◌, Bool, nat_lt, List, length, sum_by, count_by}
+use Rattle.std.specs.Prelude.{◌≡◌, ℕ, ◌+◌, ◌^◌, ◌<◌, ◌≤◌, ◌==◌, if◌then◌else◌, Bool, nat_lt, List, length, sum_by}
+use Rattle.std.specs.Prelude.{count_by}
 use Rattle.frame_pool.specs.Frame.{Frame, frame_count}
 use Rattle.node_pool.specs.declared.pool.TheConstants.{NODE_ENTRIES}
 use Rattle.node_pool.specs.Nodes.{Node, count_of, level_of, entry_of}
@@ -45,7 +46,8 @@ pub record IsSoundTo (top : ℕ) (nodes : List Node) (frames : List Frame) : Typ
   pub levels : (n : ℕ) → 0 < count_of nodes n → (LEAF_LEVEL ≤ level_of nodes n) × (level_of nodes n ≤ ROOT_LEVEL)
   pub narrow : (n i : ℕ) → level_of nodes n ≡ ROOT_LEVEL → ROOT_ENTRIES ≤ i → entry_of nodes n i ≡ 0
   pub held : (n i m : ℕ) → LEAF_LEVEL < level_of nodes n → entry_of nodes n i ≡ m + 1 → 0 < count_of nodes m
-  pub below : (n i m : ℕ) → LEAF_LEVEL < level_of nodes n → entry_of nodes n i ≡ m + 1 → level_of nodes m + 1 ≡ level_of nodes n
+  pub below : (n i m : ℕ) → LEAF_LEVEL < level_of nodes n → entry_of nodes n i ≡ m + 1 →
+        level_of nodes m + 1 ≡ level_of nodes n
   pub led : (n : ℕ) → leading_to nodes n ≤ count_of nodes n
   pub counted : (n : ℕ) → level_of nodes n < top → count_of nodes n ≡ leading_to nodes n
   pub framed : (f : ℕ) → naming nodes f ≤ frame_count frames f

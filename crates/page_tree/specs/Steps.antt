@@ -37,7 +37,8 @@ pub record Moves (level : ℕ) (old new : List Node) (frames frames' : List Fram
 -- on the way down from a link to a node x, something is said of each node
 unfoldable pub IsWay : (ℕ → Type 0) → List Node → ℕ → ℕ → ℕ → Type 0
 IsWay P nodes zero link x = ⊥
-IsWay P nodes (suc k) link x = (m : ℕ) × ((link ≡ m + 1) × (P m × ((m ≡ x) ⊎ ((i : ℕ) × IsWay P nodes k (link_of nodes link i) x))))
+IsWay P nodes (suc k) link x =
+    (m : ℕ) × ((link ≡ m + 1) × (P m × ((m ≡ x) ⊎ ((i : ℕ) × IsWay P nodes k (link_of nodes link i) x))))
 
 -- a node is held once, and is none of these
 abbrev pub IsLone : List Node → (ℕ → Type 0) → ℕ → Type 0
@@ -45,7 +46,8 @@ IsLone nodes shared m = (count_of nodes m ≡ 1) × (shared m → ⊥)
 
 -- what is on a way of such nodes from a node that is held besides is still held once
 abbrev pub KeepsLone : List Node → List Node → (ℕ → ℕ) → (ℕ → Type 0) → Type 0
-KeepsLone old new out shared = (t x : ℕ) → IsOther old out t → IsWay (IsLone old shared) old (level_of old t) (t + 1) x → count_of new x ≡ 1
+KeepsLone old new out shared =
+    (t x : ℕ) → IsOther old out t → IsWay (IsLone old shared) old (level_of old t) (t + 1) x → count_of new x ≡ 1
 
 -- none is shared
 abbrev pub none_shared : ℕ → Type 0
@@ -58,7 +60,8 @@ leads_to link m = link ≡ m + 1
 -- a link leads to nothing, or to a node of a level, and all below it is below nodes that are held besides
 pub record IsBeside (nodes : List Node) (out : ℕ → ℕ) (level link : ℕ) : Type 0 where
   pub level_is : (n : ℕ) → link ≡ n + 1 → level_of nodes n ≡ level
-  pub above : (n : ℕ) → IsBelow nodes level link n → (t : ℕ) × (IsOther nodes out t × IsBelow nodes (level_of nodes t) (t + 1) n)
+  pub above : (n : ℕ) → IsBelow nodes level link n → (t : ℕ) ×
+        (IsOther nodes out t × IsBelow nodes (level_of nodes t) (t + 1) n)
 
 -- the frame that an entry names, if it names one, is held once more
 pub record HoldsMore (frames frames' : List Frame) (e : ℕ) : Type 0 where

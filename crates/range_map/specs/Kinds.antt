@@ -1,5 +1,6 @@
 -- The kinds and the rights of a context's pages by segments, after changes, and their number of ranges.
-use Rattle.std.specs.Prelude.{◌≡◌, ◌<◌, ◌≤◌, All, ◌&&◌, ◌||◌, ◌==◌, if◌then◌else◌, ℕ, zero, suc, Bool, true, false, not, List, Option, None, Some, count_by, is_some, length, nat_le, nat_lt}
+use Rattle.std.specs.Prelude.{◌≡◌, ◌<◌, ◌≤◌, All, ◌&&◌, ◌||◌, ◌==◌, if◌then◌else◌, ℕ, zero, suc, Bool, true, false}
+use Rattle.std.specs.Prelude.{not, List, Option, None, Some, count_by, is_some, length, nat_le, nat_lt}
 use Rattle.std.specs.List.{AllPairs, find, list_any, range_with_len}
 use Rattle.std.specs.Option.{option_map}
 use Rattle.std.specs.Ordering.{is_eq}

@@ -1,5 +1,6 @@
 -- A search for places: marks, and the places that were found in their order.
-use Rattle.std.specs.Prelude.{◌≡◌, ◌<◌, ◌+◌, ◌++◌, ◌∷◌, [], ℕ, zero, suc, if◌then◌else◌, Bool, true, false, List, Option, None, Some, count_by, length, nat_lt, not, slice_index, replicate, slice_set}
+use Rattle.std.specs.Prelude.{◌≡◌, ◌<◌, ◌+◌, ◌++◌, ◌∷◌, [], ℕ, zero, suc, if◌then◌else◌, Bool, true, false, List}
+use Rattle.std.specs.Prelude.{Option, None, Some, count_by, length, nat_lt, not, slice_index, replicate, slice_set}
 use Rattle.lwc_base.specs.declared.descriptor.TheConstants.{SLOTS}
 use Rattle.lwc_base.specs.declared.limits.TheConstants.{MOST_CONTEXTS}
 use Rattle.reach.specs.Reach.{is_marked}
@@ -20,7 +21,8 @@ nothing_found = record { marks = replicate 529 false; order = [] }
 
 -- a search that has found one place more, if it was not found before
 abbrev pub visited : Found → ℕ → Found
-visited s place = if is_marked s.marks place then s else record { marks = slice_set s.marks place true; order = s.order ++ place ∷ [] }
+visited s place = if is_marked s.marks place then s
+    else record { marks = slice_set s.marks place true; order = s.order ++ place ∷ [] }
 
 -- a search that has found the place of a link, if there is one
 abbrev pub visited_link : Found → Option ℕ → Found

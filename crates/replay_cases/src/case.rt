@@ -4,8 +4,8 @@ use crate::outside::{Hold, Outside, SURE};
 use std::alloc::Global;
 use std::io;
 
-/// What is gone through, one call after another, from 0 on until a call ends well: how many bytes of the guest there are,
-/// which write of one byte fails, or which fetch does.
+/// What is gone through, one call after another, from 0 on until a call ends well: how many bytes of the
+/// guest there are, which write of one byte fails, or which fetch does.
 #[derive(Clone, Copy, PartialEq, Eq)]
 pub enum Range {
     Cut,

@@ -68,7 +68,8 @@ pub fn text_over_copies(
     Ok(Some(text))
 }
 
-/// The report of the schedule's steps over a world by whole copies. Bytes but the digits 0 to 9 of threads are left out.
+/// The report of the schedule's steps over a world by whole copies. Bytes but the digits 0 to 9 of threads
+/// are left out.
 fn steps_over_copies(
     alloc: Global,
     image: &Image,

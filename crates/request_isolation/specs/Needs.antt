@@ -1,5 +1,6 @@
 -- The frames that requests take by themselves and together, and the want of frames.
-use Rattle.std.specs.Prelude.{◌≡◌, ◌⊎◌, ℕ, ◌+◌, ◌-◌, ◌*◌, ◌%◌, ◌==◌, ◌≤◌, if◌then◌else◌, true, List, [], ◌∷◌, Option, None, Some, length, max, nat_le, slice_get, slice_index}
+use Rattle.std.specs.Prelude.{◌≡◌, ◌⊎◌, ℕ, ◌+◌, ◌-◌, ◌*◌, ◌%◌, ◌==◌, ◌≤◌, if◌then◌else◌, true, List, [], ◌∷◌, Option}
+use Rattle.std.specs.Prelude.{None, Some, length, max, nat_le, slice_get, slice_index}
 use Rattle.std.specs.Int.{w64, to_le_bytes}
 use Rattle.guest_image.specs.declared.image.Image.{Image}
 use Rattle.guest_isa.specs.declared.instr.Instr.{Instr}
@@ -11,7 +12,8 @@ use Rattle.guest_machine.specs.declared.progress.Next.TheVariants.{Shared}
 use Rattle.kernel_core.specs.Machine.{Environment, Machine}
 use Rattle.kernel_core.specs.Runs.{frames_of, peak}
 use Rattle.kernel_core.specs.Start.{Inputs, start}
-use Rattle.kernel_core.specs.Step.{AfterStep, address, args_of, guest_calls, is_aligned, step, thread_outcome, three_times, with_regs}
+use Rattle.kernel_core.specs.Step.{AfterStep, address, args_of, guest_calls, is_aligned, step, thread_outcome}
+use Rattle.kernel_core.specs.Step.{three_times, with_regs}
 use Rattle.kernel_core.specs.declared.calling.TheConstants.{LW_SYSCALL}
 use Rattle.kernel_core.specs.declared.settings.Job.{Job}
 use Rattle.kernel_core.specs.declared.settings.Job.TheVariants.{Run, Serve}
@@ -119,7 +121,7 @@ IsSpared r m [] = Unit {0}
 IsSpared r m (t ∷ ts) =
     ((x : Thread) → slice_get m.threads t ≡ Some x → x.job ≡ r + 1 → IsShort m t → ⊥) × IsSpared r (step m t) ts
 
--- two frames more than were ever in use: as many as a store may take
+-- two frames more than were in use at the start and after each step: as many as a store may take
 abbrev pub HadFrames : Inputs → List ℕ → Type 0
 HadFrames inputs steps = peak (start inputs) steps + 2 ≤ inputs.settings.frames
 

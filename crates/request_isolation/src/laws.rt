@@ -1,6 +1,7 @@
 //! Laws of serves: functions with empty bodies, each with a contract that is the law.
 
-ghost use Rattle.std.specs.Prelude.{◌≡◌, ◌≢◌, ◌⊎◌, ◌+◌, ◌*◌, ◌++◌, ◌<◌, ◌≤◌, ℕ, Contains, List, Some, false, length, replicate, true};
+ghost use Rattle.std.specs.Prelude.{◌≡◌, ◌≢◌, ◌⊎◌, ◌+◌, ◌*◌, ◌++◌, ◌<◌, ◌≤◌, ℕ, Contains, List, Some, false, length};
+ghost use Rattle.std.specs.Prelude.{replicate, true};
 ghost use Rattle.kernel_core.specs.Histories.{IsComplete, finishes_by};
 ghost use Rattle.kernel_core.specs.Kernel.{CanOpen};
 ghost use Rattle.std.specs.FinMap as fm;
@@ -17,7 +18,8 @@ ghost use Rattle.request_isolation.specs.Alone.{alone, alone_in, ample, start_al
 ghost use Rattle.lwc_syscall.specs.Plain.{plain, world_after};
 ghost use Rattle.lwc_syscall.specs.declared.calls.CallContexts.{CallContexts};
 ghost use Rattle.lwc_syscall.specs.declared.plain_call.PlainCall.TheVariants as plain_calls;
-ghost use Rattle.request_isolation.specs.Needs.{HadFrames, HasFrames, IsShort, IsSpared, IsStoring, acted_world, greatest_extra, store_of_read};
+ghost use Rattle.request_isolation.specs.Needs.{HadFrames, HasFrames, IsShort, IsSpared, IsStoring, acted_world};
+ghost use Rattle.request_isolation.specs.Needs.{greatest_extra, store_of_read};
 ghost use Rattle.request_isolation.specs.Replies.{HasReply};
 ghost use Rattle.request_isolation.specs.Restored.{AllRest, IsRestored, KeepsHomes, with_context};
 ghost use Rattle.snapshot_host.specs.declared.finishing.Finished.{Finished};

@@ -1,5 +1,7 @@
 -- How items are spelled in a guest's memory, and which lists of items a call takes.
-use Rattle.std.specs.Prelude.{ℕ, ◌+◌, ◌*◌, ◌/◌, ◌&&◌, ◌||◌, if◌then◌else◌, Bool, true, false, not, List, [], ◌∷◌, Option, None, Some, Result, Ok, Err, drop, is_some, length, map, nat_le, nat_lt, slice_get}
+use Rattle.std.specs.Prelude.{ℕ, ◌+◌, ◌*◌, ◌/◌, ◌&&◌, ◌||◌, if◌then◌else◌, Bool, true, false, not, List, [], ◌∷◌}
+use Rattle.std.specs.Prelude.{Option, None, Some, Result, Ok, Err, drop, is_some, length, map, nat_le, nat_lt}
+use Rattle.std.specs.Prelude.{slice_get}
 use Rattle.std.specs.List.{filter_map, list_all, list_any, range_with_len}
 use Rattle.byteorder.specs.Endian.{little_number}
 use Rattle.lwc_base.specs.Modes.{limit, overlaps}

@@ -112,8 +112,8 @@ fn pages_of_form_two_are_keys(rt: HostRuntime) {
 /// All keys of 70 pages, lent.
 const ALL: Grant<'static> = Grant::All { pages: 70 };
 
-/// Whether lent keys are those that they stand for: all of 70 pages, none, those of a capability, and those that all keys
-/// and an item of a far page have in common.
+/// Whether lent keys are those that they stand for: all of 70 pages, none, those of a capability, and those
+/// that all keys and an item of a far page have in common.
 fn are_owned(part: &Cap, far: &Spec) -> [bool; 4] {
     [
         owned_keys(ALL) == full(70),

@@ -67,8 +67,8 @@ fn fill_and_clone(slots: &mut Slots) -> (u64, u64, u32)
     bits
 }
 
-/// Puts another cell into slot 5 of the first place: whether each of the two has one of its own there, whether context 2
-/// is named, and the contexts that the second and the first name.
+/// Puts another cell into slot 5 of the first place: whether each of the two has one of its own there,
+/// whether context 2 is named, and the contexts that the second and the first name.
 fn part_slot(slots: &mut Slots) -> ([bool; 3], [Option<Name>; 2])
     requires { length (seen slots.old) ≡ 3 }
     ensures { length (seen slots.new) ≡ 3 }

@@ -2,7 +2,7 @@ ghost use Rattle.std.specs.Prelude.{◌≡◌, ◌∷◌, [], IfOk};
 ghost use Rattle.lwc_base.specs.Channels.{opened};
 
 use crate::checks::check_equal;
-use lwc_base::{Channels, FileImage, Item, Kind, Mode, PageBytes, Sequence, Spec, may_open};
+use lwc_base::{Channels, Item, Kind, Mode, PageBytes, Sequence, Spec, may_open};
 use std::alloc::Global;
 use std::test::Fail;
 
@@ -37,13 +37,7 @@ fn uid_0_the_owner_and_all_for_what_is_public(rt: HostRuntime) -> Result<(), Fai
         (7, 9, true, true),
     ];
     for (uid, owner, public, allowed) in table {
-        let bytes = Sequence::of(Vec::new(rt.alloc()));
-        let file = FileImage {
-            owner,
-            public,
-            bytes,
-        };
-        check_equal(&rt, may_open(uid, &file), allowed);
+        check_equal(&rt, may_open(uid, owner, public), allowed);
     }
     Ok(())
 }

@@ -1,7 +1,8 @@
 -- The rule of the lock: what its two words, its slot and the views of its seats have in common at every
 -- moment. It speaks of one past: that of the state in the slot where no seat is at its turn, and else the
 -- list of the seat at its turn.
-use Rattle.std.specs.Prelude.{◌≡◌, ◌≢◌, ◌⊎◌, ◌+◌, ◌^◌, ◌<◌, ◌≤◌, ℕ, List, [], ◌∷◌, length, All, AllPairs, sum_by, Option, Some}
+use Rattle.std.specs.Prelude.{◌≡◌, ◌≢◌, ◌⊎◌, ◌+◌, ◌^◌, ◌<◌, ◌≤◌, ℕ, List, [], ◌∷◌, length, All, AllPairs, sum_by}
+use Rattle.std.specs.Prelude.{Option, Some}
 use mathlib.Core.Option as maybe
 use mathlib.Core.Option.{some, none}
 use lib.ListN.{get_elem?}
@@ -44,7 +45,8 @@ module _ {N : Type 0} where
   -- a seat that is not spent: its number is its place, it knows the past and noted no turn that was not, its
   -- ticket was drawn and is yet to be served, at its turn it is the next and has seen all; the first seat
   -- knows how many were made, and those that it joined have numbers that differ
-  pub record Fits (name : N) (next : ℕ) (past : List ℕ) (views : List (View N)) (seat : ℕ) (view : View N) : Type 0 where
+  pub record Fits (name : N) (next : ℕ) (past : List ℕ) (views : List (View N)) (seat : ℕ)
+        (view : View N) : Type 0 where
     pub named : view.name ≡ Some name
     pub number : view.number ≡ seat
     pub knows : Knows past view.number view.seen
@@ -61,9 +63,11 @@ module _ {N : Type 0} where
     pub some_seat : 0 < length views
     pub few : length views ≤ 16
     pub first : (view : View N) → Sits views 0 view → view.stage ≢ Spent
-    pub each : (seat : ℕ) (view : View N) → Sits views seat view → view.stage ≢ Spent → Fits name next past views seat view
+    pub each : (seat : ℕ) (view : View N) → Sits views seat view → view.stage ≢ Spent →
+          Fits name next past views seat view
     pub drawn : serving + sum_by (λ view. tickets view.stage) views ≡ next
-    pub apart : (i j t : ℕ) (v w : View N) → Sits views i v → Sits views j w → HasTicket v.stage t → HasTicket w.stage t → i ≡ j
+    pub apart : (i j t : ℕ) (v w : View N) → Sits views i v → Sits views j w → HasTicket v.stage t →
+          HasTicket w.stage t → i ≡ j
     pub unmade : (number : ℕ) → length views ≤ number → times number past ≡ 0
 
 module _ {S N : Type 0} where

@@ -1,5 +1,6 @@
 -- Who has the value under a key, and how many ranges pages make by who has them.
-use Rattle.std.specs.Prelude.{ℕ, zero, suc, ◌&&◌, ◌||◌, if◌then◌else◌, Bool, true, false, not, List, Option, None, Some, count_by, is_some, nat_le, nat_lt}
+use Rattle.std.specs.Prelude.{ℕ, zero, suc, ◌&&◌, ◌||◌, if◌then◌else◌, Bool, true, false, not, List, Option, None}
+use Rattle.std.specs.Prelude.{Some, count_by, is_some, nat_le, nat_lt}
 use Rattle.std.specs.List.{range_with_len}
 use Rattle.std.specs.Ordering.{is_eq}
 use Rattle.lwc_base.specs.declared.cell.Cell.{Cell}

@@ -55,7 +55,8 @@ pub record HasGroupSizeOf (old new : GroupRow) : Type 0 where
 
 -- the sizes are within the limits, rows are whole and in the order of their names, and jobs have counted each
 -- name
-pub record IsSound (size : WorldSize) (contexts : List (Name × ContextRow)) (groups : List (Name × GroupRow)) (counts : List Counts) : Type 0 where
+pub record IsSound (size : WorldSize) (contexts : List (Name × ContextRow)) (groups : List (Name × GroupRow))
+    (counts : List Counts) : Type 0 where
   pub some_job : 1 ≤ size.jobs
   pub few_pages : size.pages ≤ MOST_PAGES
   pub size_contexts : size.contexts ≤ MOST_CONTEXTS
@@ -70,6 +71,7 @@ pub record IsSound (size : WorldSize) (contexts : List (Name × ContextRow)) (gr
   pub fresh : IsFresh (world_of size contexts groups counts)
 
 -- a cell keeps to the groups that have been named in at most one way
-pub named_cell-prop : (next : ℕ → Counters) (job : ℕ) (k : Key) (cell : Cell (ValueOf k)) → IsProp (InCell (named_groups next) job k cell)
+pub named_cell-prop : (next : ℕ → Counters) (job : ℕ) (k : Key) (cell : Cell (ValueOf k)) →
+    IsProp (InCell (named_groups next) job k cell)
 named_cell-prop next job k (Own value) = Unit-prop
 named_cell-prop next job k (Common g) = le_prop

@@ -2,7 +2,8 @@
 use Rattle.std.specs.Prelude.{◌≡◌, ◌<◌, ◌≤◌, ◌^◌, ℕ, true}
 use Rattle.std.specs.FinMap as fm
 use Rattle.lwc_base.specs.declared.name.Name.{Name}
-use Rattle.lwc_base.specs.declared.limits.TheConstants.{MOST_CONTEXTS, MOST_FRAMES, MOST_GROUPS, MOST_JOBS, MOST_PAGES, MOST_RANGES}
+use Rattle.lwc_base.specs.declared.limits.TheConstants.{MOST_CONTEXTS, MOST_FRAMES, MOST_GROUPS, MOST_JOBS}
+use Rattle.lwc_base.specs.declared.limits.TheConstants.{MOST_PAGES, MOST_RANGES}
 use Rattle.lwc_base.specs.declared.size.WorldSize.{WorldSize}
 use Rattle.lwc_base.specs.World.{World, is_live}
 

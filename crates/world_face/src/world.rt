@@ -1,7 +1,9 @@
-ghost use Rattle.std.specs.Prelude.{◌≡◌, ◌≢◌, ◌<◌, ◌≤◌, ◌*◌, ◌+◌, ◌↔◌, ℕ, All, Bool, true, length, is_some, slice_get, IfOk, IfSome, IfNone, IsOk, OnOk, OnErr};
+ghost use Rattle.std.specs.Prelude.{◌≡◌, ◌≢◌, ◌<◌, ◌≤◌, ◌*◌, ◌+◌, ◌↔◌, ℕ, All, Bool, true, length, is_some};
+ghost use Rattle.std.specs.Prelude.{slice_get, IfOk, IfSome, IfNone, IsOk, OnOk, OnErr};
 ghost use Rattle.std.specs.FinMap as fm;
 ghost use Rattle.lwc_base.specs.World as worlds;
-ghost use Rattle.lwc_base.specs.World.{empty_world, add_context, context, groups_of, live_of, new_context, next_context};
+ghost use Rattle.lwc_base.specs.World.{empty_world, add_context, context, groups_of, live_of, new_context};
+ghost use Rattle.lwc_base.specs.World.{next_context};
 ghost use Rattle.lwc_base.specs.Cells.{slot_at, put_slot, uid_at, put_uid};
 ghost use Rattle.lwc_base.specs.Frames.{used};
 ghost use Rattle.lwc_base.specs.Life.{reap};

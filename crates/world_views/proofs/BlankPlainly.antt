@@ -99,7 +99,7 @@ module _ (keep : Bool) (v : Name) (w : World) (io : Channels) (targets : CallCon
   pub opening-blank : (file : ℕ) → calls.opening (blank keep v w) io targets file ≡ blank_outcome keep v (calls.opening w io targets file)
   opening-blank file =
       ended-blank keep v w io _ _ _ _
-      (λ i. (nat_le (length io.files) file, NoFile) ∷ (not (option_map_or (may_open (uid-blank i)) (slice_get io.files file) false), NotPermitted) ∷ (is_none (lowest-blank i), NoSlot) ∷ [])
+      (λ i. (nat_le (length io.files) file, NoFile) ∷ (not (option_map_or (λ found. may_open (uid-blank i) found.owner found.public) (slice_get io.files file) false), NotPermitted) ∷ (is_none (lowest-blank i), NoSlot) ∷ [])
       (placed-blank (File file 0))
 
   pub closing-blank : (n : ℕ) → calls.closing (blank keep v w) io targets.slots n ≡ blank_outcome keep v (calls.closing w io targets.slots n)

@@ -233,7 +233,7 @@ module _ (home : Home) (r t s : ℕ) (targets : CallContexts) (w v : World) (io 
       let uids = (asks targets.cred of.cred).value Cred in
       let slots = (asks targets.slots of.slots).lowest in
       by_first _ _ _ _
-      (ap first_refusal (λ i. (nat_le (length (files i)) file, NoFile) ∷ (not (option_map_or (may_open (uids i)) (slice_get (files i) file) false), NotPermitted) ∷ (is_none (slots i), NoSlot) ∷ []))
+      (ap first_refusal (λ i. (nat_le (length (files i)) file, NoFile) ∷ (not (option_map_or (λ found. may_open (uids i) found.owner found.public) (slice_get (files i) file) false), NotPermitted) ∷ (is_none (slots i), NoSlot) ∷ []))
       (λ one two. placed_alike (File file 0) (File file 0) refl tt)
 
   closes_alike : (n : ℕ) → EndAlike (calls.closing w io targets.slots n) (calls.closing v other targets.slots n)

@@ -1,5 +1,6 @@
 ghost use Rattle.std.specs.Prelude.{◌≡◌, ◌&&◌, ◌↔◌, ℕ, ◌≤◌, Bool, List, not, true};
-ghost use Rattle.lwc_base.specs.Capabilities.{IsCap, cap_of, covers, empty_cap, full_cap, has_key, is_named, restricted};
+ghost use Rattle.lwc_base.specs.Capabilities.{IsCap, cap_of, covers, empty_cap, full_cap, has_key, is_named};
+ghost use Rattle.lwc_base.specs.Capabilities.{restricted};
 ghost use Rattle.lwc_base.specs.Modes.{IsKey};
 ghost use Rattle.lwc_base.specs.declared.descriptor.Cap.{Cap};
 ghost use Rattle.lwc_base.specs.declared.item.Item.{Item};
