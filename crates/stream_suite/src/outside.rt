@@ -1,15 +1,15 @@
 //! A sink that shows how many lines it has taken, and gates that hold threads.
 
-use lwc_io::{Failed, MemorySink, Sink};
-use process_core::ProcessPass;
+use lwc_io::{Failed, Gate, MemorySink, Sink};
 use std::hint::spin_loop;
 use std::sync::Wait;
 use std::sync::atomic::{AtomicBool, AtomicU64, Ordering};
-use thread_carrier::{Gate, VisitLog};
-use world_face::World;
 
 /// How often a thread that is held looks.
 const LOOKS: u32 = 1_000_000_000;
+
+/// How many turns a request of one byte 0 takes.
+const TURNS_OF_REQUEST: u64 = 7;
 
 /// A sink in memory that counts the lines that it has taken.
 #[derive(Drop)]
@@ -36,7 +36,8 @@ impl<'a> Sink for CountingSink<'a> {
     }
 }
 
-/// A gate that holds the first turn of each thread but one, and who tells of request 0, until a sink has taken a line.
+/// A gate that holds the first turn of each thread but one, and the turn of that one after its first request, until a
+/// sink has taken a line.
 #[derive(Drop)]
 pub struct LineGate {
     pub free: u32,
@@ -45,7 +46,7 @@ pub struct LineGate {
 }
 
 impl LineGate {
-    /// A gate of a sink that has taken no line, and that does not hold the first turn of this thread.
+    /// A gate of a sink that has taken no line, and that does not hold the first request of this thread.
     pub(crate) fn new(free: u32) -> LineGate {
         LineGate {
             free,
@@ -72,38 +73,14 @@ impl LineGate {
 }
 
 impl Gate for LineGate {
-    type Log = VisitLog;
-
-    ghost leave = { λ _. Unit {0} };
-
-    ghost visits = { λ log. log.visits };
-
-    /// Holds the first turn of each thread but one.
-    fn before<R: Wait, W: World>(
-        &self,
-        _rt: &R,
-        log: &mut VisitLog,
-        _pass: &ProcessPass<W>,
-        thread: u32,
-        turn: u64,
-    ) {
-        log.note_turn(thread, turn);
-        if thread != self.free && turn == 0 {
-            self.hold();
-        }
-    }
-
-    /// Holds who tells of request 0.
-    fn finished<R: Wait, W: World>(
-        &self,
-        _rt: &R,
-        log: &mut VisitLog,
-        _pass: &ProcessPass<W>,
-        thread: u32,
-        request: u16,
-    ) {
-        log.note_request(thread, request);
-        if request == 0 {
+    /// Holds a thread at its first turn, or behind its first request if that is free.
+    fn before<R: Wait>(&self, _rt: &R, thread: u32, turn: u64) {
+        let first = if thread == self.free {
+            TURNS_OF_REQUEST
+        } else {
+            0
+        };
+        if turn == first {
             self.hold();
         }
     }
@@ -136,22 +113,8 @@ impl HoldingGate {
 }
 
 impl Gate for HoldingGate {
-    type Log = VisitLog;
-
-    ghost leave = { λ _. Unit {0} };
-
-    ghost visits = { λ log. log.visits };
-
     /// Notes the second turn of the awaited thread, and holds the first turn of the other.
-    fn before<R: Wait, W: World>(
-        &self,
-        _rt: &R,
-        log: &mut VisitLog,
-        _pass: &ProcessPass<W>,
-        thread: u32,
-        turn: u64,
-    ) {
-        log.note_turn(thread, turn);
+    fn before<R: Wait>(&self, _rt: &R, thread: u32, turn: u64) {
         if thread == self.awaited && turn == 1 {
             self.came.store(true, Ordering::SeqCst);
         }
@@ -165,17 +128,5 @@ impl Gate for HoldingGate {
             spin_loop();
         }
         self.ran_out.store(true, Ordering::SeqCst);
-    }
-
-    /// Returns at once.
-    fn finished<R: Wait, W: World>(
-        &self,
-        _rt: &R,
-        log: &mut VisitLog,
-        _pass: &ProcessPass<W>,
-        thread: u32,
-        request: u16,
-    ) {
-        log.note_request(thread, request);
     }
 }

@@ -4,7 +4,7 @@ ghost use Rattle.std.specs.Prelude.{◌≤◌, length};
 
 use crate::guests::serve_of;
 use crate::outside::{CountingSink, HoldingGate, LineGate};
-use lwc_io::{MemorySink, Sink};
+use lwc_io::{Gate, MemorySink, OpenGate, Sink};
 use lwc_stream::{Streamed, stream_all};
 use process_core::Process;
 use std::alloc::Global;
@@ -12,37 +12,24 @@ use std::process::Abort;
 use std::sync::Wait;
 use std::test::Fail;
 use std::thread::Threads;
-use thread_carrier::{Gate, OpenGate, VisitLog};
 
 /// Streams requests of one byte each, and says whether a write failed.
-fn stream<R: AllocGlobal + Abort + Threads + Wait + Sync, G: Gate<Log = VisitLog>, O: Sink>(
+fn stream<R: AllocGlobal + Abort + Threads + Wait + Sync, G: Gate, O: Sink>(
     rt: &R,
     bytes: &[u8],
     workers: u32,
     gate: &G,
     out: &mut O,
 ) -> Result<bool, Fail>
-    requires leave { G.leave gate.now }
     requires few { length bytes.now ≤ 8 }
     requires workers { (1 ≤ workers) × (workers ≤ 4) }
 {
     let kernel = serve_of(rt, bytes, workers)?;
     let count = kernel.request_count();
     let (process, passes) = Process::open(rt.alloc(), kernel)?;
-    let mut logs = VisitLog::for_threads(rt.alloc(), passes.len()).expect(rt, "memory for logs");
-    let streamed = stream_all(
-        rt,
-        rt.alloc(),
-        &process,
-        passes,
-        gate,
-        &mut logs,
-        count,
-        out,
-    );
+    let streamed = stream_all(rt, rt.alloc(), &process, passes, gate, count, out);
     let Streamed { failed, passes } = streamed.expect(rt, "memory for a stream");
     drop(process.close(passes));
-    drop(logs);
     Ok(failed)
 }
 
@@ -75,7 +62,7 @@ const WHOLE: Left = Left {
 };
 
 /// Streams requests of one byte each to a sink that should have these lines then.
-fn written<R: AllocGlobal + Abort + Threads + Wait + Sync, G: Gate<Log = VisitLog>>(
+fn written<R: AllocGlobal + Abort + Threads + Wait + Sync, G: Gate>(
     rt: &R,
     bytes: &[u8],
     workers: u32,
@@ -83,7 +70,6 @@ fn written<R: AllocGlobal + Abort + Threads + Wait + Sync, G: Gate<Log = VisitLo
     out: &mut MemorySink,
     lines: &[u8],
 ) -> Result<Left, Fail>
-    requires leave { G.leave gate.now }
     requires few { length bytes.now ≤ 8 }
     requires workers { (1 ≤ workers) × (workers ≤ 4) }
 {
@@ -107,8 +93,8 @@ fn replies_are_written_in_the_order_of_their_requests(rt: HostRuntime) -> Result
     Ok(())
 }
 
-/// Streams two requests while all workers are held, the free one by the gate that it tells of request 0: nobody else
-/// calls the writer then. What is left, and whether the looks of the gate ran out.
+/// Streams two requests while all workers are held, the free one behind its first request: nobody else calls the writer
+/// then. What is left, and whether the looks of the gate ran out.
 fn written_while_held<R: AllocGlobal + Abort + Threads + Wait + Sync>(
     rt: &R,
     workers: u32,
