@@ -1,12 +1,9 @@
 //! A sink that shows how many lines it has taken, and gates that hold threads.
 
-use lwc_io::{Failed, MemorySink, Sink};
-use process_core::ProcessPass;
+use lwc_io::{Failed, Gate, MemorySink, Sink};
 use std::hint::spin_loop;
 use std::sync::Wait;
 use std::sync::atomic::{AtomicBool, AtomicU64, Ordering};
-use thread_carrier::{Gate, VisitLog};
-use world_face::World;
 
 /// How often a thread that is held looks.
 const LOOKS: u32 = 1_000_000_000;
@@ -36,7 +33,11 @@ impl<'a> Sink for CountingSink<'a> {
     }
 }
 
-/// A gate that holds the first turn of each thread but one, and who tells of request 0, until a sink has taken a line.
+/// How many turns a worker makes for one request of `COUNTER_HANDLER`.
+const TURNS_OF_A_REQUEST: u64 = 7;
+
+/// A gate that holds the first turn of each thread but one, and of that one the turns after its first request, until
+/// a sink has taken a line.
 #[derive(Drop)]
 pub struct LineGate {
     pub free: u32,
@@ -58,9 +59,14 @@ impl LineGate {
     pub(crate) fn has_run_out(&self) -> bool {
         self.ran_out.load(Ordering::SeqCst)
     }
+}
 
-    /// Looks until the sink has taken a line.
-    fn hold(&self) {
+impl Gate for LineGate {
+    /// Looks until the sink has taken a line, at the first turn of each thread but one and after a request of that one.
+    fn before<R: Wait>(&self, _rt: &R, thread: u32, turn: u64) {
+        if thread == self.free && turn < TURNS_OF_A_REQUEST {
+            return;
+        }
         for _look in 0..LOOKS {
             if self.lines.load(Ordering::SeqCst) > 0 {
                 return;
@@ -68,44 +74,6 @@ impl LineGate {
             spin_loop();
         }
         self.ran_out.store(true, Ordering::SeqCst);
-    }
-}
-
-impl Gate for LineGate {
-    type Log = VisitLog;
-
-    ghost leave = { λ _. Unit {0} };
-
-    ghost visits = { λ log. log.visits };
-
-    /// Holds the first turn of each thread but one.
-    fn before<R: Wait, W: World>(
-        &self,
-        _rt: &R,
-        log: &mut VisitLog,
-        _pass: &ProcessPass<W>,
-        thread: u32,
-        turn: u64,
-    ) {
-        log.note_turn(thread, turn);
-        if thread != self.free && turn == 0 {
-            self.hold();
-        }
-    }
-
-    /// Holds who tells of request 0.
-    fn finished<R: Wait, W: World>(
-        &self,
-        _rt: &R,
-        log: &mut VisitLog,
-        _pass: &ProcessPass<W>,
-        thread: u32,
-        request: u16,
-    ) {
-        log.note_request(thread, request);
-        if request == 0 {
-            self.hold();
-        }
     }
 }
 
@@ -136,22 +104,8 @@ impl HoldingGate {
 }
 
 impl Gate for HoldingGate {
-    type Log = VisitLog;
-
-    ghost leave = { λ _. Unit {0} };
-
-    ghost visits = { λ log. log.visits };
-
     /// Notes the second turn of the awaited thread, and holds the first turn of the other.
-    fn before<R: Wait, W: World>(
-        &self,
-        _rt: &R,
-        log: &mut VisitLog,
-        _pass: &ProcessPass<W>,
-        thread: u32,
-        turn: u64,
-    ) {
-        log.note_turn(thread, turn);
+    fn before<R: Wait>(&self, _rt: &R, thread: u32, turn: u64) {
         if thread == self.awaited && turn == 1 {
             self.came.store(true, Ordering::SeqCst);
         }
@@ -165,17 +119,5 @@ impl Gate for HoldingGate {
             spin_loop();
         }
         self.ran_out.store(true, Ordering::SeqCst);
-    }
-
-    /// Returns at once.
-    fn finished<R: Wait, W: World>(
-        &self,
-        _rt: &R,
-        log: &mut VisitLog,
-        _pass: &ProcessPass<W>,
-        thread: u32,
-        request: u16,
-    ) {
-        log.note_request(thread, request);
     }
 }

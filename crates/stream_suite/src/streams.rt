@@ -4,7 +4,7 @@ ghost use Rattle.std.specs.Prelude.{◌≤◌, length};
 
 use crate::guests::serve_of;
 use crate::outside::{CountingSink, HoldingGate, LineGate};
-use lwc_io::{MemorySink, Sink};
+use lwc_io::{Gate, MemorySink, OpenGate, Sink};
 use lwc_stream::{Streamed, stream_all};
 use process_core::Process;
 use std::alloc::Global;
@@ -12,37 +12,24 @@ use std::process::Abort;
 use std::sync::Wait;
 use std::test::Fail;
 use std::thread::Threads;
-use thread_carrier::{Gate, OpenGate, VisitLog};
 
 /// Streams requests of one byte each, and says whether a write failed.
-fn stream<R: AllocGlobal + Abort + Threads + Wait + Sync, G: Gate<Log = VisitLog>, O: Sink>(
+fn stream<R: AllocGlobal + Abort + Threads + Wait + Sync, G: Gate, O: Sink>(
     rt: &R,
     bytes: &[u8],
     workers: u32,
     gate: &G,
     out: &mut O,
 ) -> Result<bool, Fail>
-    requires leave { G.leave gate.now }
     requires few { length bytes.now ≤ 8 }
-    requires workers { (1 ≤ workers) × (workers ≤ 4) }
+    requires workers { (1 ≤ workers) × (workers ≤ 16) }
 {
     let kernel = serve_of(rt, bytes, workers)?;
     let count = kernel.request_count();
     let (process, passes) = Process::open(rt.alloc(), kernel)?;
-    let mut logs = VisitLog::for_threads(rt.alloc(), passes.len()).expect(rt, "memory for logs");
-    let streamed = stream_all(
-        rt,
-        rt.alloc(),
-        &process,
-        passes,
-        gate,
-        &mut logs,
-        count,
-        out,
-    );
+    let streamed = stream_all(rt, rt.alloc(), &process, passes, gate, count, out);
     let Streamed { failed, passes } = streamed.expect(rt, "memory for a stream");
     drop(process.close(passes));
-    drop(logs);
     Ok(failed)
 }
 
@@ -75,7 +62,7 @@ const WHOLE: Left = Left {
 };
 
 /// Streams requests of one byte each to a sink that should have these lines then.
-fn written<R: AllocGlobal + Abort + Threads + Wait + Sync, G: Gate<Log = VisitLog>>(
+fn written<R: AllocGlobal + Abort + Threads + Wait + Sync, G: Gate>(
     rt: &R,
     bytes: &[u8],
     workers: u32,
@@ -83,9 +70,8 @@ fn written<R: AllocGlobal + Abort + Threads + Wait + Sync, G: Gate<Log = VisitLo
     out: &mut MemorySink,
     lines: &[u8],
 ) -> Result<Left, Fail>
-    requires leave { G.leave gate.now }
     requires few { length bytes.now ≤ 8 }
-    requires workers { (1 ≤ workers) × (workers ≤ 4) }
+    requires workers { (1 ≤ workers) × (workers ≤ 16) }
 {
     let failed = stream(rt, bytes, workers, gate, out)?;
     Ok(Left {
@@ -107,14 +93,32 @@ fn replies_are_written_in_the_order_of_their_requests(rt: HostRuntime) -> Result
     Ok(())
 }
 
-/// Streams two requests while all workers are held, the free one by the gate that it tells of request 0: nobody else
-/// calls the writer then. What is left, and whether the looks of the gate ran out.
+/// How many workers there are, and which one is free at first. Where it is the last of many, all others have started
+/// and are held when it serves.
+const HELD: [(u32, u32); 12] = [
+    (1, 0),
+    (2, 0),
+    (2, 1),
+    (3, 0),
+    (3, 2),
+    (4, 0),
+    (4, 1),
+    (4, 2),
+    (4, 3),
+    (16, 0),
+    (16, 7),
+    (16, 15),
+];
+
+/// Streams two requests to a sink while all workers are held until it has taken the line of request 0: the free one
+/// once it has served that request, and the others before their first turns. What is left, and whether the looks of
+/// the gate ran out.
 fn written_while_held<R: AllocGlobal + Abort + Threads + Wait + Sync>(
     rt: &R,
     workers: u32,
     free: u32,
 ) -> Result<(Left, bool), Fail>
-    requires { (1 ≤ workers) × (workers ≤ 4) }
+    requires { (1 ≤ workers) × (workers ≤ 16) }
 {
     let gate = LineGate::new(free);
     let mut out = CountingSink {
@@ -132,7 +136,7 @@ fn written_while_held<R: AllocGlobal + Abort + Threads + Wait + Sync>(
 
 #[test]
 fn a_line_is_written_while_workers_are_held(rt: HostRuntime) -> Result<(), Fail> {
-    for (workers, free) in [(1, 0), (2, 0), (2, 1), (4, 0), (4, 1), (4, 2), (4, 3)] {
+    for (workers, free) in HELD {
         let left = written_while_held(&rt, workers, free)?;
         assert!(rt;
             left == (WHOLE, false),
