@@ -68,7 +68,7 @@ pub record Enters (m : Machine) (after : Machine) (x : Thread) (d : Name) : Type
   pub shared : (g : Name) → IsLiveInBoth (world_of m) (world_of after) d →
       (context (world_of m) d).cell (Slot slot) ≡ Common g → (context (world_of after) d).cell (Slot slot) ≡ Common g
   pub descriptor : IsLiveInBoth (world_of m) (world_of after) d →
-        slot_at (world_of after) d slot ≡ Ctx x.context empty_cap
+      slot_at (world_of after) d slot ≡ Ctx x.context empty_cap
   pub cells : (e : Name) (k : Key) → IsLiveInBoth (world_of m) (world_of after) e → IsKey (world_of m).size.pages k →
       ((context (world_of after) e).cell k ≡ (context (world_of m) e).cell k) ⊎ ((e ≡ d) × (k ≡ Slot slot))
   pub rights : (e : Name) (p : ℕ) → IsLiveInBoth (world_of m) (world_of after) e →

@@ -55,4 +55,4 @@ pub record IsConfinedRun (inputs : Inputs) (steps : List ℕ) : Type 0 where
       ((n : ℕ) → n < SLOTS → is_written (slot_at (world_of (machine_after inputs before)) c n) ≡ false) →
       StayIn (world_of (machine_after inputs before)) c (machine_after inputs before) during →
       (run (machine_after inputs before) during).environment.channels ≡
-          (machine_after inputs before).environment.channels
+      (machine_after inputs before).environment.channels

@@ -21,7 +21,7 @@ use Rattle.lwc_debug.specs.declared.script.TheConstants.{MOST_SCRIPT_BYTES}
 abbrev pub name_of : List ℕ → Option Name
 name_of word =
     option_and_then (λ job. option_map (λ k. record { job = job; k = k })
-        (number_of (after_first (λ b. b == 0x2e) word)))
+    (number_of (after_first (λ b. b == 0x2e) word)))
     (number_of (before_first (λ b. b == 0x2e) word))
 
 -- a name, a space, and a number

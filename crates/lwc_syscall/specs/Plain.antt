@@ -63,8 +63,11 @@ place_refusals w s = (is_none (lowest_empty w s), NoSlot) ∷ []
 abbrev pub open_refusals : World → Channels → CallContexts → ℕ → List (Bool × Refusal)
 open_refusals w io targets file =
     (nat_le (length io.files) file, NoFile)
-    ∷ (not (option_map_or (λ found. may_open (uid_at w targets.cred) found.owner found.public)
-        (slice_get io.files file) false), NotPermitted)
+    ∷ (
+      not (option_map_or (λ found. may_open (uid_at w targets.cred) found.owner found.public)
+          (slice_get io.files file) false),
+      NotPermitted,
+    )
     ∷ place_refusals w targets.slots
 
 -- call 1: the lowest empty slot becomes a descriptor of a file, at its beginning

@@ -5,7 +5,7 @@ use Rattle.lwcrun_modes.specs.Ends.{End, Outside, Ended, FetchFailed, IsUnwritte
 use Rattle.lwcrun_modes.specs.Ends as ends
 use Rattle.lwcrun_modes.specs.Parts.{Found, ReadsBy}
 use Rattle.lwcrun_modes.specs.Parts as parts
-use Rattle.lwcrun_modes.specs.Plans.{Plan, AreFetchesOf, ComesToWork, FileContents, LeadsTo, Reads, accepted}
+use Rattle.lwcrun_modes.specs.Plans.{Plan, AreFetchesOf, FileContents, LeadsTo, Reads, accepted}
 use Rattle.lwcrun_modes.specs.Plans as plans
 use Rattle.lwcrun_modes.specs.Reading.{Fetched, ReadsOnward, ReadsToTheEnd}
 use Rattle.lwcrun_modes.specs.Views.{outside}
@@ -66,14 +66,6 @@ module _ {A R W : Type 0} (IsText : W → List ℕ → Type 0) (grammar : List �
   reads_on files mid after out out_after x e h same ended =
       continues IsText grammar name limit next (outside files after out out_after) e x h.0 h.1 h.2 h.3
       (since IsText files mid after out out_after (next x) e same h.4 ended)
-
-  -- behind a file that was read, the plan comes to a work where what follows does
-  pub comes_on : (files mid : FilesView) (x : A) → ReadsBy grammar files mid name (parts.Value x) → mid.contents ≡ files.contents →
-      ComesToWork mid.contents (next x) → ComesToWork files.contents (reading IsText grammar name limit next)
-  unfolding ReadsBy
-  comes_on files mid x h same comes =
-      let follows : LeadsTo files.contents (next x) (Ok comes.0) = subst (λ f. LeadsTo f (next x) (Ok comes.0)) same comes.1 in
-      (comes.0, (h.0, record { contents = h.1; range = h.2 }, subst (λ y. LeadsTo files.contents (accepted y next) (Ok comes.0)) (sym h.3) follows))
 
   -- behind a file that was read, what follows is fetched
   pub fetches_on : (files mid : FilesView) (after : List Fetch) (x : A) → ReadsBy grammar files mid name (parts.Value x) → mid.contents ≡ files.contents → Fetched (ReadsToTheEnd name limit) files.fetches mid.fetches →

@@ -9,7 +9,7 @@ use Rattle.lwc_text.specs.Report.{replies_text, stream_text}
 use Rattle.lwcrun_modes.specs.StreamEnds.{StreamEnded}
 use Rattle.lwcrun_modes.specs.Ends.{End}
 use Rattle.lwcrun_modes.specs.Ends as ends
-use Rattle.lwcrun_modes.specs.Works.{HaveVisited, Work, read_by}
+use Rattle.lwcrun_modes.specs.Works.{IsText, Work, read_by}
 use Rattle.lwcrun_modes.specs.Works as works
 use Rattle.lwcrun_modes.specs.Parts.{ReadsBy}
 use Rattle.lwcrun_modes.specs.Parts as parts
@@ -17,17 +17,15 @@ use Rattle.lwcrun_modes.specs.Plans.{Plan, LeadsTo, accepted}
 use Rattle.lwcrun_modes.specs.Plans as plans
 use Rattle.lwcrun_modes.specs.Views.{outside}
 use Rattle.lwcrun_modes.specs.declared.ending.Rejection.{Rejection}
-use Rattle.thread_carrier.specs.Visits.{after_visits}
-use Rattle.thread_carrier.specs.declared.visit.Visit.{Visit}
 use Rattle.lwcrun_modes.proofs.Follows.{reads_on, writes, writes_in_part}
 
-module _ {A : Type 0} (logs logs_after : List (List Visit)) (grammar : List ℕ → Result A Rejection) (name : List ℕ) (limit : ℕ) (next : A → Plan Rejection Work) where
+module _ {A : Type 0} (grammar : List ℕ → Result A Rejection) (name : List ℕ) (limit : ℕ) (next : A → Plan Rejection Work) where
   -- behind a file that was read, the end of what follows is the end of the stream
   pub streams_on : (files mid after : FilesView) (out out_after : SinkView) (x : A) (e : End Rejection) →
       ReadsBy grammar files mid name (parts.Value x) → mid.contents ≡ files.contents →
-      StreamEnded logs logs_after (outside mid after out out_after) (next x) e → StreamEnded logs logs_after (outside files after out out_after) (read_by grammar limit name next) e
+      StreamEnded (outside mid after out out_after) (next x) e → StreamEnded (outside files after out out_after) (read_by grammar limit name next) e
   unfolding ReadsBy
-  streams_on files mid after out out_after x e h same (inl ended) = inl (reads_on (HaveVisited logs logs_after) grammar name limit next files mid after out out_after x e h same ended)
+  streams_on files mid after out out_after x e h same (inl ended) = inl (reads_on IsText grammar name limit next files mid after out out_after x e h same ended)
   streams_on files mid after out out_after x e h same (inr (memory, (inputs, steps, leads, complete, taken, fine))) =
       (let work : Work = works.Streaming inputs in
       let here : LeadsTo files.contents (next x) (Ok work) = subst (λ f. LeadsTo f (next x) (Ok work)) same leads in
@@ -44,15 +42,15 @@ module _ {A : Type 0} (logs logs_after : List (List Visit)) (grammar : List ℕ 
       ))
 
 -- the text of a stream was written, or its first bytes, or its replies
-module _ (files : FilesView) (before after : SinkView) (inputs : Inputs) (steps : List ℕ) (complete : IsComplete (start inputs) steps) (logs logs_after : List (List Visit)) (visits : logs_after ≡ after_visits (start inputs) steps 0 logs) where
+module _ (files : FilesView) (before after : SinkView) (inputs : Inputs) (steps : List ℕ) (complete : IsComplete (start inputs) steps) where
   abbrev Ends : End Rejection → Type 0
-  Ends e = StreamEnded logs logs_after (outside files files before after) (plans.Write (works.Streaming inputs)) e
+  Ends e = StreamEnded (outside files files before after) (plans.Write (works.Streaming inputs)) e
 
   pub stream_done : IsWritten false before after (stream_text inputs steps) → Ends ends.Done
-  stream_done w = inl (writes Rejection (HaveVisited logs logs_after) _ (works.Streaming inputs) _ (steps, complete, refl, visits) w.0 (record { files = refl; out = w.1 }))
+  stream_done w = inl (writes Rejection IsText _ (works.Streaming inputs) _ (steps, complete, refl) w.0 (record { files = refl; out = w.1 }))
 
   pub stream_cut : IsWritten true before after (stream_text inputs steps) → Ends ends.Unwritten
-  stream_cut w = inl (writes_in_part Rejection (HaveVisited logs logs_after) _ (works.Streaming inputs) _ (steps, complete, refl, visits) w.0 w.1 refl)
+  stream_cut w = inl (writes_in_part Rejection IsText _ (works.Streaming inputs) _ (steps, complete, refl) w.0 w.1 refl)
 
   pub stream_short : IsWritten false before after (replies_text (run (start inputs) steps)) → Ends ends.NoMemory
   stream_short w = inr (refl, (inputs, steps, refl, complete, w.0, record { files = refl; out = w.1 }))

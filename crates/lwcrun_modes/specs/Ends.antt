@@ -13,12 +13,6 @@ pub data End (R : Type 0) : Type 0 where
   Unwritten : End R
   Refused : R → End R
 
--- a call ended before its work began: a file was not read, or an input was refused
-abbrev pub IsBeforeWork : {R : Type 0} → End R → Type 0
-IsBeforeWork (Unread name) = Unit {0}
-IsBeforeWork (Refused refusal) = Unit {0}
-IsBeforeWork end = ⊥
-
 -- the files and the output of a call, before it and after it
 pub record Outside : Type 0 where
   pub files : FilesView

@@ -28,10 +28,6 @@ LeadsTo files (Read name limit next) end =
 LeadsTo files (Refuse refusal) end = end ≡ Err refusal
 LeadsTo files (Write work) end = end ≡ Ok work
 
--- over contents that the files may have, the plan comes to a work: no input is refused
-abbrev pub ComesToWork : {R W : Type 0} → FileContents → Plan R W → Type 0
-ComesToWork {R} {W} files p = (work : W) × LeadsTo files p (Ok work)
-
 -- over contents that the files may have, the plan reads the file of that name
 abbrev pub Reads : {R W : Type 0} → FileContents → Plan R W → List ℕ → Type 0
 Reads files (Read name limit next) asked =

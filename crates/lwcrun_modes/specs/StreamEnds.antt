@@ -7,11 +7,10 @@ use Rattle.lwc_io.specs.Outside.{appended}
 use Rattle.lwc_text.specs.Report.{replies_text}
 use Rattle.lwcrun_modes.specs.Ends.{End, Outside, Ended, NothingFailed}
 use Rattle.lwcrun_modes.specs.Ends as ends
-use Rattle.lwcrun_modes.specs.Works.{HaveVisited, Work}
+use Rattle.lwcrun_modes.specs.Works.{IsText, Work}
 use Rattle.lwcrun_modes.specs.Works as works
 use Rattle.lwcrun_modes.specs.Plans.{LeadsTo, Plan}
 use Rattle.lwcrun_modes.specs.declared.ending.Rejection.{Rejection}
-use Rattle.thread_carrier.specs.declared.visit.Visit.{Visit}
 
 -- the plan leads to a stream, the replies of a complete history were written, and nothing failed
 abbrev pub WroteReplies : Outside → Plan Rejection Work → Type 0
@@ -21,5 +20,5 @@ WroteReplies o p =
     × (o.out_after.taken ≡ appended o.out.taken (replies_text (run (start inputs) steps))) × NothingFailed o
 
 -- what holds at each end of a stream's plan: memory may run out behind the replies, too
-abbrev pub StreamEnded : List (List Visit) → List (List Visit) → Outside → Plan Rejection Work → End Rejection → Type 0
-StreamEnded before after o p e = Ended (HaveVisited before after) o p e ⊎ ((e ≡ ends.NoMemory) × WroteReplies o p)
+abbrev pub StreamEnded : Outside → Plan Rejection Work → End Rejection → Type 0
+StreamEnded o p e = Ended IsText o p e ⊎ ((e ≡ ends.NoMemory) × WroteReplies o p)

@@ -21,8 +21,6 @@ use Rattle.lwc_text.specs.Report.{report_of_schedule, stream_text}
 use Rattle.lwc_text.specs.declared.vault.TheConstants.{MOST_VAULT_BYTES}
 use Rattle.lwc_vault.specs.Secrets.{beside}
 use Rattle.lwcrun_modes.specs.declared.ending.Rejection.{Rejection}
-use Rattle.thread_carrier.specs.Visits.{after_visits}
-use Rattle.thread_carrier.specs.declared.visit.Visit.{Visit}
 use Rattle.lwcrun_modes.specs.Inputs.{bounded_requests_of, fitting_image_of, fitting_vault_for, image_of}
 use Rattle.lwcrun_modes.specs.Inputs.{requests_of, schedule_of, script_of, source_of}
 use Rattle.lwcrun_line.specs.Lines.{Command}
@@ -57,21 +55,6 @@ IsText (Monitoring inputs schedule) text = text ≡ monitored_text inputs schedu
 IsText (Debugging inputs schedule script) text = text ≡ transcript_of_schedule inputs schedule script
 IsText (Streaming inputs) text =
     (steps : List ℕ) × IsComplete (start inputs) steps × (text ≡ stream_text inputs steps)
-
--- the same texts, with the logs of the threads before the work and after it: the log of each thread has grown by its
--- visits at the gate in the history that the text is of; a work that runs no threads leaves the logs as they were
-abbrev pub HaveVisited : List (List Visit) → List (List Visit) → Work → List ℕ → Type 0
-HaveVisited before after (Running inputs) text =
-    (steps : List ℕ) × IsComplete (start inputs) steps × (text ≡ report_of_schedule inputs steps)
-    × (after ≡ after_visits (start inputs) steps 0 before)
-HaveVisited before after (Generating number) text =
-    (steps : List ℕ) × IsComplete (start (generated number)) steps
-    × (text ≡ summary_after (generated number) number steps)
-    × (after ≡ after_visits (start (generated number)) steps 0 before)
-HaveVisited before after (Streaming inputs) text =
-    (steps : List ℕ) × IsComplete (start inputs) steps × (text ≡ stream_text inputs steps)
-    × (after ≡ after_visits (start inputs) steps 0 before)
-HaveVisited before after work text = IsText work text × (after ≡ before)
 
 -- what a kernel is opened with
 abbrev pub inputs_of : Image → List (List ℕ) → Settings → Inputs

@@ -1,18 +1,18 @@
 ghost use Rattle.std.specs.Prelude.{◌≡◌, ◌<◌, ◌≤◌, ℕ, Err, IfErr, IfOk, Some};
 ghost use Rattle.std.specs.Prelude.{length, map, slice_get};
 ghost use Rattle.guest_image.specs.Limits.{IsImage};
-ghost use Rattle.lwc_base.specs.declared.limits.TheConstants.{MOST_STEPS, MOST_THREADS};
+ghost use Rattle.lwc_base.specs.declared.limits.TheConstants.{MOST_STEPS};
 ghost use Rattle.kernel_core.specs.Kernel.{CanOpen, MayHave};
 ghost use Rattle.kernel_core.specs.Machine.{work};
 ghost use Rattle.kernel_core.specs.Settings.{IsSettings};
 ghost use Rattle.kernel_core.specs.Start.{start};
-ghost use Rattle.lwcrun_modes.specs.Ends.{Ended, IsBeforeWork};
+ghost use Rattle.lwcrun_modes.specs.Ends.{Ended};
 ghost use Rattle.lwc_io.specs.Outside.{FilesView};
-ghost use Rattle.lwcrun_modes.specs.Works.{HaveVisited, after_server, gen_plan, inputs_of, run_plan};
+ghost use Rattle.lwcrun_modes.specs.Works.{IsText, after_server, gen_plan, inputs_of, run_plan};
 ghost use Rattle.lwcrun_modes.specs.Works.{serve_plan};
 ghost use Rattle.lwcrun_modes.specs.Works as works;
 ghost use Rattle.lwcrun_line.specs.Lines.{AreRunSettings, AreServeSettings};
-ghost use Rattle.lwcrun_modes.specs.Plans.{AreFetchesOf, ComesToWork};
+ghost use Rattle.lwcrun_modes.specs.Plans.{AreFetchesOf};
 ghost use Rattle.lwcrun_modes.specs.Reading.{Fetched};
 ghost use Rattle.lwcrun_modes.specs.Views.{end_of, outside};
 ghost use Rattle.lwc_gen.specs.Generated.{generated};
@@ -26,13 +26,13 @@ use kernel_core::{Job, Kernel, OpenFault, Settings};
 use lazy_world::LazyWorld;
 use lwc_base::{OutOfMemory, Requests};
 use lwc_gen::{SETTINGS, generate, summary};
-use lwc_io::{Files, Sink};
+use lwc_io::{Files, Gate, Sink};
 use lwc_text::report;
 use process_core::{Process, ProcessPasses};
 use std::alloc::Global;
 use std::sync::Wait;
 use std::thread::Threads;
-use thread_carrier::{Gate, run_threads};
+use thread_carrier::run_threads;
 use world_face::World;
 
 /// Reads the image of this name, runs its threads to their ends, and writes the report.
@@ -42,18 +42,13 @@ pub fn run<'a, R: Threads + Wait + Sync, F: Files, O: Sink, G: Gate>(
     files: &mut F,
     out: &mut O,
     gate: &G,
-    logs: &mut Vec<G::Log>,
     image: &'a str,
     settings: &Settings,
 ) -> Ending<'a>
     requires settings { AreRunSettings settings.now }
-    requires leave { ComesToWork (F.seen files.old).contents (run_plan image.now settings.now)
-        → G.leave gate.now }
-    requires logs { MOST_THREADS ≤ length logs.old.items }
-    ensures ended { Ended (HaveVisited (map G.visits logs.old.items) (map G.visits logs.new.items))
+    ensures ended { Ended IsText
         (outside (F.seen files.old) (F.seen files.new) (O.seen out.old) (O.seen out.new))
         (run_plan image.now settings.now) (end_of result) }
-    ensures unvisited { IsBeforeWork (end_of result) → logs.new ≡ logs.old }
     ensures fetches { Fetched (AreFetchesOf (F.seen files.old).contents (run_plan image.now settings.now))
         (F.seen files.old).fetches (F.seen files.new).fetches }
 {
@@ -62,7 +57,7 @@ pub fn run<'a, R: Threads + Wait + Sync, F: Files, O: Sink, G: Gate>(
             let requests = Requests::of(Vec::new(alloc));
             write_work(
                 out,
-                history_text(rt, alloc, gate, logs, &image, requests, settings),
+                history_text(rt, alloc, gate, &image, requests, settings),
             )
         }
         Err(ending) => ending,
@@ -76,27 +71,20 @@ pub fn serve<'a, R: Threads + Wait + Sync, F: Files, O: Sink, G: Gate>(
     files: &mut F,
     out: &mut O,
     gate: &G,
-    logs: &mut Vec<G::Log>,
     image: &'a str,
     requests: &'a str,
     settings: &Settings,
 ) -> Ending<'a>
     requires settings { AreServeSettings settings.now }
-    requires leave { ComesToWork (F.seen files.old).contents
-        (serve_plan image.now requests.now settings.now) → G.leave gate.now }
-    requires logs { MOST_THREADS ≤ length logs.old.items }
-    ensures ended { Ended (HaveVisited (map G.visits logs.old.items) (map G.visits logs.new.items))
+    ensures ended { Ended IsText
         (outside (F.seen files.old) (F.seen files.new) (O.seen out.old) (O.seen out.new))
         (serve_plan image.now requests.now settings.now) (end_of result) }
-    ensures unvisited { IsBeforeWork (end_of result) → logs.new ≡ logs.old }
     ensures fetches { Fetched
         (AreFetchesOf (F.seen files.old).contents (serve_plan image.now requests.now settings.now))
         (F.seen files.old).fetches (F.seen files.new).fetches }
 {
     match fitting_image_in(alloc, files, image, settings.frames) {
-        Ok(image) => serve_image(
-            rt, alloc, files, out, gate, logs, &image, requests, settings,
-        ),
+        Ok(image) => serve_image(rt, alloc, files, out, gate, &image, requests, settings),
         Err(ending) => ending,
     }
 }
@@ -108,7 +96,6 @@ fn serve_image<'a, R: Threads + Wait + Sync, F: Files, O: Sink, G: Gate>(
     files: &mut F,
     out: &mut O,
     gate: &G,
-    logs: &mut Vec<G::Log>,
     image: &Image,
     requests: &'a str,
     settings: &Settings,
@@ -116,13 +103,9 @@ fn serve_image<'a, R: Threads + Wait + Sync, F: Files, O: Sink, G: Gate>(
     requires image { IsImage image.now }
     requires fits { length image.now.pages ≤ settings.now.frames }
     requires settings { AreServeSettings settings.now }
-    requires leave { ComesToWork (F.seen files.old).contents
-        (after_server works.Running requests.now settings.now image.now) → G.leave gate.now }
-    requires logs { MOST_THREADS ≤ length logs.old.items }
-    ensures ended { Ended (HaveVisited (map G.visits logs.old.items) (map G.visits logs.new.items))
+    ensures ended { Ended IsText
         (outside (F.seen files.old) (F.seen files.new) (O.seen out.old) (O.seen out.new))
         (after_server works.Running requests.now settings.now image.now) (end_of result) }
-    ensures unvisited { IsBeforeWork (end_of result) → logs.new ≡ logs.old }
     ensures fetches { Fetched
         (AreFetchesOf (F.seen files.old).contents (after_server works.Running requests.now settings.now image.now))
         (F.seen files.old).fetches (F.seen files.new).fetches }
@@ -130,7 +113,7 @@ fn serve_image<'a, R: Threads + Wait + Sync, F: Files, O: Sink, G: Gate>(
     match bounded_requests_in(alloc, files, requests, settings) {
         Ok(requests) => write_work(
             out,
-            history_text(rt, alloc, gate, logs, image, requests, settings),
+            history_text(rt, alloc, gate, image, requests, settings),
         ),
         Err(ending) => ending,
     }
@@ -142,18 +125,13 @@ pub fn serve_generated<'a, R: Threads + Wait + Sync, O: Sink, G: Gate>(
     alloc: Global,
     out: &mut O,
     gate: &G,
-    logs: &mut Vec<G::Log>,
     number: u32,
 ) -> Ending<'a>
     requires number { (1 ≤ number) × (number ≤ 100) }
-    requires leave { G.leave gate.now }
-    requires logs { MOST_THREADS ≤ length logs.old.items }
-    ensures ended { (files : FilesView) →
-        Ended (HaveVisited (map G.visits logs.old.items) (map G.visits logs.new.items))
-        (outside files files (O.seen out.old) (O.seen out.new)) (gen_plan number) (end_of result) }
-    ensures begun { IsBeforeWork (end_of result) → ⊥ }
+    ensures { (files : FilesView) → Ended IsText (outside files files (O.seen out.old) (O.seen out.new))
+        (gen_plan number) (end_of result) }
 {
-    write_work(out, summary_text(rt, alloc, gate, logs, number))
+    write_work(out, summary_text(rt, alloc, gate, number))
 }
 
 /// The summary of a generated serve.
@@ -161,18 +139,14 @@ fn summary_text<R: Threads + Wait + Sync, G: Gate>(
     rt: &R,
     alloc: Global,
     gate: &G,
-    logs: &mut Vec<G::Log>,
     number: u32,
 ) -> Result<Vec<u8>, OutOfMemory>
     requires number { (1 ≤ number) × (number ≤ 100) }
-    requires leave { G.leave gate.now }
-    requires logs { MOST_THREADS ≤ length logs.old.items }
-    ensures { IfOk result (λ text. HaveVisited (map G.visits logs.old.items) (map G.visits logs.new.items)
-        (works.Generating number) text.items) }
+    ensures { IfOk result (λ text. IsText (works.Generating number) text.items) }
 {
     let (image, requests) = generate(alloc, number)?;
     match open_process(alloc, &image, requests, &SETTINGS) {
-        Ok((process, passes)) => summary_of(rt, alloc, gate, logs, number, process, passes),
+        Ok((process, passes)) => summary_of(rt, alloc, gate, number, process, passes),
         Err(_) => Err(OutOfMemory),
     }
 }
@@ -182,21 +156,16 @@ fn summary_of<R: Threads + Wait + Sync, W: World, G: Gate>(
     rt: &R,
     alloc: Global,
     gate: &G,
-    logs: &mut Vec<G::Log>,
     number: u32,
     process: Process<W>,
     passes: ProcessPasses<W>,
 ) -> Result<Vec<u8>, OutOfMemory>
     requires number { (1 ≤ number) × (number ≤ 100) }
-    requires generated { process.name ≡ generated number }
-    requires leave { G.leave gate.now }
+    requires generated { process.name.inputs ≡ generated number }
     requires all { AreAllOf process passes.items }
-    requires new { (i : ℕ) (p : Carried) → slice_get passes.items i ≡ Some p → IsNewPass process i p }
-    requires logs { length passes.items ≤ length logs.old.items }
-    ensures { IfOk result (λ text. HaveVisited (map G.visits logs.old.items) (map G.visits logs.new.items)
-        (works.Generating number) text.items) }
+    ensures { IfOk result (λ text. IsText (works.Generating number) text.items) }
 {
-    let kernel = run_threads(rt, alloc, process, passes, gate, logs)?;
+    let kernel = run_threads(rt, alloc, process, passes, gate)?;
     let text = summary(alloc, number, &kernel);
     // Dropped here, and not on each way out.
     drop(kernel);
@@ -208,20 +177,16 @@ fn history_text<R: Threads + Wait + Sync, G: Gate>(
     rt: &R,
     alloc: Global,
     gate: &G,
-    logs: &mut Vec<G::Log>,
     image: &Image,
     requests: Requests,
     settings: &Settings,
 ) -> Result<Vec<u8>, OutOfMemory>
     requires can { CanOpen (inputs_of image.now requests settings.now) }
     requires few { work (start (inputs_of image.now requests settings.now)) ≤ MOST_STEPS }
-    requires leave { G.leave gate.now }
-    requires logs { MOST_THREADS ≤ length logs.old.items }
-    ensures { IfOk result (λ text. HaveVisited (map G.visits logs.old.items) (map G.visits logs.new.items)
-        (works.Running (inputs_of image.now requests settings.now)) text.items) }
+    ensures { IfOk result (λ text. IsText (works.Running (inputs_of image.now requests settings.now)) text.items) }
 {
     match open_process(alloc, image, requests, settings) {
-        Ok((process, passes)) => report_of(rt, alloc, gate, logs, process, passes),
+        Ok((process, passes)) => report_of(rt, alloc, gate, process, passes),
         Err(_) => Err(OutOfMemory),
     }
 }
@@ -231,18 +196,13 @@ fn report_of<R: Threads + Wait + Sync, W: World, G: Gate>(
     rt: &R,
     alloc: Global,
     gate: &G,
-    logs: &mut Vec<G::Log>,
     process: Process<W>,
     passes: ProcessPasses<W>,
 ) -> Result<Vec<u8>, OutOfMemory>
-    requires leave { G.leave gate.now }
     requires all { AreAllOf process passes.items }
-    requires new { (i : ℕ) (p : Carried) → slice_get passes.items i ≡ Some p → IsNewPass process i p }
-    requires logs { length passes.items ≤ length logs.old.items }
-    ensures { IfOk result (λ text. HaveVisited (map G.visits logs.old.items) (map G.visits logs.new.items)
-        (works.Running process.name) text.items) }
+    ensures { IfOk result (λ text. IsText (works.Running process.name.inputs) text.items) }
 {
-    let kernel = run_threads(rt, alloc, process, passes, gate, logs)?;
+    let kernel = run_threads(rt, alloc, process, passes, gate)?;
     let text = report(alloc, &kernel);
     // Dropped here, and not on each way out.
     drop(kernel);
@@ -265,11 +225,10 @@ pub fn open_process(
     requires settings { IsSettings settings.now }
     requires requests { MayHave settings.now.job requests }
     requires few { work (start (inputs_of image.now requests settings.now)) ≤ MOST_STEPS }
-    ensures inputs { IfOk result (λ p. p.0.name ≡ inputs_of image.now requests settings.now) }
+    ensures inputs { IfOk result (λ p. p.0.name.inputs ≡ inputs_of image.now requests settings.now) }
     ensures all { IfOk result (λ p. AreAllOf p.0 p.1.items) }
     ensures new { IfOk result (λ p. (i : ℕ) (q : Carried) →
         slice_get p.1.items i ≡ Some q → IsNewPass p.0 i q) }
-    ensures threads { IfOk result (λ p. length p.1.items ≤ MOST_THREADS) }
     ensures too_large { settings.now.frames < length image.now.pages →
         result ≡ Err (OpenFault.ImageTooLarge (length image.now.pages) settings.now.frames) }
     ensures fits { length image.now.pages ≤ settings.now.frames →

@@ -5,21 +5,19 @@ ghost use Rattle.kernel_core.specs.Kernel.{CanOpen};
 ghost use Rattle.kernel_core.specs.Machine.{work};
 ghost use Rattle.kernel_core.specs.Runs.{run};
 ghost use Rattle.kernel_core.specs.Start.{start};
-ghost use Rattle.lwc_base.specs.declared.limits.TheConstants.{MOST_STEPS, MOST_THREADS};
+ghost use Rattle.lwc_base.specs.declared.limits.TheConstants.{MOST_STEPS};
 ghost use Rattle.lwc_io.specs.Outside.{FilesView};
 ghost use Rattle.lwc_stream.specs.Replies.{IsWritten};
 ghost use Rattle.lwc_text.specs.Report.{replies_text};
 ghost use Rattle.lwcrun_modes.specs.StreamEnds.{StreamEnded};
-ghost use Rattle.lwcrun_modes.specs.Ends.{IsBeforeWork};
 ghost use Rattle.lwcrun_modes.specs.Works as works;
 ghost use Rattle.lwcrun_modes.specs.Works.{after_server, inputs_of, stream_plan};
 ghost use Rattle.lwcrun_line.specs.Lines.{AreServeSettings};
 ghost use Rattle.lwcrun_modes.specs.Plans as plans;
-ghost use Rattle.lwcrun_modes.specs.Plans.{AreFetchesOf, ComesToWork};
+ghost use Rattle.lwcrun_modes.specs.Plans.{AreFetchesOf};
 ghost use Rattle.lwcrun_modes.specs.Reading.{Fetched};
 ghost use Rattle.lwcrun_modes.specs.Views.{end_of, outside};
 ghost use Rattle.process_core.specs.Running.{AreAllOf, Carried, IsNewPass};
-ghost use Rattle.thread_carrier.specs.Visits.{after_visits};
 
 use crate::ending::Ending;
 use crate::inputs::{bounded_requests_in, fitting_image_in};
@@ -27,14 +25,13 @@ use crate::running::open_process;
 use guest_image::Image;
 use kernel_core::{Kernel, Settings};
 use lwc_base::{OutOfMemory, Requests};
-use lwc_io::{Files, Sink, write_whole};
+use lwc_io::{Files, Gate, Sink, write_whole};
 use lwc_stream::{Streamed, stream_all};
 use lwc_text::rest_of_report;
 use process_core::{Process, ProcessPasses};
 use std::alloc::Global;
 use std::sync::Wait;
 use std::thread::Threads;
-use thread_carrier::Gate;
 use world_face::World;
 
 /// Reads the image and the requests of these names, serves the requests, writes each reply as soon as it and all
@@ -45,27 +42,20 @@ pub fn stream<'a, R: Threads + Wait + Sync, F: Files, O: Sink, G: Gate>(
     files: &mut F,
     out: &mut O,
     gate: &G,
-    logs: &mut Vec<G::Log>,
     image: &'a str,
     requests: &'a str,
     settings: &Settings,
 ) -> Ending<'a>
     requires settings { AreServeSettings settings.now }
-    requires leave { ComesToWork (F.seen files.old).contents
-        (stream_plan image.now requests.now settings.now) → G.leave gate.now }
-    requires logs { MOST_THREADS ≤ length logs.old.items }
-    ensures ended { StreamEnded (map G.visits logs.old.items) (map G.visits logs.new.items)
+    ensures ended { StreamEnded
         (outside (F.seen files.old) (F.seen files.new) (O.seen out.old) (O.seen out.new))
         (stream_plan image.now requests.now settings.now) (end_of result) }
-    ensures unvisited { IsBeforeWork (end_of result) → logs.new ≡ logs.old }
     ensures fetches { Fetched
         (AreFetchesOf (F.seen files.old).contents (stream_plan image.now requests.now settings.now))
         (F.seen files.old).fetches (F.seen files.new).fetches }
 {
     match fitting_image_in(alloc, files, image, settings.frames) {
-        Ok(image) => stream_image(
-            rt, alloc, files, out, gate, logs, &image, requests, settings,
-        ),
+        Ok(image) => stream_image(rt, alloc, files, out, gate, &image, requests, settings),
         Err(ending) => ending,
     }
 }
@@ -77,7 +67,6 @@ fn stream_image<'a, R: Threads + Wait + Sync, F: Files, O: Sink, G: Gate>(
     files: &mut F,
     out: &mut O,
     gate: &G,
-    logs: &mut Vec<G::Log>,
     image: &Image,
     requests: &'a str,
     settings: &Settings,
@@ -85,19 +74,15 @@ fn stream_image<'a, R: Threads + Wait + Sync, F: Files, O: Sink, G: Gate>(
     requires image { IsImage image.now }
     requires fits { length image.now.pages ≤ settings.now.frames }
     requires settings { AreServeSettings settings.now }
-    requires leave { ComesToWork (F.seen files.old).contents
-        (after_server works.Streaming requests.now settings.now image.now) → G.leave gate.now }
-    requires logs { MOST_THREADS ≤ length logs.old.items }
-    ensures ended { StreamEnded (map G.visits logs.old.items) (map G.visits logs.new.items)
+    ensures ended { StreamEnded
         (outside (F.seen files.old) (F.seen files.new) (O.seen out.old) (O.seen out.new))
         (after_server works.Streaming requests.now settings.now image.now) (end_of result) }
-    ensures unvisited { IsBeforeWork (end_of result) → logs.new ≡ logs.old }
     ensures fetches { Fetched
         (AreFetchesOf (F.seen files.old).contents (after_server works.Streaming requests.now settings.now image.now))
         (F.seen files.old).fetches (F.seen files.new).fetches }
 {
     match bounded_requests_in(alloc, files, requests, settings) {
-        Ok(requests) => stream_requests(rt, alloc, out, gate, logs, image, requests, settings),
+        Ok(requests) => stream_requests(rt, alloc, out, gate, image, requests, settings),
         Err(ending) => ending,
     }
 }
@@ -108,7 +93,6 @@ fn stream_requests<'a, R: Threads + Wait + Sync, O: Sink, G: Gate>(
     alloc: Global,
     out: &mut O,
     gate: &G,
-    logs: &mut Vec<G::Log>,
     image: &Image,
     requests: Requests,
     settings: &Settings,
@@ -116,16 +100,13 @@ fn stream_requests<'a, R: Threads + Wait + Sync, O: Sink, G: Gate>(
     requires can { CanOpen (inputs_of image.now requests settings.now) }
     requires serve { AreServeSettings settings.now }
     requires few { work (start (inputs_of image.now requests settings.now)) ≤ MOST_STEPS }
-    requires leave { G.leave gate.now }
-    requires logs { MOST_THREADS ≤ length logs.old.items }
-    ensures ended { (files : FilesView) → StreamEnded (map G.visits logs.old.items) (map G.visits logs.new.items)
+    ensures { (files : FilesView) → StreamEnded
         (outside files files (O.seen out.old) (O.seen out.new))
         (plans.Write (works.Streaming (inputs_of image.now requests settings.now))) (end_of result) }
-    ensures begun { IsBeforeWork (end_of result) → ⊥ }
 {
     let count = requests.len() as u32;
     match open_process(alloc, image, requests, settings) {
-        Ok((process, passes)) => stream_process(rt, alloc, out, gate, logs, process, passes, count),
+        Ok((process, passes)) => stream_process(rt, alloc, out, gate, process, passes, count),
         Err(_) => Ending::NoMemory,
     }
 }
@@ -137,24 +118,20 @@ fn stream_process<'a, R: Threads + Wait + Sync, W: World, O: Sink, G: Gate>(
     alloc: Global,
     out: &mut O,
     gate: &G,
-    logs: &mut Vec<G::Log>,
     process: Process<W>,
     passes: ProcessPasses<W>,
     requests: u32,
 ) -> Ending<'a>
-    requires can { CanOpen process.name }
-    requires serve { AreServeSettings process.name.settings }
-    requires count { requests ≡ length process.name.requests }
-    requires leave { G.leave gate.now }
+    requires can { CanOpen process.name.inputs }
+    requires serve { AreServeSettings process.name.inputs.settings }
+    requires count { requests ≡ length process.name.inputs.requests }
     requires all { AreAllOf process passes.items }
     requires new { (i : ℕ) (p : Carried) → slice_get passes.items i ≡ Some p → IsNewPass process i p }
-    requires logs { length passes.items ≤ length logs.old.items }
-    ensures ended { (files : FilesView) → StreamEnded (map G.visits logs.old.items) (map G.visits logs.new.items)
+    ensures { (files : FilesView) → StreamEnded
         (outside files files (O.seen out.old) (O.seen out.new))
-        (plans.Write (works.Streaming process.name)) (end_of result) }
-    ensures begun { IsBeforeWork (end_of result) → ⊥ }
+        (plans.Write (works.Streaming process.name.inputs)) (end_of result) }
 {
-    let Ok((kernel, failed)) = stream_replies(rt, alloc, out, gate, logs, process, passes, requests)
+    let Ok((kernel, failed)) = stream_replies(rt, alloc, out, gate, process, passes, requests)
     else {
         return Ending::NoMemory;
     };
@@ -181,28 +158,21 @@ fn stream_replies<R: Threads + Wait + Sync, W: World, O: Sink, G: Gate>(
     alloc: Global,
     out: &mut O,
     gate: &G,
-    logs: &mut Vec<G::Log>,
     process: Process<W>,
     passes: ProcessPasses<W>,
     requests: u32,
 ) -> Result<(Kernel<W>, bool), OutOfMemory>
-    requires can { CanOpen process.name }
-    requires serve { AreServeSettings process.name.settings }
-    requires count { requests ≡ length process.name.requests }
-    requires leave { G.leave gate.now }
+    requires can { CanOpen process.name.inputs }
+    requires serve { AreServeSettings process.name.inputs.settings }
+    requires count { requests ≡ length process.name.inputs.requests }
     requires all { AreAllOf process passes.items }
     requires new { (i : ℕ) (p : Carried) → slice_get passes.items i ≡ Some p → IsNewPass process i p }
-    requires logs { length passes.items ≤ length logs.old.items }
-    ensures inputs { IfOk result (λ s. s.0.inputs ≡ process.name) }
-    ensures complete { IfOk result (λ s. IsComplete (start process.name) s.0.steps) }
+    ensures inputs { IfOk result (λ s. s.0.inputs ≡ process.name.inputs) }
+    ensures complete { IfOk result (λ s. IsComplete (start process.name.inputs) s.0.steps) }
     ensures written { IfOk result (λ s. IsWritten s.1 (O.seen out.old) (O.seen out.new)
-        (replies_text (run (start process.name) s.0.steps))) }
-    ensures visits { IfOk result (λ s. map G.visits logs.new.items
-        ≡ after_visits (start process.name) s.0.steps 0 (map G.visits logs.old.items)) }
+        (replies_text (run (start process.name.inputs) s.0.steps))) }
     ensures unwritten { OnErr result (O.seen out.new ≡ O.seen out.old) }
 {
-    let Streamed { failed, passes } = stream_all(
-        rt, alloc, &process, passes, gate, logs, requests, out,
-    )?;
+    let Streamed { failed, passes } = stream_all(rt, alloc, &process, passes, gate, requests, out)?;
     Ok((process.close(passes), failed))
 }

@@ -1,10 +1,9 @@
-ghost use Rattle.std.specs.Prelude.{List, IfOk};
+ghost use Rattle.std.specs.Prelude.{IfOk};
 ghost use Rattle.lwc_io.specs.Outside.{FilesView};
-ghost use Rattle.lwcrun_modes.specs.Ends.{Ended, IsBeforeWork};
-ghost use Rattle.lwcrun_modes.specs.Works.{HaveVisited, IsText, Work};
+ghost use Rattle.lwcrun_modes.specs.Ends.{Ended};
+ghost use Rattle.lwcrun_modes.specs.Works.{IsText, Work};
 ghost use Rattle.lwcrun_modes.specs.Plans as plans;
 ghost use Rattle.lwcrun_modes.specs.Views.{end_of, outside};
-ghost use Rattle.thread_carrier.specs.declared.visit.Visit.{Visit};
 
 use crate::ending::Ending;
 use lwc_base::OutOfMemory;
@@ -12,14 +11,9 @@ use lwc_io::{Sink, write_whole};
 
 /// Writes the text of a work, or ends the call without it if there was no memory for it.
 pub fn write_work<'a, O: Sink>(out: &mut O, text: Result<Vec<u8>, OutOfMemory>) -> Ending<'a>
-    ensures text { (work : Work) (files : FilesView) → IfOk text (λ bytes. IsText work bytes.items)
+    ensures { (work : Work) (files : FilesView) → IfOk text (λ bytes. IsText work bytes.items)
         → Ended IsText (outside files files (O.seen out.old) (O.seen out.new))
         (plans.Write work) (end_of result) }
-    ensures visits { (before after : List (List Visit)) (work : Work) (files : FilesView)
-        → IfOk text (λ bytes. HaveVisited before after work bytes.items)
-        → Ended (HaveVisited before after) (outside files files (O.seen out.old) (O.seen out.new))
-        (plans.Write work) (end_of result) }
-    ensures begun { IsBeforeWork (end_of result) → ⊥ }
 {
     match text {
         Ok(text) => match write_whole(out, text.as_slice()) {

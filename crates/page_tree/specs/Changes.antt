@@ -21,7 +21,7 @@ pub record KeepsTrees (old new : List Node) (left came : ℕ) : Type 0 where
   pub size : length new ≡ length old
   pub roots : (n : ℕ) → trees_at new n + is_root left n ≡ trees_at old n + is_root came n
   pub reached : (t n : ℕ) → is_root left t < trees_at old t → IsReached old (t + 1) n →
-        entries_of new n ≡ entries_of old n
+      entries_of new n ≡ entries_of old n
 
 -- the trees that keep their roots stand for the same maps
 abbrev pub KeepsMaps : List Node → List Node → ℕ → Type 0

@@ -35,14 +35,14 @@ pub record OpenLaws : Type 0 where
 -- than once
 pub record TiedLaws : Type 0 where
   pub are_trees : (nodes : List Node) (frames : List Frame) (trees : List ℕ) (k : ℕ) →
-        IsTied nodes frames trees → length trees ≤ 65536 → k < length trees → IsTree nodes (slice_index trees k)
+      IsTied nodes frames trees → length trees ≤ 65536 → k < length trees → IsTree nodes (slice_index trees k)
   pub free : (nodes : List Node) (frames : List Frame) (trees : List ℕ) → IsTied nodes frames trees →
-        length nodes ≤ free_of nodes + TREE_NODES * length trees
+      length nodes ≤ free_of nodes + TREE_NODES * length trees
   pub held : (nodes : List Node) (frames : List Frame) (trees : List ℕ) (f : ℕ) → IsTied nodes frames trees →
-        0 < frame_count frames f → HasFrame nodes trees f
+      0 < frame_count frames f → HasFrame nodes trees f
   pub has_held : (nodes : List Node) (frames : List Frame) (trees : List ℕ) (f : ℕ) →
-        IsTied nodes frames trees → HasFrame nodes trees f → 0 < frame_count frames f
+      IsTied nodes frames trees → HasFrame nodes trees f → 0 < frame_count frames f
   pub elsewhere : (nodes : List Node) (frames : List Frame) (trees : List ℕ) (k p f : ℕ) →
-        IsTied nodes frames trees → k < length trees → p < PAGES →
-        page_of nodes trees k p ≡ cell.Frame (record { n = f }) →
+      IsTied nodes frames trees → k < length trees → p < PAGES →
+      page_of nodes trees k p ≡ cell.Frame (record { n = f }) →
       HasElsewhere nodes trees k p f ↔ ((page_short nodes (slice_index trees k) p ≢ 0) ⊎ (1 < frame_count frames f))

@@ -19,7 +19,7 @@ IsOpenBelow nodes (suc level) link p =
 pub record IsOpenNode (nodes : List Node) (level n p : ℕ) : Type 0 where
   pub later : (i : ℕ) → p / NODE_ENTRIES ^ (level - 1) < i → entry_of nodes n i ≡ 0
   pub way : IsOpenBelow nodes (level - 1) (entry_of nodes n (p / NODE_ENTRIES ^ (level - 1)))
-        (p % NODE_ENTRIES ^ (level - 1))
+      (p % NODE_ENTRIES ^ (level - 1))
 
 -- a tree has nothing from page p on, and nobody else holds a node on the way there
 abbrev pub IsOpen : List Node → ℕ → ℕ → Type 0

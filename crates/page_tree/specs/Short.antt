@@ -17,7 +17,7 @@ unfoldable pub short_below : List Node → ℕ → ℕ → ℕ → ℕ
 short_below nodes zero link p = 0
 short_below nodes (suc level) link p =
     if link_short nodes link == 0 then short_below nodes level (link_of nodes link (p / NODE_ENTRIES ^ level))
-        (p % NODE_ENTRIES ^ level) else suc level
+    (p % NODE_ENTRIES ^ level) else suc level
 
 -- for one page of a tree
 abbrev pub page_short : List Node → ℕ → ℕ → ℕ
@@ -45,9 +45,9 @@ range_below nodes (suc level) link from to =
     link_short nodes link
     + sum_by
     (λ i. if is_part (NODE_ENTRIES ^ level) (from - i * NODE_ENTRIES ^ level)
-        (min (NODE_ENTRIES ^ level) (to - i * NODE_ENTRIES ^ level))
+    (min (NODE_ENTRIES ^ level) (to - i * NODE_ENTRIES ^ level))
     then range_below nodes level (own_entry nodes link i) (from - i * NODE_ENTRIES ^ level)
-        (min (NODE_ENTRIES ^ level) (to - i * NODE_ENTRIES ^ level))
+    (min (NODE_ENTRIES ^ level) (to - i * NODE_ENTRIES ^ level))
     else 0)
     (range_with_len 0 NODE_ENTRIES)
 
@@ -60,7 +60,7 @@ part_below nodes level link from to =
 abbrev pub entry_short : List Node → ℕ → ℕ → ℕ → ℕ → ℕ → ℕ
 entry_short nodes level n from to i =
     part_below nodes (level - 1) (entry_of nodes n i) (from - i * NODE_ENTRIES ^ (level - 1))
-        (min (NODE_ENTRIES ^ (level - 1)) (to - i * NODE_ENTRIES ^ (level - 1)))
+    (min (NODE_ENTRIES ^ (level - 1)) (to - i * NODE_ENTRIES ^ (level - 1)))
 
 -- for the entries of a node
 abbrev pub entries_short : List Node → ℕ → ℕ → ℕ → ℕ → ℕ
@@ -77,7 +77,7 @@ unfoldable pub edge_below : List Node → ℕ → ℕ → ℕ → ℕ
 edge_below nodes zero link p = 0
 edge_below nodes (suc level) link p =
     if p == 0 then 0 else link_short nodes link
-        + edge_below nodes level (link_of nodes link (p / NODE_ENTRIES ^ level)) (p % NODE_ENTRIES ^ level)
+    + edge_below nodes level (link_of nodes link (p / NODE_ENTRIES ^ level)) (p % NODE_ENTRIES ^ level)
 
 -- for a range of the pages of an open link: what its beginning takes, and what its end takes below
 abbrev pub open_cuts : List Node → ℕ → ℕ → ℕ → ℕ → ℕ

@@ -47,7 +47,7 @@ pub record IsSoundTo (top : ℕ) (nodes : List Node) (frames : List Frame) : Typ
   pub narrow : (n i : ℕ) → level_of nodes n ≡ ROOT_LEVEL → ROOT_ENTRIES ≤ i → entry_of nodes n i ≡ 0
   pub held : (n i m : ℕ) → LEAF_LEVEL < level_of nodes n → entry_of nodes n i ≡ m + 1 → 0 < count_of nodes m
   pub below : (n i m : ℕ) → LEAF_LEVEL < level_of nodes n → entry_of nodes n i ≡ m + 1 →
-        level_of nodes m + 1 ≡ level_of nodes n
+      level_of nodes m + 1 ≡ level_of nodes n
   pub led : (n : ℕ) → leading_to nodes n ≤ count_of nodes n
   pub counted : (n : ℕ) → level_of nodes n < top → count_of nodes n ≡ leading_to nodes n
   pub framed : (f : ℕ) → naming nodes f ≤ frame_count frames f

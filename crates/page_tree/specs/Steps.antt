@@ -61,7 +61,7 @@ leads_to link m = link ≡ m + 1
 pub record IsBeside (nodes : List Node) (out : ℕ → ℕ) (level link : ℕ) : Type 0 where
   pub level_is : (n : ℕ) → link ≡ n + 1 → level_of nodes n ≡ level
   pub above : (n : ℕ) → IsBelow nodes level link n → (t : ℕ) ×
-        (IsOther nodes out t × IsBelow nodes (level_of nodes t) (t + 1) n)
+      (IsOther nodes out t × IsBelow nodes (level_of nodes t) (t + 1) n)
 
 -- the frame that an entry names, if it names one, is held once more
 pub record HoldsMore (frames frames' : List Frame) (e : ℕ) : Type 0 where

@@ -5,8 +5,8 @@ use Rattle.std.proofs.Math.ListN.{get_or-map, length-map}
 use Rattle.std.proofs.lemmas.List.Elements.{All-map}
 use Rattle.std.proofs.lemmas.Simd.{map-map}
 use Rattle.std.specs.Prelude.{Contains}
-use Rattle.kernel_core.specs.Start.{Inputs}
 use Rattle.process_core.specs.Running.{AreAllOf, Carried, IsPassOf}
+use Rattle.process_core.specs.declared.opened.Opened.{Opened}
 use Rattle.turnstile.specs.Passes.{Lock}
 
 -- one more is made of the next
@@ -19,7 +19,7 @@ pub all_made : {A B : Type 0} (P : B → Type 0) (f : A → B) (xs : List A) →
 all_made P f xs all k d inside = subst P (get_or-map f xs k d) (all k (f d) (omega (arith, inside, length-map xs f)))
 
 -- carriers of all passes still have all of them once the passes have changed, each for its own thread
-pub still_all : {C : Type 0} (pass : C → Carried) (process : Lock Inputs) (passes : List Carried) (before after : List C) → AreAllOf process passes → map pass before ≡ passes →
+pub still_all : {C : Type 0} (pass : C → Carried) (process : Lock Opened) (passes : List Carried) (before after : List C) → AreAllOf process passes → map pass before ≡ passes →
     All (λ c. IsPassOf process (pass c)) after → map (λ c. (pass c).held.number) after ≡ map (λ c. (pass c).held.number) before → AreAllOf process (map pass after)
 still_all pass process passes before after all is ours numbers =
     let number = λ (p : Carried). p.held.number in

@@ -10,8 +10,16 @@ use Rattle.kernel_core.specs.Start.{Inputs, start, thread_count}
 use Rattle.kernel_core.specs.declared.thread.Turn.{Turn}
 use Rattle.lwc_base.specs.declared.limits.TheConstants.{MOST_STEPS}
 use Rattle.process_core.specs.Running.{Leaves}
+use Rattle.process_core.specs.declared.opened.Opened.{Opened}
 use Rattle.turnstile.specs.Past.{Knows}
 use Rattle.kernel_core.proofs.Others.{ended_by_turn, turn_stays}
+
+-- what a process was opened with is determined by its parts
+abbrev with_room : Inputs → ℕ → Opened
+with_room inputs room = record { inputs = inputs; room = room }
+
+pub named : {i j : Inputs} {r s : ℕ} → i ≡ j → r ≡ s → with_room i r ≡ with_room j s
+named same room = cc
 
 -- the steps that came after what was seen are those of others
 pub none_later : (past seen : List ℕ) (t : ℕ) (k : Knows past t seen) → steps_by t (k.0.0) ≡ 0
@@ -38,13 +46,13 @@ pub record IsAfter (inputs : Inputs) (n : ℕ) (seen new : List ℕ) (r : Turn) 
   pub went : GoesOn n seen new
 
 pub after_turn : (inputs : Inputs) (n t : ℕ) (seen new : List ℕ) (x y : History) (r : Turn) → x.inputs ≡ inputs → Knows x.steps n seen → y.inputs ≡ x.inputs → y.steps ≡ x.steps ++ t ∷ [] →
-    turn y t ≡ Some r → t ≡ n → IsLegal (start y.inputs) y.steps → length y.steps + y.room ≤ MOST_STEPS → new ≡ y.steps → IsAfter inputs n seen new r
+    turn y t ≡ Some r → t ≡ n → IsLegal (start y.inputs) y.steps → length y.steps ≤ MOST_STEPS → new ≡ y.steps → IsAfter inputs n seen new r
 after_turn inputs n t seen new x y r same k kept_inputs grown turn_is is legal few new_is =
     let by : y.steps ≡ x.steps ++ n ∷ [] = grown ∙ ap (λ (m : ℕ). x.steps ++ m ∷ []) is in
     let whole : IsAfter inputs n seen y.steps r = record {
       leaves = record {
         legal = subst (λ (i : Inputs). IsLegal (start i) y.steps) (kept_inputs ∙ same) legal;
-        few = omega arith;
+        few = few;
         turn_is = sym (turn_now y inputs n (kept_inputs ∙ same)) ∙ subst (λ (m : ℕ). turn y m ≡ Some r) is turn_is;
       };
       went = went_on x.steps y.steps seen n k by;
@@ -65,7 +73,7 @@ still_going h inputs seen t last same k leaves going = ended_by_turn h t last (s
 
 -- a step of the thread may be made
 pub ready : (h : History) (inputs : Inputs) (seen : List ℕ) (n t : ℕ) (last : Turn) (proposal : Option Advance) → h.inputs ≡ inputs → Knows h.steps n seen → Leaves inputs n seen last →
-    has_ended last.status ≡ false → n < thread_count inputs → IfSome proposal (λ (a : Advance). a ≡ advanced inputs.image.text a.before) → t ≡ n →
+    has_ended last.status ≡ false → n < thread_count inputs → IfSome proposal (λ a. a.now ≡ advanced inputs.image.text a.now.before) → t ≡ n →
     (t < thread_count h.inputs) × (is_ended (machine_of h) t ≡ false) × IfSome proposal (λ (a : Advance). a ≡ advanced h.inputs.image.text a.before)
 ready h inputs seen n t last proposal same k leaves going within offer is = (
   subst (λ (i : Inputs). t < thread_count i) (sym same) (subst (λ (m : ℕ). m < thread_count inputs) (sym is) within),

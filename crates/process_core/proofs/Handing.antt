@@ -10,6 +10,7 @@ use Rattle.kernel_core.specs.Kernel.{History, turn}
 use Rattle.kernel_core.specs.declared.thread.Turn.{Turn}
 use Rattle.process_core.proofs.Due.{turn_now}
 use Rattle.process_core.specs.Running.{AreAllOf, Carried, IsNewPass, Leaves}
+use Rattle.process_core.specs.declared.opened.Opened.{Opened}
 use Rattle.turnstile.specs.Passes.{Held, Lock}
 use Rattle.turnstile.specs.Passes as gates
 
@@ -23,7 +24,7 @@ each_push P (x ∷ xs) y each last (suc i) q at =
     each_push (λ j. P (suc j)) xs y (λ j r. each (suc j) r) (λ n is. last (suc n) (omega arith)) i q at
 
 -- one pass goes from one list to the other
-pub handed : (ps : List Carried) (h : Held Inputs) (last : Turn) (hs all : List (Held Inputs)) → map (λ p. p.held) ps ++ (h ∷ hs) ≡ all →
+pub handed : (ps : List Carried) (h : Held Opened) (last : Turn) (hs all : List (Held Opened)) → map (λ p. p.held) ps ++ (h ∷ hs) ≡ all →
     map (λ p. p.held) (ps ++ record { held = h; last = last } ∷ []) ++ hs ≡ all
 handed [] h last hs all is = is
 handed (p ∷ ps) h last hs all is = ap (λ l. p.held ∷ l) (handed ps h last hs (map (λ (q : Carried). q.held) ps ++ (h ∷ hs)) refl) ∙ is
@@ -36,21 +37,21 @@ none_left : {A : Type 0} (xs : List A) → length xs ≡ 0 → xs ≡ []
 none_left [] is = refl
 none_left (x ∷ xs) is = absurd (omega arith)
 
-pub new_pass : (gate : Lock Inputs) (all rest : List (Held Inputs)) (ps : List Carried) → map (λ p. p.held) ps ++ rest ≡ all → length rest ≡ 0 →
-    length all ≡ thread_count gate.name → ((i : ℕ) (p : Held Inputs) → slice_get all i ≡ Some p → gates.IsNewPass gate i p) →
-    ((i : ℕ) (q : Carried) → slice_get ps i ≡ Some q → turn_after gate.name [] i ≡ Some q.last) → (i : ℕ) (q : Carried) → slice_get ps i ≡ Some q → IsNewPass gate i q
+pub new_pass : (gate : Lock Opened) (all rest : List (Held Opened)) (ps : List Carried) → map (λ p. p.held) ps ++ rest ≡ all → length rest ≡ 0 →
+    length all ≡ thread_count gate.name.inputs → ((i : ℕ) (p : Held Opened) → slice_get all i ≡ Some p → gates.IsNewPass gate i p) →
+    ((i : ℕ) (q : Carried) → slice_get ps i ≡ Some q → turn_after gate.name.inputs [] i ≡ Some q.last) → (i : ℕ) (q : Carried) → slice_get ps i ≡ Some q → IsNewPass gate i q
 new_pass gate all rest ps whole none count new turns i q at =
-    let same : map (λ (p : Carried). p.held) ps ≡ all = sym (append-nil (map (λ (p : Carried). p.held) ps)) ∙ (ap (λ (l : List (Held Inputs)). map (λ (p : Carried). p.held) ps ++ l) (sym (none_left rest none)) ∙ whole) in
-    let there : slice_get all i ≡ Some q.held = ap (λ (l : List (Held Inputs)). slice_get l i) (sym same) ∙ (slice_get-map (λ (p : Carried). p.held) ps i ∙ ap (option_map (λ (p : Carried). p.held)) at) in
+    let same : map (λ (p : Carried). p.held) ps ≡ all = sym (append-nil (map (λ (p : Carried). p.held) ps)) ∙ (ap (λ (l : List (Held Opened)). map (λ (p : Carried). p.held) ps ++ l) (sym (none_left rest none)) ∙ whole) in
+    let there : slice_get all i ≡ Some q.held = ap (λ (l : List (Held Opened)). slice_get l i) (sym same) ∙ (slice_get-map (λ (p : Carried). p.held) ps i ∙ ap (option_map (λ (p : Carried). p.held)) at) in
     let fresh = new i q.held there in
     let inside : i < length all = slice_get_within all i q.held there in
-    let first : Leaves gate.name i [] q.last = record { legal = refl; few = omega arith; turn_is = turns i q at } in
+    let first : Leaves gate.name.inputs i [] q.last = record { legal = refl; few = omega arith; turn_is = turns i q at } in
     record {
       new = fresh;
       ours = record {
         ours = fresh.0;
-        within = subst (λ (n : ℕ). n < thread_count gate.name) (sym fresh.1) (subst (λ (n : ℕ). i < n) count inside);
-        leaves = subst (λ (n : ℕ). Leaves gate.name n q.held.seen q.last) (sym fresh.1) (subst (λ (l : List ℕ). Leaves gate.name i l q.last) (sym fresh.2) first);
+        within = subst (λ (n : ℕ). n < thread_count gate.name.inputs) (sym fresh.1) (subst (λ (n : ℕ). i < n) count inside);
+        leaves = subst (λ (n : ℕ). Leaves gate.name.inputs n q.held.seen q.last) (sym fresh.1) (subst (λ (l : List ℕ). Leaves gate.name.inputs i l q.last) (sym fresh.2) first);
       };
     }
 
@@ -59,7 +60,7 @@ pub start_turn : (h : History) (name : Inputs) (t : ℕ) (last : Turn) → h.ste
 start_turn h name t last none same is =
     ap (λ (l : List ℕ). turn_after name l t) (sym none) ∙ (sym (turn_now h name t (sym same)) ∙ is)
 
-pub held_few : (ps : List Carried) (hs all : List (Held Inputs)) → map (λ p. p.held) ps ++ hs ≡ all → length ps + length hs ≡ length all
+pub held_few : (ps : List Carried) (hs all : List (Held Opened)) → map (λ p. p.held) ps ++ hs ≡ all → length ps + length hs ≡ length all
 held_few ps hs all whole =
     let parts = length-append (map (λ (p : Carried). p.held) ps) hs in
     let mapped = length-map ps (λ (p : Carried). p.held) in
@@ -71,7 +72,7 @@ first_one [] t below = absurd (omega arith)
 first_one (x ∷ xs) t below = x
 
 -- new passes of each thread are all
-pub all_new : (gate : Lock Inputs) (ps : List Carried) → length ps ≡ thread_count gate.name → ((i : ℕ) (q : Carried) → slice_get ps i ≡ Some q → IsNewPass gate i q) → AreAllOf gate ps
+pub all_new : (gate : Lock Opened) (ps : List Carried) → length ps ≡ thread_count gate.name.inputs → ((i : ℕ) (q : Carried) → slice_get ps i ≡ Some q → IsNewPass gate i q) → AreAllOf gate ps
 all_new gate ps count new = record {
   ours = λ j d below. (new j (get_or ps j d) (slice_get-get_or ps j d below)).ours;
   every = λ t below.

@@ -3,22 +3,13 @@ use Rattle.std.proofs.Common.{◌≡◌, ◌+◌, ◌-◌, ◌<◌, ◌≤◌, �
 use Rattle.kernel_core.specs.Histories.{IsLegal}
 use Rattle.kernel_core.specs.Kernel.{CanOpen, History, machine_of, stepped}
 use Rattle.kernel_core.specs.Machine.{is_ended, work}
-use Rattle.kernel_core.specs.Runs.{run}
-use Rattle.kernel_core.specs.Start.{Inputs, start}
-use Rattle.lwc_base.specs.declared.limits.TheConstants.{MOST_STEPS}
+use Rattle.kernel_core.specs.Start.{start}
 use Rattle.kernel_core.proofs.Others.{legal_push, some_left}
 
 -- there is room for a step of a thread that has not ended
 pub some_room : (h : History) (t : ℕ) → CanOpen h.inputs → is_ended (machine_of h) t ≡ false → work (machine_of h) ≤ h.room → 0 < h.room
 unfolding machine_of
 some_room h t can going room = omega (arith, some_left h.inputs h.steps can t going)
-
--- a kernel that was just opened with room for its work
-pub opened_whole : (h : History) → h.steps ≡ [] → h.room ≡ work (machine_of h) → length h.steps + h.room ≡ work (start h.inputs)
-unfolding machine_of
-opened_whole h fresh room =
-    let now : work (run (start h.inputs) h.steps) ≡ work (start h.inputs) = ap (λ (l : List ℕ). work (run (start h.inputs) l)) fresh in
-    omega (arith, ap length fresh, room, now)
 
 abbrev longer : History → ℕ → History
 longer h t = record h { steps = h.steps ++ t ∷ []; room = h.room - 1 }
@@ -40,15 +31,8 @@ module _ (h next : History) (t : ℕ) (going : is_ended (machine_of h) t ≡ fal
   stays_legal legal =
       subst (λ (k : History). IsLegal (start k.inputs) k.steps) (sym is_longer) (legal_push (start h.inputs) h.steps t legal going)
 
-  pub stays_few : 0 < h.room → length h.steps + h.room ≤ MOST_STEPS → length next.steps + next.room ≤ MOST_STEPS
-  stays_few some few =
+  pub stays_whole : (room : ℕ) → 0 < h.room → length h.steps + h.room ≡ room → length next.steps + next.room ≡ room
+  stays_whole room some whole =
       let steps : length next.steps ≡ length h.steps + 1 = ap length stepped_steps ∙ length-append h.steps (t ∷ []) in
-      let room : next.room ≡ h.room - 1 = ap (λ (k : History). k.room) is_longer in
-      omega arith
-
-  pub stays_whole : 0 < h.room → length h.steps + h.room ≡ work (start h.inputs) → length next.steps + next.room ≡ work (start next.inputs)
-  stays_whole some whole =
-      let steps : length next.steps ≡ length h.steps + 1 = ap length stepped_steps ∙ length-append h.steps (t ∷ []) in
-      let room : next.room ≡ h.room - 1 = ap (λ (k : History). k.room) is_longer in
-      let start_is : work (start next.inputs) ≡ work (start h.inputs) = ap (λ (i : Inputs). work (start i)) stepped_inputs in
+      let left : next.room ≡ h.room - 1 = ap (λ (k : History). k.room) is_longer in
       omega arith

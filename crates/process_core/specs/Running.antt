@@ -6,12 +6,13 @@ use Rattle.kernel_core.specs.declared.thread.Turn.{Turn}
 use Rattle.lwc_base.specs.Registers.{fresh_registers}
 use Rattle.lwc_base.specs.declared.fault.ThreadStatus.TheVariants.{Idle}
 use Rattle.lwc_base.specs.declared.limits.TheConstants.{MOST_STEPS}
+use Rattle.process_core.specs.declared.opened.Opened.{Opened}
 use Rattle.turnstile.specs.Passes as gate
 use Rattle.turnstile.specs.Passes.{Held, Lock}
 
 -- a pass of a process: the pass of its lock, and the last turn of its thread
 pub record Carried : Type 0 where
-  pub held : Held Inputs
+  pub held : Held Opened
   pub last : Turn
 
 -- a turn of a thread that has made no step and has no registers
@@ -26,17 +27,17 @@ pub record Leaves (inputs : Inputs) (t : ℕ) (seen : List ℕ) (turn : Turn) : 
 
 -- the process's `open` gave the pass: its number is that of a thread, and its last turn is what the history
 -- that it has seen leaves of that thread
-pub record IsPassOf (process : Lock Inputs) (p : Carried) : Type 0 where
+pub record IsPassOf (process : Lock Opened) (p : Carried) : Type 0 where
   pub ours : gate.IsPassOf process p.held
-  pub within : p.held.number < thread_count process.name
-  pub leaves : Leaves process.name p.held.number p.held.seen p.last
+  pub within : p.held.number < thread_count process.name.inputs
+  pub leaves : Leaves process.name.inputs p.held.number p.held.seen p.last
 
 -- the pass of this thread, as `open` gives it
-pub record IsNewPass (process : Lock Inputs) (t : ℕ) (p : Carried) : Type 0 where
+pub record IsNewPass (process : Lock Opened) (t : ℕ) (p : Carried) : Type 0 where
   pub new : gate.IsNewPass process t p.held
   pub ours : IsPassOf process p
 
 -- the passes are all those that the process's `open` gave, in any order
-pub record AreAllOf (process : Lock Inputs) (passes : List Carried) : Type 0 where
+pub record AreAllOf (process : Lock Opened) (passes : List Carried) : Type 0 where
   pub ours : All (IsPassOf process) passes
-  pub every : (t : ℕ) → t < thread_count process.name → Contains (map (λ p. p.held.number) passes) t
+  pub every : (t : ℕ) → t < thread_count process.name.inputs → Contains (map (λ p. p.held.number) passes) t

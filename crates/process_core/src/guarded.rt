@@ -7,91 +7,107 @@ ghost use Rattle.kernel_core.specs.Machine.{is_ended, work};
 ghost use Rattle.kernel_core.specs.Start.{start, thread_count};
 ghost use Rattle.lwc_base.specs.declared.limits.TheConstants.{MOST_STEPS};
 
-use crate::slip::Slip;
-use kernel_core::{Inputs, Kernel};
+use crate::opened::Opened;
+use guest_machine::Advance;
+use kernel_core::{Kernel, Turn};
 use lwc_base::OutOfMemory;
 use turnstile::Turned;
 use world_face::World;
 
 /// A kernel over a roomy world, whose steps are a legal history, with room for all the steps that are left.
-/// The steps and the room are together as many as the threads could make at the start.
+/// The steps and the room are together the room at the start.
 ///
 /// The kernel is in a box, since the lock moves it twice in each turn.
 #[derive(Drop)]
 pub(crate) struct Guarded<W: World> {
     pub(crate) kernel: Box<Kernel<W>>,
+    pub(crate) first_room: u32,
     pub(crate) ghost legal: { IsLegal (start kernel.value.inputs) kernel.value.steps },
     pub(crate) ghost room: { work (machine_of kernel.value) ≤ kernel.value.room },
-    pub(crate) ghost whole: { length kernel.value.steps + kernel.value.room
-        ≡ work (start kernel.value.inputs) },
-    pub(crate) ghost few: { length kernel.value.steps + kernel.value.room ≤ MOST_STEPS },
+    pub(crate) ghost whole: { length kernel.value.steps + kernel.value.room ≡ first_room },
+    pub(crate) ghost few: { first_room ≤ MOST_STEPS },
     pub(crate) ghost roomy: { W.roomy ≡ true },
 }
 
 impl<W: World> Turned for Guarded<W> {
-    type Name = Inputs;
+    type Name = Opened;
 
-    ghost name = { λ g. g.kernel.value.inputs };
+    ghost name = { λ g. record { inputs = g.kernel.value.inputs; room = g.first_room } };
 
     ghost past = { λ g. g.kernel.value.steps };
 
     ghost use Rattle.std.proofs.Common.{arith};
 
-    ghost short = { λ g. omega (arith, g.few) };
+    ghost short = { λ g. omega (arith, g.whole, g.few) };
 }
 
-/// A step of a thread that has not ended, with room for it. Notes in the slip what it left.
-fn step_kernel<W: World>(kernel: &mut Kernel<W>, t: u32, slip: &mut Slip)
+/// A step of a thread that has not ended, with room for it. Notes in `last` what it left.
+fn step_kernel<W: World>(
+    kernel: &mut Kernel<W>,
+    t: u32,
+    proposal: Option<&Advance>,
+    last: &mut Turn,
+)
     requires roomy { W.roomy ≡ true }
     requires within { t < thread_count kernel.old.inputs }
     requires going { is_ended (machine_of kernel.old) t ≡ false }
     requires room { work (machine_of kernel.old) ≤ kernel.old.room }
-    requires offer { IfSome slip.old.offer (λ a. a ≡ advanced kernel.old.inputs.image.text a.before) }
+    requires proposal { IfSome proposal (λ a. a.now ≡ advanced kernel.old.inputs.image.text a.now.before) }
     ensures step { kernel.new ≡ stepped kernel.old t }
-    ensures turn { turn kernel.new t ≡ Some slip.new.last }
+    ensures turn { turn kernel.new t ≡ Some last.new }
     ensures some { 0 < kernel.old.room }
     ensures room { kernel.new.room + 1 ≡ kernel.old.room }
     ensures work { work (machine_of kernel.new) < work (machine_of kernel.old) }
 {
     kernel.was_opened();
-    match kernel.make_step(t, slip.offer.as_ref()) {
-        Ok(finished) => kernel.note_turn(t, finished, &mut slip.last),
+    match kernel.make_step(t, proposal) {
+        Ok(finished) => kernel.note_turn(t, finished, last),
         Err(OutOfMemory) => unreachable!(),
     }
 }
 
 /// A kernel that was just opened, as the lock guards it.
-#[tactic(auto, using(crate::proofs::Stepping::opened_whole))]
 pub(crate) fn guard<W: World>(kernel: Box<Kernel<W>>) -> Guarded<W>
     requires roomy { W.roomy ≡ true }
     requires fresh { kernel.value.steps ≡ [] }
-    requires room { kernel.value.room ≡ work (machine_of kernel.value) }
-    ensures { result.kernel.value ≡ kernel.value }
+    requires room { work (machine_of kernel.value) ≤ kernel.value.room }
+    ensures kernel { result.kernel.value ≡ kernel.value }
+    ensures room { result.first_room ≡ kernel.value.room }
 {
     let _steps = kernel.schedule();
-    Guarded { kernel }
+    let first_room = kernel.room();
+    Guarded { kernel, first_room }
 }
 
 impl<W: World> Guarded<W> {
-    /// A step of a thread that has not ended. What it left is noted in the slip.
-    pub(crate) fn make_step(&mut self, t: u32, mut slip: Box<Slip>) -> Box<Slip>
+    /// A step of a thread that has not ended. What it left is noted in the box, which comes back.
+    pub(crate) fn make_step(
+        &mut self,
+        t: u32,
+        proposal: Option<&Advance>,
+        mut last: Box<Turn>,
+    ) -> Box<Turn>
         requires within { t < thread_count self.old.kernel.value.inputs }
         requires going { is_ended (machine_of self.old.kernel.value) t ≡ false }
-        requires offer { IfSome slip.value.offer (λ a. a
-            ≡ advanced self.old.kernel.value.inputs.image.text a.before) }
+        requires proposal { IfSome proposal (λ a. a.now
+            ≡ advanced self.old.kernel.value.inputs.image.text a.now.before) }
         ensures inputs { self.new.kernel.value.inputs ≡ self.old.kernel.value.inputs }
+        ensures room { self.new.first_room ≡ self.old.first_room }
         ensures steps { self.new.kernel.value.steps ≡ self.old.kernel.value.steps ++ t ∷ [] }
-        ensures turn { turn self.new.kernel.value t ≡ Some result.value.last }
+        ensures turn { turn self.new.kernel.value t ≡ Some result.value }
     {
-        step_kernel(&mut self.kernel, t, &mut slip);
-        slip
+        step_kernel(&mut self.kernel, t, proposal, &mut last);
+        last
     }
 
     /// The kernel.
     pub(crate) fn into_kernel(self) -> Kernel<W>
         ensures kernel { result ≡ self.kernel.value }
     {
-        let Guarded { kernel } = self;
+        let Guarded {
+            kernel,
+            first_room: _,
+        } = self;
         Box::into_inner(kernel)
     }
 }

@@ -8,10 +8,11 @@
 #![tactic(auto)]
 
 mod guarded;
+mod opened;
 mod opening;
 mod passes;
 mod process;
-mod slip;
 
+pub use opened::Opened;
 pub use passes::{ProcessPass, ProcessPasses};
 pub use process::Process;

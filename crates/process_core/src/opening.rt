@@ -2,15 +2,15 @@
 ghost use Rattle.std.specs.Prelude.{◌≡◌, ◌<◌, ◌≤◌, ℕ, [], length, IfOk, Some, slice_get, vec_capacity};
 ghost use Rattle.kernel_core.specs.Histories.{turn_after};
 ghost use Rattle.kernel_core.specs.Kernel as kernels;
-ghost use Rattle.kernel_core.specs.Start.{Inputs, thread_count};
+ghost use Rattle.kernel_core.specs.Start.{thread_count};
 ghost use Rattle.kernel_core.specs.declared.thread.Turn.{Turn};
 ghost use Rattle.process_core.specs.Running.{Carried, IsNewPass};
+ghost use Rattle.process_core.specs.declared.opened.Opened.{Opened};
 ghost use Rattle.turnstile.specs.Passes as gates;
 ghost use Rattle.turnstile.specs.Passes.{Held};
 
 use crate::guarded::Guarded;
 use crate::passes::{ProcessPass, ProcessPasses};
-use crate::slip::Slip;
 use kernel_core::{Kernel, Turn};
 use lwc_base::OutOfMemory;
 use std::alloc::Global;
@@ -45,20 +45,19 @@ pub(crate) fn hand_out<W: World>(
     requires empty { passes.items ≡ [] }
     requires room { length held.items ≤ vec_capacity passes }
     requires count { length held.items ≡ length turns.now.items }
-    requires new { (i : ℕ) (p : Held Inputs) → slice_get held.items i ≡ Some p
+    requires new { (i : ℕ) (p : Held Opened) → slice_get held.items i ≡ Some p
         → gates.IsNewPass gate.now i p }
-    requires threads { length turns.now.items ≡ thread_count gate.now.name }
+    requires threads { length turns.now.items ≡ thread_count gate.now.name.inputs }
     requires turns { (t : ℕ) (last : Turn) →
-        slice_get turns.now.items t ≡ Some last → turn_after gate.now.name [] t ≡ Some last }
+        slice_get turns.now.items t ≡ Some last → turn_after gate.now.name.inputs [] t ≡ Some last }
     ensures count { IfOk result (λ given. length given.items ≡ length held.items) }
     ensures new { IfOk result (λ given. (i : ℕ) (p : Carried) →
         slice_get given.items i ≡ Some p → IsNewPass gate.now i p) }
 {
     'held: while !held.is_empty() {
         let pass = held.remove(0);
-        let last = turns[passes.len()].same();
-        let slip = Box::new(alloc, Slip::new(last, turns.len() == 1))?;
-        passes.push_reserved(ProcessPass::new(pass, slip));
+        let last = Box::new(alloc, turns[passes.len()].same())?;
+        passes.push_reserved(ProcessPass::new(pass, last));
     }
     Ok(passes)
 }

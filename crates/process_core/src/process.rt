@@ -1,6 +1,6 @@
 //! A process, as its callers see it.
 ghost use Rattle.std.specs.Prelude.{◌≡◌, ◌<◌, ◌≤◌, ◌+◌, ℕ, [], ◌∷◌, ◌++◌, false, true, length, All};
-ghost use Rattle.std.specs.Prelude.{IfOk, IfSome, Some, slice_get};
+ghost use Rattle.std.specs.Prelude.{IfOk, IfSome, None, Some, slice_get};
 ghost use Rattle.guest_machine.specs.Advances.{advanced};
 ghost use Rattle.kernel_core.specs.Histories.{GoesOn, IsComplete, IsLegal, turn_after};
 ghost use Rattle.kernel_core.specs.Kernel as kernels;
@@ -14,9 +14,8 @@ ghost use Rattle.turnstile.specs.Past.{Knows};
 use crate::guarded::{Guarded, guard};
 use crate::opening::{first_turns, hand_out};
 use crate::passes::{ProcessPass, ProcessPasses};
-use crate::slip::Slip;
 use guest_isa::Text;
-use guest_machine::Advance;
+use guest_machine::{Advance, advance};
 use kernel_core::{Kernel, Turn};
 use lwc_base::OutOfMemory;
 use std::alloc::Global;
@@ -27,40 +26,44 @@ use world_face::World;
 
 /// A kernel under a lock. Threads share it by `&`, each with a pass of its own.
 ///
-/// Contracts see it as its lock, whose name is what the kernel was opened with.
+/// Contracts see it as its lock, whose name is what the process was opened with.
 #[derive(Drop)]
 pub struct Process<W: World> {
     gate: Turnstile<Guarded<W>>,
     text: Text,
+    threads: u32,
 }
 
 impl<W: World> Model for Process<W> {
     ghost use Rattle.std.specs.Prelude.{◌≡◌};
-    ghost use Rattle.kernel_core.specs.Start.{Inputs, thread_count};
+    ghost use Rattle.kernel_core.specs.Start.{thread_count};
+    ghost use Rattle.process_core.specs.declared.opened.Opened.{Opened};
     ghost use Rattle.turnstile.specs.Passes.{Lock};
 
-    ghost Value = { Lock Inputs };
+    ghost Value = { Lock Opened };
 
     ghost view = { λ p. p.gate };
 
-    ghost invariant = { λ p. (p.text ≡ p.gate.name.image.text) × (p.gate.seats ≡ thread_count p.gate.name) };
+    ghost invariant = { λ p. (p.text ≡ p.gate.name.inputs.image.text)
+        × (p.gate.seats ≡ thread_count p.gate.name.inputs) × (p.threads ≡ thread_count p.gate.name.inputs) };
 }
 
-/// One step of the pass's thread, which its last turn had not ended. What it left is noted in the slip.
+/// One step of the pass's thread, which its last turn had not ended. What it left is noted in the box.
 fn take_turn<R: Wait, W: World>(
     gate: &Turnstile<Guarded<W>>,
     rt: &R,
     pass: &mut Pass<Guarded<W>>,
-    slip: Box<Slip>,
-) -> Box<Slip>
+    proposal: Option<&Advance>,
+    last: Box<Turn>,
+) -> Box<Turn>
     requires ours { gates.IsPassOf gate.now pass.old }
-    requires within { pass.old.number < thread_count gate.now.name }
-    requires knows { Leaves gate.now.name pass.old.number pass.old.seen slip.value.last }
-    requires going { has_ended slip.value.last.status ≡ false }
-    requires offer { IfSome slip.value.offer (λ a. a ≡ advanced gate.now.name.image.text a.before) }
+    requires within { pass.old.number < thread_count gate.now.name.inputs }
+    requires knows { Leaves gate.now.name.inputs pass.old.number pass.old.seen last.value }
+    requires going { has_ended last.value.status ≡ false }
+    requires proposal { IfSome proposal (λ a. a.now ≡ advanced gate.now.name.inputs.image.text a.now.before) }
     ensures ours { gates.IsPassOf gate.now pass.new }
     ensures number { pass.new.number ≡ pass.old.number }
-    ensures leaves { Leaves gate.now.name pass.new.number pass.new.seen result.value.last }
+    ensures leaves { Leaves gate.now.name.inputs pass.new.number pass.new.seen result.value }
     ensures goes_on { GoesOn pass.old.number pass.old.seen pass.new.seen }
     ensures later { pass.old.noted < length pass.new.seen }
     ensures noted { pass.old.noted ≤ pass.new.noted }
@@ -69,22 +72,23 @@ fn take_turn<R: Wait, W: World>(
     gate.with_turn(
         rt,
         pass,
-        move |guarded: &mut Guarded<W>| -> Box<Slip>
+        move |guarded: &mut Guarded<W>| -> Box<Turn>
             requires { (t < thread_count guarded.now.kernel.value.inputs)
                 × (is_ended (machine_of guarded.now.kernel.value) t ≡ false)
-                × IfSome slip.value.offer (λ a. a
-                ≡ advanced guarded.now.kernel.value.inputs.image.text a.before) }
+                × IfSome proposal (λ a. a.now
+                ≡ advanced guarded.now.kernel.value.inputs.image.text a.now.before) }
             ensures { (guarded.exit.now.kernel.value.inputs ≡ guarded.entry.now.kernel.value.inputs)
+                × (guarded.exit.now.first_room ≡ guarded.entry.now.first_room)
                 × (guarded.exit.now.kernel.value.steps ≡ guarded.entry.now.kernel.value.steps ++ t ∷ [])
-                × (kernels.turn guarded.exit.now.kernel.value t ≡ Some result.value.last) }
-        { guarded.make_step(t, slip) },
+                × (kernels.turn guarded.exit.now.kernel.value t ≡ Some result.value) }
+        { guarded.make_step(t, proposal, last) },
     )
 }
 
 impl<W: World> Process<W> {
     /// A kernel under a lock, and a pass for each of its threads, in the order of their numbers. The kernel
-    /// has kept no step, and has room for just the steps that its threads may make. This is the only call
-    /// that takes memory.
+    /// has kept no step, and has room for all steps that its threads may make. This is the only call that
+    /// takes memory.
     ///
     /// # Errors
     ///
@@ -95,8 +99,9 @@ impl<W: World> Process<W> {
     ) -> Result<(Process<W>, ProcessPasses<W>), OutOfMemory>
         requires roomy { W.roomy ≡ true }
         requires fresh { kernel.steps ≡ [] }
-        requires room { kernel.room ≡ work (machine_of kernel) }
-        ensures inputs { IfOk result (λ p. p.0.name ≡ kernel.inputs) }
+        requires room { work (machine_of kernel) ≤ kernel.room }
+        ensures inputs { IfOk result (λ p. p.0.name.inputs ≡ kernel.inputs) }
+        ensures room { IfOk result (λ p. p.0.name.room ≡ kernel.room) }
         ensures count { IfOk result (λ p. length p.1.items ≡ thread_count kernel.inputs) }
         ensures passes { IfOk result (λ p. (i : ℕ) (q : Carried) →
             slice_get p.1.items i ≡ Some q → IsNewPass p.0 i q) }
@@ -104,25 +109,44 @@ impl<W: World> Process<W> {
     {
         let text = kernel.text().copy(alloc)?;
         let turns = first_turns(alloc, &kernel)?;
-        let seats = kernel.thread_count();
-        let passes = Vec::with_capacity(alloc, seats as usize)?;
+        let threads = kernel.thread_count();
+        let passes = Vec::with_capacity(alloc, threads as usize)?;
         let kernel = Box::new(alloc, kernel)?;
-        let (gate, held) = Turnstile::new(alloc, guard(kernel), seats)?;
+        let (gate, held) = Turnstile::new(alloc, guard(kernel), threads)?;
         let passes = hand_out(&gate, held, alloc, &turns, passes)?;
-        Ok((Process { gate, text }, passes))
+        let process = Process {
+            gate,
+            text,
+            threads,
+        };
+        Ok((process, passes))
     }
 
     /// The instructions that its threads run. It waits for nobody.
     pub fn text(&self) -> &Text
-        ensures { result.now ≡ self.now.name.image.text }
+        ensures { result.now ≡ self.now.name.inputs.image.text }
     {
         &self.text
+    }
+
+    /// What a turn of the pass is proposed best: the advance of the registers that its last turn left. A thread that
+    /// is alone proposes nothing: nobody waits while it advances in its turn. It waits for nobody.
+    pub fn proposal(&self, pass: &ProcessPass<W>) -> Option<Advance>
+        ensures alone { thread_count self.now.name.inputs ≡ 1 → result ≡ None }
+        ensures others { 1 < thread_count self.now.name.inputs →
+            result ≡ Some (advanced self.now.name.inputs.image.text pass.now.last.regs) }
+    {
+        if self.threads == 1 {
+            None
+        } else {
+            Some(advance(&self.text, &pass.last().regs))
+        }
     }
 
     /// One step of the pass's thread, or none where its last turn had ended the thread: then that turn is
     /// answered again. It may wait, and takes no memory. A proposal is the advance of some registers over
     /// the text; it is used if it begins with the thread's registers, and the answer is the same without
-    /// it. Without one the thread's registers are advanced before the lock is taken, unless it is alone.
+    /// it. Without one the thread advances while it holds the lock.
     ///
     /// The answer is what the history that the pass has then seen leaves of the thread. That history is
     /// legal, and goes on from the one that the pass had seen by steps of others and one of this thread.
@@ -133,11 +157,11 @@ impl<W: World> Process<W> {
         proposal: Option<&Advance>,
     ) -> Turn
         requires ours { IsPassOf self.now pass.old }
-        requires proposal { IfSome proposal (λ a. a.now ≡ advanced self.now.name.image.text a.now.before) }
+        requires proposal { IfSome proposal (λ a. a.now ≡ advanced self.now.name.inputs.image.text a.now.before) }
         ensures ours { IsPassOf self.now pass.new }
         ensures number { pass.new.held.number ≡ pass.old.held.number }
-        ensures legal { IsLegal (start self.now.name) pass.new.held.seen }
-        ensures turn { turn_after self.now.name pass.new.held.seen pass.new.held.number ≡ Some result }
+        ensures legal { IsLegal (start self.now.name.inputs) pass.new.held.seen }
+        ensures turn { turn_after self.now.name.inputs pass.new.held.seen pass.new.held.number ≡ Some result }
         ensures last { pass.new.last ≡ result }
         ensures rests { has_ended pass.old.last.status ≡ true → pass.new ≡ pass.old }
         ensures goes_on { has_ended pass.old.last.status ≡ false →
@@ -153,11 +177,11 @@ impl<W: World> Process<W> {
     /// Makes the same turn. It answers nothing, since the pass then has it as its last one.
     pub fn make_turn<R: Wait>(&self, rt: &R, pass: &mut ProcessPass<W>, proposal: Option<&Advance>)
         requires ours { IsPassOf self.now pass.old }
-        requires proposal { IfSome proposal (λ a. a.now ≡ advanced self.now.name.image.text a.now.before) }
+        requires proposal { IfSome proposal (λ a. a.now ≡ advanced self.now.name.inputs.image.text a.now.before) }
         ensures ours { IsPassOf self.now pass.new }
         ensures number { pass.new.held.number ≡ pass.old.held.number }
-        ensures legal { IsLegal (start self.now.name) pass.new.held.seen }
-        ensures turn { turn_after self.now.name pass.new.held.seen pass.new.held.number ≡ Some pass.new.last }
+        ensures legal { IsLegal (start self.now.name.inputs) pass.new.held.seen }
+        ensures turn { turn_after self.now.name.inputs pass.new.held.seen pass.new.held.number ≡ Some pass.new.last }
         ensures rests { has_ended pass.old.last.status ≡ true → pass.new ≡ pass.old }
         ensures goes_on { has_ended pass.old.last.status ≡ false →
             GoesOn pass.old.held.number pass.old.held.seen pass.new.held.seen }
@@ -168,9 +192,8 @@ impl<W: World> Process<W> {
         if pass.last().has_ended() {
             return;
         }
-        if let Some(mut slip) = pass.slip.take() {
-            slip.fill(&self.text, proposal);
-            pass.slip = Some(take_turn(&self.gate, rt, &mut pass.pass, slip));
+        if let Some(last) = pass.last.take() {
+            pass.last = Some(take_turn(&self.gate, rt, &mut pass.pass, proposal, last));
         }
     }
 
@@ -192,19 +215,23 @@ impl<W: World> Process<W> {
     /// The kernel's steps are a legal history, which begins with what each pass had seen, has no further step
     /// of that pass's thread, and has at least as many steps as the pass had noted. Where the last turn of
     /// each pass ended its thread, the history is complete. The steps that were kept and the room that is
-    /// left are together as many as the threads could make at the start.
+    /// left are together the room at the start.
     pub fn close(self, passes: ProcessPasses<W>) -> Kernel<W>
         requires { AreAllOf self passes.items }
-        ensures inputs { result.inputs ≡ self.name }
-        ensures legal { IsLegal (start self.name) result.steps }
+        ensures inputs { result.inputs ≡ self.name.inputs }
+        ensures legal { IsLegal (start self.name.inputs) result.steps }
         ensures seen { All (λ p. Knows result.steps p.held.number p.held.seen) passes.items }
         ensures noted { All (λ p. p.held.noted ≤ length result.steps) passes.items }
-        ensures whole { length result.steps + result.room ≡ work (start self.name) }
+        ensures whole { length result.steps + result.room ≡ self.name.room }
         ensures turns { All (λ p. kernels.turn result p.held.number ≡ Some p.last) passes.items }
         ensures complete { All (λ p. has_ended p.last.status ≡ true) passes.items →
-            IsComplete (start self.name) result.steps }
+            IsComplete (start self.name.inputs) result.steps }
     {
-        let Process { gate, text: _ } = self;
+        let Process {
+            gate,
+            text: _,
+            threads: _,
+        } = self;
         let kernel = gate.close(passes).into_kernel();
         kernel.was_opened();
         kernel

@@ -1,2 +1,1 @@
-pub mod Visiting
-pub mod Logs
+pub mod Turning

@@ -1,9 +1,4 @@
 pub use Rattle.process_core.specs.Running
 pub use Rattle.kernel_core.specs.Histories
 pub use Rattle.kernel_core.specs.Machine
-pub use Rattle.kernel_core.specs.Runs
-pub use Rattle.kernel_core.specs.Start
-pub use Rattle.kernel_core.specs.Step
-pub mod Coding
-pub mod Growth
-pub mod Visits
+pub mod Turned

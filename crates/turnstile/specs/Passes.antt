@@ -51,14 +51,26 @@ module _ {N : Type 0} where
 
   -- the pass that a seat not made yet will be
   abbrev pub fresh_pass : TableId → N → ℕ → Held N
-  fresh_pass table name number = record { table = table; name = Some name; made = 0; number = number; seen = [];
-      noted = 0 }
+  fresh_pass table name number = record {
+    table = table;
+    name = Some name;
+    made = 0;
+    number = number;
+    seen = [];
+    noted = 0;
+  }
 
   module _ {S : Type 0} where
     -- what contracts see of a pass with this seat
     abbrev pub held_of : Seat (Option S) (View N) → Held N
-    held_of seat = record { table = seat.table_id; name = seat.me.0.name; made = seat.me.0.made;
-        number = seat.me.0.number; seen = seat.me.0.seen; noted = seat.me.0.noted }
+    held_of seat = record {
+      table = seat.table_id;
+      name = seat.me.0.name;
+      made = seat.me.0.made;
+      number = seat.me.0.number;
+      seen = seat.me.0.seen;
+      noted = seat.me.0.noted;
+    }
 
     -- between two calls the seat has no ticket and holds no slot
     abbrev pub IsAtRest : ℕ → Seat (Option S) (View N) → Type 0

@@ -46,7 +46,7 @@ module _ {N : Type 0} where
   -- ticket was drawn and is yet to be served, at its turn it is the next and has seen all; the first seat
   -- knows how many were made, and those that it joined have numbers that differ
   pub record Fits (name : N) (next : ℕ) (past : List ℕ) (views : List (View N)) (seat : ℕ)
-        (view : View N) : Type 0 where
+      (view : View N) : Type 0 where
     pub named : view.name ≡ Some name
     pub number : view.number ≡ seat
     pub knows : Knows past view.number view.seen
@@ -64,10 +64,10 @@ module _ {N : Type 0} where
     pub few : length views ≤ 16
     pub first : (view : View N) → Sits views 0 view → view.stage ≢ Spent
     pub each : (seat : ℕ) (view : View N) → Sits views seat view → view.stage ≢ Spent →
-          Fits name next past views seat view
+        Fits name next past views seat view
     pub drawn : serving + sum_by (λ view. tickets view.stage) views ≡ next
     pub apart : (i j t : ℕ) (v w : View N) → Sits views i v → Sits views j w → HasTicket v.stage t →
-          HasTicket w.stage t → i ≡ j
+        HasTicket w.stage t → i ≡ j
     pub unmade : (number : ℕ) → length views ≤ number → times number past ≡ 0
 
 module _ {S N : Type 0} where

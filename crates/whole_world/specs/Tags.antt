@@ -22,7 +22,7 @@ page_tags value pages = flat_map (λ page. tag_of (value page)) pages
 unfoldable pub tags_of_rows : List (Name × ContextRow) → List (Name × GroupRow) → List Tag
 tags_of_rows contexts groups =
     flat_map (λ row. page_tags own_value row.1.pages.items) contexts
-        ++ flat_map (λ row. page_tags (λ v. v) row.1.pages.items) groups
+    ++ flat_map (λ row. page_tags (λ v. v) row.1.pages.items) groups
 
 -- the tags of a row
 abbrev pub row_tags : Row → List Tag

@@ -9,7 +9,7 @@ pub returns-in-Ok-clause-ended : goal.returns-in-Ok-clause-ended
 unfolding after_debug_schedule
 returns-in-Ok-clause-ended g c =
     reads_on IsText _ _ _ _ _ _ _ _ _ _ _ c.in-Ok.ensures.reads c.script_in.ensures.same
-    (c.write_work.ensures.text (works.Debugging (inputs_of c.args.image.now [] c.args.settings.now) c.args.schedule.now _) _ c.debug_text.ensures)
+    (c.write_work.ensures (works.Debugging (inputs_of c.args.image.now [] c.args.settings.now) c.args.schedule.now _) _ c.debug_text.ensures)
 
 pub returns-in-Ok-clause-fetches : goal.returns-in-Ok-clause-fetches
 unfolding after_debug_schedule

@@ -7,7 +7,7 @@ use Rattle.lwcrun_modes.proofs.monitoring.monitor_image.Goals as goal
 pub returns-in-Ok-clause-ended : goal.returns-in-Ok-clause-ended
 unfolding after_monitor_image
 returns-in-Ok-clause-ended g c =
-    reads_on IsText _ _ _ _ _ _ _ _ _ _ _ (rw c.thread_count.ensures at c.in-Ok.ensures.reads) c.schedule_in.ensures.same (c.write_work.ensures.text _ _ c.monitor_replay.ensures)
+    reads_on IsText _ _ _ _ _ _ _ _ _ _ _ (rw c.thread_count.ensures at c.in-Ok.ensures.reads) c.schedule_in.ensures.same (c.write_work.ensures _ _ c.monitor_replay.ensures)
 
 pub returns-in-Ok-clause-fetches : goal.returns-in-Ok-clause-fetches
 unfolding after_monitor_image

@@ -11,7 +11,7 @@ unfolding after_replay_schedule
 returns-in-None-clause-ended g c =
     let none : c.of-requests.result ≡ [] = c.of-requests.ensures ∙ c.new.ensures.items in
     let text = subst (λ (r : List (List ℕ)). IfOk c.replay_text.result (λ text. text.items ≡ report_of_schedule (inputs_of c.args.image.now r c.args.settings.now) c.args.schedule.now)) none c.replay_text.ensures in
-    rw c.in-None.is (c.write_work.ensures.text (works.Replaying (inputs_of c.args.image.now [] c.args.settings.now) c.args.schedule.now) _ text)
+    rw c.in-None.is (c.write_work.ensures (works.Replaying (inputs_of c.args.image.now [] c.args.settings.now) c.args.schedule.now) _ text)
 
 pub returns-in-None-clause-fetches : goal.returns-in-None-clause-fetches
 unfolding after_replay_schedule
@@ -20,7 +20,7 @@ returns-in-None-clause-fetches g c = rw c.in-None.is (nothing_fetched _ refl)
 pub returns-in-Ok-clause-ended : goal.returns-in-Ok-clause-ended
 unfolding after_replay_schedule
 returns-in-Ok-clause-ended g c =
-    rw c.in-Some.is (reads_on IsText _ _ _ _ _ _ _ _ _ _ _ c.in-Ok.ensures.reads c.requests_in.ensures.same (c.write_work-in-Ok.ensures.text (works.Replaying (inputs_of c.args.image.now c.in-Ok.requests c.args.settings.now) c.args.schedule.now) _ c.replay_text-in-Ok.ensures))
+    rw c.in-Some.is (reads_on IsText _ _ _ _ _ _ _ _ _ _ _ c.in-Ok.ensures.reads c.requests_in.ensures.same (c.write_work-in-Ok.ensures (works.Replaying (inputs_of c.args.image.now c.in-Ok.requests c.args.settings.now) c.args.schedule.now) _ c.replay_text-in-Ok.ensures))
 
 pub returns-in-Ok-clause-fetches : goal.returns-in-Ok-clause-fetches
 unfolding after_replay_schedule

@@ -8,4 +8,4 @@ returns g c =
     let made = c.in_ok-kernel.kernel in
     let complete = c.in_ok-kernel.ensures.complete in
     IfOk-weaker c.report-text.result _ _ (λ text exact.
-    (made.steps, complete, text_is made c.args.process.name made.steps _ c.in_ok-kernel.ensures.inputs (sym complete.legal) exact, c.in_ok-kernel.ensures.visits)) c.report-text.ensures.exact
+    (made.steps, complete, text_is made c.args.process.name.inputs made.steps _ c.in_ok-kernel.ensures.inputs (sym complete.legal) exact)) c.report-text.ensures.exact

@@ -1,13 +1,11 @@
-use Rattle.std.proofs.Common.{◌≡◌, ◌≤◌, ◌*◌, ◌∙◌, IfOk, List, [], ℕ, length, map, refl, subst, arith}
+use Rattle.std.proofs.Common.{◌≡◌, ◌≤◌, ◌*◌, ◌∙◌, IfOk, List, [], ℕ, length, refl, subst, arith}
 use Rattle.std.proofs.Math.Nat.{mul-le-mul_left, mul-le-mul_right}
 use Rattle.lwc_base.specs.declared.limits.TheConstants.{MOST_BUDGET, MOST_IMAGE_BYTES, MOST_THREADS}
-use Rattle.lwcrun_modes.specs.Works.{HaveVisited, IsText, inputs_of, run_plan}
+use Rattle.lwcrun_modes.specs.Works.{IsText, inputs_of, run_plan}
 use Rattle.lwcrun_modes.specs.Works as works
-use Rattle.lwcrun_modes.specs.Plans as plans
-use Rattle.guest_image.specs.declared.image.Image.{Image}
 use Rattle.kernel_core.proofs.Others.{work_at_start}
 use Rattle.lwcrun_modes.proofs.Fetches.{nothing_fetched}
-use Rattle.lwcrun_modes.proofs.Follows.{comes_on, fetches_on, fetches_stop, reads_on, stops_reading}
+use Rattle.lwcrun_modes.proofs.Follows.{fetches_on, fetches_stop, reads_on, stops_reading}
 use Rattle.lwcrun_modes.proofs.running.run.Goals as goal
 
 pub history_text-requires-clause-few : goal.history_text-requires-clause-few
@@ -18,18 +16,12 @@ history_text-requires-clause-few g c κs within =
     let work = work_at_start (inputs_of c.in-Ok.image c.of-requests.result c.args.settings.now) c.requires.settings.job in
     omega (arith, work, threads, steps)
 
-pub history_text-requires-clause-leave : goal.history_text-requires-clause-leave
-unfolding run_plan
-history_text-requires-clause-leave g c κs within =
-    c.requires.leave (comes_on IsText _ _ MOST_IMAGE_BYTES (λ (x : Image). plans.Write (works.Running (inputs_of x [] c.args.settings.now))) _ _ _ c.in-Ok.ensures.reads c.fitting_image_in.ensures.same (works.Running (inputs_of c.in-Ok.image [] c.args.settings.now), refl))
-
 pub returns-in-Ok-clause-ended : goal.returns-in-Ok-clause-ended
 unfolding run_plan
 returns-in-Ok-clause-ended g c =
-    let visits = g.G.Gate.visits in
     let none : c.of-requests.result ≡ [] = c.of-requests.ensures ∙ c.new.ensures.items in
-    let text = subst (λ (r : List (List ℕ)). IfOk c.history_text.result (λ text. HaveVisited (map visits c.args.logs.now.items) (map visits c.history_text.new.logs.items) (works.Running (inputs_of c.in-Ok.image r c.args.settings.now)) text.items)) none c.history_text.ensures in
-    reads_on (HaveVisited _ _) _ _ _ _ _ _ _ _ _ _ _ c.in-Ok.ensures.reads c.fitting_image_in.ensures.same (c.write_work.ensures.visits _ _ (works.Running (inputs_of c.in-Ok.image [] c.args.settings.now)) _ text)
+    let text = subst (λ (r : List (List ℕ)). IfOk c.history_text.result (λ text. IsText (works.Running (inputs_of c.in-Ok.image r c.args.settings.now)) text.items)) none c.history_text.ensures in
+    reads_on IsText _ _ _ _ _ _ _ _ _ _ _ c.in-Ok.ensures.reads c.fitting_image_in.ensures.same (c.write_work.ensures (works.Running (inputs_of c.in-Ok.image [] c.args.settings.now)) _ text)
 
 pub returns-in-Ok-clause-fetches : goal.returns-in-Ok-clause-fetches
 unfolding run_plan
@@ -38,7 +30,7 @@ returns-in-Ok-clause-fetches g c =
 
 pub returns-in-Err-clause-ended : goal.returns-in-Err-clause-ended
 unfolding run_plan
-returns-in-Err-clause-ended g c = stops_reading (HaveVisited _ _) _ _ _ _ _ _ c.in-Err.ensures.reads refl
+returns-in-Err-clause-ended g c = stops_reading IsText _ _ _ _ _ _ c.in-Err.ensures.reads refl
 
 pub returns-in-Err-clause-fetches : goal.returns-in-Err-clause-fetches
 unfolding run_plan

@@ -1,18 +1,14 @@
 use Rattle.std.proofs.Common.{refl}
 use Rattle.lwc_base.specs.declared.limits.TheConstants.{MOST_IMAGE_BYTES}
 use Rattle.lwcrun_modes.specs.Works as works
-use Rattle.lwcrun_modes.specs.Works.{HaveVisited, IsText, after_server, serve_plan}
-use Rattle.lwcrun_modes.proofs.Follows.{comes_on, fetches_on, fetches_stop, reads_on, stops_reading}
+use Rattle.lwcrun_modes.specs.Works.{IsText, after_server, serve_plan}
+use Rattle.lwcrun_modes.proofs.Follows.{fetches_on, fetches_stop, reads_on, stops_reading}
 use Rattle.lwcrun_modes.proofs.running.serve.Goals as goal
-
-pub serve_image-requires-clause-leave : goal.serve_image-requires-clause-leave
-unfolding serve_plan
-serve_image-requires-clause-leave g c κs within comes = c.requires.leave (comes_on IsText _ _ MOST_IMAGE_BYTES (after_server works.Running c.args.requests.now c.args.settings.now) _ _ _ c.in-Ok.ensures.reads c.fitting_image_in.ensures.same comes)
 
 pub returns-in-Ok-clause-ended : goal.returns-in-Ok-clause-ended
 unfolding serve_plan
 returns-in-Ok-clause-ended g c =
-    reads_on (HaveVisited _ _) _ _ _ _ _ _ _ _ _ _ _ c.in-Ok.ensures.reads c.fitting_image_in.ensures.same c.serve_image.ensures.ended
+    reads_on IsText _ _ _ _ _ _ _ _ _ _ _ c.in-Ok.ensures.reads c.fitting_image_in.ensures.same c.serve_image.ensures.ended
 
 pub returns-in-Ok-clause-fetches : goal.returns-in-Ok-clause-fetches
 unfolding serve_plan
@@ -21,7 +17,7 @@ returns-in-Ok-clause-fetches g c =
 
 pub returns-in-Err-clause-ended : goal.returns-in-Err-clause-ended
 unfolding serve_plan
-returns-in-Err-clause-ended g c = stops_reading (HaveVisited _ _) _ _ _ _ _ _ c.in-Err.ensures.reads refl
+returns-in-Err-clause-ended g c = stops_reading IsText _ _ _ _ _ _ c.in-Err.ensures.reads refl
 
 pub returns-in-Err-clause-fetches : goal.returns-in-Err-clause-fetches
 unfolding serve_plan

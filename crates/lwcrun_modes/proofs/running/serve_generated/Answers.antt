@@ -2,6 +2,6 @@ use Rattle.lwcrun_modes.specs.Works as works
 use Rattle.lwcrun_modes.specs.Works.{gen_plan}
 use Rattle.lwcrun_modes.proofs.running.serve_generated.Goals as goal
 
-pub returns-clause-ended : goal.returns-clause-ended
+pub returns : goal.returns
 unfolding gen_plan
-returns-clause-ended g c files = c.write_work.ensures.visits _ _ (works.Generating c.args.number) files c.summary_text.ensures
+returns g c files = c.write_work.ensures (works.Generating c.args.number) files c.summary_text.ensures

@@ -1,12 +1,11 @@
 use Rattle.std.proofs.Common.{◌≡◌, ℕ, List, refl, ap, arith}
 use Rattle.lwc_base.specs.declared.limits.TheConstants.{MOST_REQUEST_FILE_BYTES}
-use Rattle.lwcrun_modes.specs.Works.{HaveVisited, IsText, after_server, inputs_of}
+use Rattle.lwcrun_modes.specs.Works.{IsText, after_server, inputs_of}
 use Rattle.lwcrun_modes.specs.Works as works
-use Rattle.lwcrun_modes.specs.Plans as plans
 use Rattle.lwcrun_modes.specs.Inputs.{worker_count}
 use Rattle.kernel_core.proofs.Others.{work_at_serve}
 use Rattle.lwcrun_modes.proofs.Fetches.{nothing_fetched}
-use Rattle.lwcrun_modes.proofs.Follows.{comes_on, fetches_on, fetches_stop, reads_on, stops_reading}
+use Rattle.lwcrun_modes.proofs.Follows.{fetches_on, fetches_stop, reads_on, stops_reading}
 use Rattle.lwcrun_modes.proofs.running.serve_image.Goals as goal
 
 pub history_text-requires-clause-few : goal.history_text-requires-clause-few
@@ -15,15 +14,10 @@ history_text-requires-clause-few g c κs within =
     let work = work_at_serve (inputs_of c.args.image.now c.in-Ok.requests c.args.settings.now) c.requires.settings.workers c.requires.settings.job in
     omega (arith, work, workers, c.in-Ok.ensures.few)
 
-pub history_text-requires-clause-leave : goal.history_text-requires-clause-leave
-unfolding after_server
-history_text-requires-clause-leave g c κs within =
-    c.requires.leave (comes_on IsText _ _ MOST_REQUEST_FILE_BYTES (λ (asked : List (List ℕ)). plans.Write (works.Running (inputs_of c.args.image.now asked c.args.settings.now))) _ _ _ c.in-Ok.ensures.reads c.bounded_requests_in.ensures.same (works.Running (inputs_of c.args.image.now c.in-Ok.requests c.args.settings.now), refl))
-
 pub returns-in-Ok-clause-ended : goal.returns-in-Ok-clause-ended
 unfolding after_server
 returns-in-Ok-clause-ended g c =
-    reads_on (HaveVisited _ _) _ _ _ _ _ _ _ _ _ _ _ c.in-Ok.ensures.reads c.bounded_requests_in.ensures.same (c.write_work.ensures.visits _ _ _ _ c.history_text.ensures)
+    reads_on IsText _ _ _ _ _ _ _ _ _ _ _ c.in-Ok.ensures.reads c.bounded_requests_in.ensures.same (c.write_work.ensures _ _ c.history_text.ensures)
 
 pub returns-in-Ok-clause-fetches : goal.returns-in-Ok-clause-fetches
 unfolding after_server
@@ -32,7 +26,7 @@ returns-in-Ok-clause-fetches g c =
 
 pub returns-in-Err-clause-ended : goal.returns-in-Err-clause-ended
 unfolding after_server
-returns-in-Err-clause-ended g c = stops_reading (HaveVisited _ _) _ _ _ _ _ _ c.in-Err.ensures.reads refl
+returns-in-Err-clause-ended g c = stops_reading IsText _ _ _ _ _ _ c.in-Err.ensures.reads refl
 
 pub returns-in-Err-clause-fetches : goal.returns-in-Err-clause-fetches
 unfolding after_server

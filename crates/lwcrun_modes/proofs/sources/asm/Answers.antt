@@ -7,7 +7,7 @@ use Rattle.lwcrun_modes.proofs.sources.asm.Goals as goal
 pub returns-in-Ok-clause-ended : goal.returns-in-Ok-clause-ended
 unfolding asm_plan
 returns-in-Ok-clause-ended g c =
-    reads_on IsText _ _ _ _ _ _ _ _ _ _ _ c.in-Ok.ensures.reads c.source_in.ensures.same (c.write_work.ensures.text _ _ c.write_image.ensures)
+    reads_on IsText _ _ _ _ _ _ _ _ _ _ _ c.in-Ok.ensures.reads c.source_in.ensures.same (c.write_work.ensures _ _ c.write_image.ensures)
 
 pub returns-in-Ok-clause-fetches : goal.returns-in-Ok-clause-fetches
 unfolding asm_plan

@@ -7,7 +7,7 @@ use Rattle.lwcrun_modes.proofs.sources.dis.Goals as goal
 pub returns-in-Ok-clause-ended : goal.returns-in-Ok-clause-ended
 unfolding dis_plan
 returns-in-Ok-clause-ended g c =
-    reads_on IsText _ _ _ _ _ _ _ _ _ _ _ c.in-Ok.ensures.reads c.image_in.ensures.same (c.write_work.ensures.text _ _ c.disassemble.ensures.source)
+    reads_on IsText _ _ _ _ _ _ _ _ _ _ _ c.in-Ok.ensures.reads c.image_in.ensures.same (c.write_work.ensures _ _ c.disassemble.ensures.source)
 
 pub returns-in-Ok-clause-fetches : goal.returns-in-Ok-clause-fetches
 unfolding dis_plan

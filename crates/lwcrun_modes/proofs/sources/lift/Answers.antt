@@ -11,7 +11,7 @@ pub returns-in-Ok-clause-ended : goal.returns-in-Ok-clause-ended
 unfolding lift_plan
 returns-in-Ok-clause-ended g c =
     reads_on IsText _ _ _ _ _ _ _ _ _ _ _ c.in-Ok.ensures.reads c.image_in.ensures.same
-    (c.write_work.ensures.text _ _ (subst (λ (x : Image). IfOk c.write_image.result (λ bytes. bytes.items ≡ spelling x)) c.lift.ensures c.write_image.ensures))
+    (c.write_work.ensures _ _ (subst (λ (x : Image). IfOk c.write_image.result (λ bytes. bytes.items ≡ spelling x)) c.lift.ensures c.write_image.ensures))
 
 pub returns-in-Ok-clause-fetches : goal.returns-in-Ok-clause-fetches
 unfolding lift_plan

@@ -1,19 +1,15 @@
 use Rattle.std.proofs.Common.{inl, refl}
 use Rattle.lwc_base.specs.declared.limits.TheConstants.{MOST_IMAGE_BYTES}
 use Rattle.lwcrun_modes.specs.Works as works
-use Rattle.lwcrun_modes.specs.Works.{HaveVisited, IsText, after_server, stream_plan}
-use Rattle.lwcrun_modes.proofs.Follows.{comes_on, fetches_on, fetches_stop, stops_reading}
+use Rattle.lwcrun_modes.specs.Works.{IsText, after_server, stream_plan}
+use Rattle.lwcrun_modes.proofs.Follows.{fetches_on, fetches_stop, stops_reading}
 use Rattle.lwcrun_modes.proofs.Streams.{streams_on}
 use Rattle.lwcrun_modes.proofs.streaming.stream.Goals as goal
-
-pub stream_image-requires-clause-leave : goal.stream_image-requires-clause-leave
-unfolding stream_plan
-stream_image-requires-clause-leave g c κs within comes = c.requires.leave (comes_on IsText _ _ MOST_IMAGE_BYTES (after_server works.Streaming c.args.requests.now c.args.settings.now) _ _ _ c.in-Ok.ensures.reads c.fitting_image_in.ensures.same comes)
 
 pub returns-in-Ok-clause-ended : goal.returns-in-Ok-clause-ended
 unfolding stream_plan
 returns-in-Ok-clause-ended g c =
-    streams_on _ _ _ _ _ _ _ _ _ _ _ _ _ c.in-Ok.ensures.reads c.fitting_image_in.ensures.same c.stream_image.ensures.ended
+    streams_on _ _ _ _ _ _ _ _ _ _ _ c.in-Ok.ensures.reads c.fitting_image_in.ensures.same c.stream_image.ensures.ended
 
 pub returns-in-Ok-clause-fetches : goal.returns-in-Ok-clause-fetches
 unfolding stream_plan
@@ -22,7 +18,7 @@ returns-in-Ok-clause-fetches g c =
 
 pub returns-in-Err-clause-ended : goal.returns-in-Err-clause-ended
 unfolding stream_plan
-returns-in-Err-clause-ended g c = inl (stops_reading (HaveVisited _ _) _ _ _ _ _ _ c.in-Err.ensures.reads refl)
+returns-in-Err-clause-ended g c = inl (stops_reading IsText _ _ _ _ _ _ c.in-Err.ensures.reads refl)
 
 pub returns-in-Err-clause-fetches : goal.returns-in-Err-clause-fetches
 unfolding stream_plan

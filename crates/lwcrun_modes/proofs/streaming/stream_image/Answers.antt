@@ -1,12 +1,11 @@
 use Rattle.std.proofs.Common.{◌≡◌, ℕ, List, inl, refl, ap, arith}
 use Rattle.lwc_base.specs.declared.limits.TheConstants.{MOST_REQUEST_FILE_BYTES}
-use Rattle.lwcrun_modes.specs.Works.{HaveVisited, IsText, after_server, inputs_of}
+use Rattle.lwcrun_modes.specs.Works.{IsText, after_server, inputs_of}
 use Rattle.lwcrun_modes.specs.Works as works
-use Rattle.lwcrun_modes.specs.Plans as plans
 use Rattle.lwcrun_modes.specs.Inputs.{worker_count}
 use Rattle.kernel_core.proofs.Others.{work_at_serve}
 use Rattle.lwcrun_modes.proofs.Fetches.{nothing_fetched}
-use Rattle.lwcrun_modes.proofs.Follows.{comes_on, fetches_on, fetches_stop, stops_reading}
+use Rattle.lwcrun_modes.proofs.Follows.{fetches_on, fetches_stop, stops_reading}
 use Rattle.lwcrun_modes.proofs.Streams.{streams_on}
 use Rattle.lwcrun_modes.proofs.streaming.stream_image.Goals as goal
 
@@ -16,15 +15,10 @@ stream_requests-requires-clause-few g c κs within =
     let work = work_at_serve (inputs_of c.args.image.now c.in-Ok.requests c.args.settings.now) c.requires.settings.workers c.requires.settings.job in
     omega (arith, work, workers, c.in-Ok.ensures.few)
 
-pub stream_requests-requires-clause-leave : goal.stream_requests-requires-clause-leave
-unfolding after_server
-stream_requests-requires-clause-leave g c κs within =
-    c.requires.leave (comes_on IsText _ _ MOST_REQUEST_FILE_BYTES (λ (asked : List (List ℕ)). plans.Write (works.Streaming (inputs_of c.args.image.now asked c.args.settings.now))) _ _ _ c.in-Ok.ensures.reads c.bounded_requests_in.ensures.same (works.Streaming (inputs_of c.args.image.now c.in-Ok.requests c.args.settings.now), refl))
-
 pub returns-in-Ok-clause-ended : goal.returns-in-Ok-clause-ended
 unfolding after_server
 returns-in-Ok-clause-ended g c =
-    streams_on _ _ _ _ _ _ _ _ _ _ _ _ _ c.in-Ok.ensures.reads c.bounded_requests_in.ensures.same (c.stream_requests.ensures.ended _)
+    streams_on _ _ _ _ _ _ _ _ _ _ _ c.in-Ok.ensures.reads c.bounded_requests_in.ensures.same (c.stream_requests.ensures _)
 
 pub returns-in-Ok-clause-fetches : goal.returns-in-Ok-clause-fetches
 unfolding after_server
@@ -33,7 +27,7 @@ returns-in-Ok-clause-fetches g c =
 
 pub returns-in-Err-clause-ended : goal.returns-in-Err-clause-ended
 unfolding after_server
-returns-in-Err-clause-ended g c = inl (stops_reading (HaveVisited _ _) _ _ _ _ _ _ c.in-Err.ensures.reads refl)
+returns-in-Err-clause-ended g c = inl (stops_reading IsText _ _ _ _ _ _ c.in-Err.ensures.reads refl)
 
 pub returns-in-Err-clause-fetches : goal.returns-in-Err-clause-fetches
 unfolding after_server

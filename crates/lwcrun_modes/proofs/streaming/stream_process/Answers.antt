@@ -8,24 +8,24 @@ use Rattle.lwcrun_modes.proofs.Streams.{stream_cut, stream_done}
 use Rattle.lwcrun_modes.specs.Ends.{Ended}
 use Rattle.lwcrun_modes.proofs.streaming.stream_process.Goals as goal
 
-pub returns-in_default-clause-ended : goal.returns-in_default-clause-ended
+pub returns-in_default : goal.returns-in_default
 unfolding Ended
-returns-in_default-clause-ended g c files = inl c.in_default.ensures.unwritten
+returns-in_default g c files = inl c.in_default.ensures.unwritten
 
-pub returns-then-failed-clause-ended : goal.returns-then-failed-clause-ended
+pub returns-then-failed : goal.returns-then-failed
 unfolding stream_text
-returns-then-failed-clause-ended g c files =
-    let inputs = c.args.process.name in
+returns-then-failed g c files =
+    let inputs = c.args.process.name.inputs in
     let steps = c.in-Ok.kernel.steps in
     let seen = g.O.Sink.seen in
     let part = still_part c.in-Ok.failed (seen c.args.out.now) (seen c.stream_replies.new.out) (replies_text (run (start inputs) steps)) (rest_after inputs steps) c.if-failed.true c.in-Ok.ensures.written in
     let cut = subst (λ b. IsWritten b (seen c.args.out.now) (seen c.stream_replies.new.out) (stream_text inputs steps)) c.if-failed.true part in
-    stream_cut files _ _ inputs steps c.in-Ok.ensures.complete _ _ c.in-Ok.ensures.visits cut
+    stream_cut files _ _ inputs steps c.in-Ok.ensures.complete cut
 
-pub returns-in-Ok-write_whole-clause-ended : goal.returns-in-Ok-write_whole-clause-ended
+pub returns-in-Ok-write_whole : goal.returns-in-Ok-write_whole
 unfolding stream_text
-returns-in-Ok-write_whole-clause-ended g c files =
-    let inputs = c.args.process.name in
+returns-in-Ok-write_whole g c files =
+    let inputs = c.args.process.name.inputs in
     let steps = c.in-Ok.kernel.steps in
     let seen = g.O.Sink.seen in
     let replies = replies_text (run (start inputs) steps) in
@@ -34,12 +34,12 @@ returns-in-Ok-write_whole-clause-ended g c files =
     c.write_whole.ensures.whole c.write_whole.ensures.part c.write_whole.ensures.no_fault c.write_whole.ensures.cause c.in-Ok.ensures.written in
     let text = subst (λ l. IsWritten (is_err c.write_whole.result) (seen c.args.out.now) (seen c.write_whole.new.out) (replies ++ l)) line all in
     let whole = subst (λ r. IsWritten (is_err r) (seen c.args.out.now) (seen c.write_whole.new.out) (stream_text inputs steps)) c.in-Ok-write_whole.is text in
-    stream_done files _ _ inputs steps c.in-Ok.ensures.complete _ _ c.in-Ok.ensures.visits whole
+    stream_done files _ _ inputs steps c.in-Ok.ensures.complete whole
 
-pub returns-clause-ended : goal.returns-clause-ended
+pub returns : goal.returns
 unfolding stream_text
-returns-clause-ended g c files =
-    let inputs = c.args.process.name in
+returns g c files =
+    let inputs = c.args.process.name.inputs in
     let steps = c.in-Ok.kernel.steps in
     let seen = g.O.Sink.seen in
     let replies = replies_text (run (start inputs) steps) in
@@ -48,4 +48,4 @@ returns-clause-ended g c files =
     c.write_whole.ensures.whole c.write_whole.ensures.part c.write_whole.ensures.no_fault c.write_whole.ensures.cause c.in-Ok.ensures.written in
     let text = subst (λ l. IsWritten (is_err c.write_whole.result) (seen c.args.out.now) (seen c.write_whole.new.out) (replies ++ l)) line all in
     let cut = subst (λ r. IsWritten (is_err r) (seen c.args.out.now) (seen c.write_whole.new.out) (stream_text inputs steps)) c.in-Err.is text in
-    stream_cut files _ _ inputs steps c.in-Ok.ensures.complete _ _ c.in-Ok.ensures.visits cut
+    stream_cut files _ _ inputs steps c.in-Ok.ensures.complete cut

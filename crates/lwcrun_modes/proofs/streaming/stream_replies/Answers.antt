@@ -3,12 +3,11 @@ use Rattle.kernel_core.specs.Histories.{IsComplete}
 use Rattle.kernel_core.specs.Start.{start}
 use Rattle.lwc_stream.specs.Replies.{AreShown, IsWritten, finished_by}
 use Rattle.lwc_stream.proofs.Recorded.{shows_each_reply}
-use Rattle.thread_carrier.proofs.Logs.{whole_visits}
 use Rattle.lwcrun_modes.proofs.streaming.stream_replies.Goals as goal
 
 pub returns-clause-written : goal.returns-clause-written
 returns-clause-written g c =
-    let inputs = c.args.process.name in
+    let inputs = c.args.process.name.inputs in
     let stream = c.in_ok-failed.field-0 in
     let steps = c.close.result.steps in
     let complete : IsComplete (start inputs) steps = c.close.ensures.complete c.in_ok-failed.ensures.ended in
@@ -17,9 +16,3 @@ returns-clause-written g c =
     let lines =
     shows_each_reply inputs steps stream.passes.items shown.0 c.requires.serve.workers c.requires.can c.requires.serve.job complete c.close.ensures.seen c.in_ok-failed.ensures.all.every are in
     subst (IsWritten stream.failed (g.O.Sink.seen c.args.out.now) (g.O.Sink.seen c.stream_all.new.out)) lines shown.2
-
-pub returns-clause-visits : goal.returns-clause-visits
-returns-clause-visits g c =
-    c.in_ok-failed.ensures.visits
-    ∙ whole_visits c.args.process c.args.passes.items c.in_ok-failed.field-0.passes.items c.close.result.steps (map g.G.Gate.visits c.args.logs.now.items) c.requires.new c.in_ok-failed.ensures.numbers
-    c.in_ok-failed.ensures.all c.close.ensures.seen c.requires.can c.close.ensures.legal

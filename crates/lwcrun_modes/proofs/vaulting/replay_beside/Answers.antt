@@ -10,7 +10,7 @@ pub returns-in-Ok-clause-ended : goal.returns-in-Ok-clause-ended
 unfolding after_vault
 returns-in-Ok-clause-ended g c =
     reads_on IsText _ _ _ _ _ _ _ _ _ _ _ (rw c.thread_count.ensures at c.in-Ok.ensures.reads) c.schedule_in.ensures.same
-    (c.write_work.ensures.text (works.Replaying (beside (inputs_of c.args.image.now [] c.args.settings.now) c.args.vault.now) _) _ c.vault_text.ensures)
+    (c.write_work.ensures (works.Replaying (beside (inputs_of c.args.image.now [] c.args.settings.now) c.args.vault.now) _) _ c.vault_text.ensures)
 
 pub returns-in-Ok-clause-fetches : goal.returns-in-Ok-clause-fetches
 unfolding after_vault

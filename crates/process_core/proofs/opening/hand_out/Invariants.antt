@@ -6,7 +6,7 @@ use Rattle.process_core.proofs.opening.hand_out.Given as goal
 abbrev pub invariant-held : goal.invariant-held
 invariant-held g l = record {
   all : map (λ (p : Carried). p.held) l.passes.items ++ l.held.items ≡ l.fn.held.items;
-  turns : (i : ℕ) (q : Carried) → slice_get l.passes.items i ≡ Some q → turn_after l.gate.name [] i ≡ Some q.last;
+  turns : (i : ℕ) (q : Carried) → slice_get l.passes.items i ≡ Some q → turn_after l.gate.name.inputs [] i ≡ Some q.last;
   room : length l.passes.items + length l.held.items ≤ vec_capacity l.passes;
 }
 

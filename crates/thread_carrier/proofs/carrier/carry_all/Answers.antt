@@ -2,8 +2,7 @@ use denote.Param.Send.{sendable}
 use Rattle.std.proofs.Common.{◌∙◌, sym, ap, arith}
 use Rattle.process_core.proofs.Offers.{same_map}
 use Rattle.process_core.proofs.Sends.{carried_send, process_sync}
-use Rattle.thread_carrier.proofs.Logs.{each_grown, moved}
-use Rattle.thread_carrier.proofs.Visiting.{first_visits}
+use Rattle.thread_carrier.proofs.Turning.{all_zip, turned_there}
 use Rattle.thread_carrier.proofs.carrier.carry_all.Goals as goal
 
 pub for_each_mut-requires-send-T : goal.for_each_mut-requires-send-T
@@ -22,13 +21,10 @@ pub returns-clause-numbers : goal.returns-clause-numbers
 returns-clause-numbers g c =
     same_map (λ x. x.pass.held.number) _ _ (omega arith)
     (λ i d below. let r = (c.for_each_mut.ensures i d below).1 in
-    ap (λ x. x.pass.held.number) (sym r.left) ∙ (r.call.2 ∙ ap (λ x. x.pass.held.number) r.argument_is))
+    ap (λ x. x.pass.held.number) (sym r.left) ∙ (r.call.1 ∙ ap (λ x. x.pass.held.number) r.argument_is))
 
-pub returns-clause-visits : goal.returns-clause-visits
-returns-clause-visits g c =
-    let visits = g.G.Gate.visits in
-    each_grown (λ x. visits x.log) (λ x. x.pass) c.args.process.now.name _ _ (omega arith)
+pub returns-clause-turns : goal.returns-clause-turns
+returns-clause-turns g c =
+    all_zip _ _ _ (omega arith)
     (λ i d below. let r = (c.for_each_mut.ensures i d below).1 in
-    let name = c.args.process.now.name in
-    moved (λ x. visits x.log) (λ x. x.pass) name _ _ _ _ r.left r.argument_is
-    (first_visits name _ _ _ _ r.call.3 (ap (λ x. x.pass.held.seen) r.argument_is ∙ (c.requires.fresh i d below).0) r.call.2))
+    turned_there (λ x. x.pass) (λ x. x.turns) _ _ _ _ r.argument_is r.left r.call.3)

@@ -1,15 +1,12 @@
 use Rattle.std.proofs.Common.{◌≡◌, ◌≤◌, ◌+◌, ◌++◌, All, length, map, vec_capacity}
 use Rattle.thread_carrier.proofs.running.carriers_of.Given as goal
 
--- the carriers so far are those of the passes and the logs before the ones that are left
+-- the carriers so far are those of the passes before the ones that are left
 abbrev pub invariant-passes : goal.invariant-passes
 invariant-passes g l = record {
   all : map (λ c. c.pass) l.carriers.items ++ l.passes.items ≡ l.fn.passes.items;
-  logs : map (λ c. c.log) l.carriers.items ++ l.logs.items ≡ l.fn.logs.items;
   turns : All (λ c. c.turns ≡ 0) l.carriers.items;
   room : length l.carriers.items + length l.passes.items ≤ vec_capacity l.carriers;
-  enough : length l.passes.items ≤ length l.logs.items;
-  same : vec_capacity l.logs ≡ vec_capacity l.fn.logs;
 }
 
 abbrev pub decreases-passes : goal.decreases-passes

@@ -1,7 +1,7 @@
 use Rattle.std.proofs.Common.{◌≡◌, ◌<◌, ap, arith, subst}
 use Rattle.kernel_core.specs.Kernel.{History, machine_of, stepped}
 use Rattle.kernel_core.specs.Machine.{work}
-use Rattle.process_core.proofs.Stepping.{stepped_inputs, stepped_steps, stays_few, stays_legal, stays_whole}
+use Rattle.process_core.proofs.Stepping.{stepped_inputs, stepped_steps, stays_legal, stays_whole}
 use Rattle.process_core.proofs.guarded.Guarded.make_step.Goals as goal
 
 pub returns-clause-inputs : goal.returns-clause-inputs
@@ -27,7 +27,7 @@ invariant_of-self g c =
     record {
       legal = stays_legal h _ _ going step c.args.self.now.legal;
       room = omega (arith, done.room, room_same, less, c.args.self.now.room);
-      whole = stays_whole h _ _ going step (subst (λ (k : History). 0 < k.room) same done.some) c.args.self.now.whole;
-      few = stays_few h _ _ going step (subst (λ (k : History). 0 < k.room) same done.some) c.args.self.now.few;
+      whole = stays_whole h _ _ going step _ (subst (λ (k : History). 0 < k.room) same done.some) c.args.self.now.whole;
+      few = c.args.self.now.few;
       roomy = c.args.self.now.roomy;
     }

@@ -4,10 +4,10 @@ use denote.Param.Send.{sendable}
 use Rattle.std.proofs.Common.{◌≡◌, ◌+◌, ◌∙◌, ap, length, subst, sym}
 use Rattle.kernel_core.specs.Histories.{IsLegal}
 use Rattle.kernel_core.specs.Kernel.{History}
-use Rattle.kernel_core.specs.Machine.{work}
-use Rattle.kernel_core.specs.Start.{Inputs, start, thread_count}
+use Rattle.kernel_core.specs.Start.{start, thread_count}
 use Rattle.std.specs.Prelude.{All}
 use Rattle.process_core.specs.Running.{Carried}
+use Rattle.process_core.specs.declared.opened.Opened.{Opened}
 use Rattle.turnstile.specs.Past.{Knows}
 use Rattle.process_core.proofs.Completed.{all_held, completed, each_turn}
 use Rattle.turnstile.specs.Passes.{Lock}
@@ -22,8 +22,8 @@ close-requires-sync-S g c κs within = let s = c.type_bounds.sync-W in search (s
 
 pub close-requires-after_bounds : goal.close-requires-after_bounds
 close-requires-after_bounds g c κs within =
-    let seats = subst (λ (l : Lock Inputs). l.seats ≡ thread_count l.name) c.self.view_is c.self.invariant.1 in
-    subst (λ (l : Lock Inputs). gates.HoldAllOf (λ p. p.held) l c.args.passes.items) (sym c.self.view_is) (all_held c.args.self c.args.passes.items seats c.requires)
+    let seats = subst (λ (l : Lock Opened). l.seats ≡ thread_count l.name.inputs) c.self.view_is c.self.invariant.1 in
+    subst (λ (l : Lock Opened). gates.HoldAllOf (λ p. p.held) l c.args.passes.items) (sym c.self.view_is) (all_held c.args.self c.args.passes.items seats c.requires)
 
 pub returns-clause-seen : goal.returns-clause-seen
 returns-clause-seen g c =
@@ -31,19 +31,18 @@ returns-clause-seen g c =
 
 pub returns-clause-whole : goal.returns-clause-whole
 returns-clause-whole g c =
-    let same = c.into_kernel-kernel.ensures.kernel in
-    let name : c.into_kernel-kernel.result.inputs ≡ c.args.self.name = ap (λ (h : History). h.inputs) same ∙ (c.close.ensures.name ∙ ap (λ (l : Lock Inputs). l.name) c.self.view_is) in
-    subst (λ (h : History). length h.steps + h.room ≡ work (start h.inputs)) (sym same) c.close.result.whole ∙ ap (λ (i : Inputs). work (start i)) name
+    let room = ap (λ (o : Opened). o.room) (c.close.ensures.name ∙ ap (λ (l : Lock Opened). l.name) c.self.view_is) in
+    subst (λ (h : History). length h.steps + h.room ≡ c.args.self.name.room) (sym c.into_kernel-kernel.ensures.kernel) (c.close.result.whole ∙ room)
 
 pub returns-clause-turns : goal.returns-clause-turns
 returns-clause-turns g c =
     let k = c.into_kernel-kernel.result in
-    let same : k.inputs ≡ c.args.self.name = ap (λ (h : History). h.inputs) c.into_kernel-kernel.ensures.kernel ∙ (c.close.ensures.name ∙ ap (λ (l : Lock Inputs). l.name) c.self.view_is) in
+    let same : k.inputs ≡ c.args.self.name.inputs = ap (λ (h : History). h.inputs) c.into_kernel-kernel.ensures.kernel ∙ ap (λ (o : Opened). o.inputs) (c.close.ensures.name ∙ ap (λ (l : Lock Opened). l.name) c.self.view_is) in
     each_turn c.args.self c.args.passes.items k c.requires same (returns-clause-seen g c)
 
 pub returns-clause-complete : goal.returns-clause-complete
 returns-clause-complete g c ended =
     let k = c.into_kernel-kernel.result in
-    let same : k.inputs ≡ c.args.self.name = ap (λ (h : History). h.inputs) c.into_kernel-kernel.ensures.kernel ∙ (c.close.ensures.name ∙ ap (λ (l : Lock Inputs). l.name) c.self.view_is) in
+    let same : k.inputs ≡ c.args.self.name.inputs = ap (λ (h : History). h.inputs) c.into_kernel-kernel.ensures.kernel ∙ ap (λ (o : Opened). o.inputs) (c.close.ensures.name ∙ ap (λ (l : Lock Opened). l.name) c.self.view_is) in
     let legal = subst (λ (h : History). IsLegal (start h.inputs) h.steps) (sym c.into_kernel-kernel.ensures.kernel) c.close.result.legal in
     completed c.args.self c.args.passes.items k c.requires same (returns-clause-seen g c) c.was_opened.ensures legal ended
