@@ -1,6 +1,6 @@
 mod Lists
 pub mod Recorded
-mod Pieces
+mod QueueSteps
 mod Sent
 mod Serving
 mod Shown

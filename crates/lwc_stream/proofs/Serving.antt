@@ -1,16 +1,13 @@
 -- Lists of workers, before they serve and after.
-use Rattle.std.proofs.Common.{◌≡◌, ◌<◌, ◌++◌, ℕ, List, All, length, get_or, sym, ap, subst, ◌∙◌, arith}
+use Rattle.std.proofs.Common.{◌≡◌, ◌<◌, ℕ, List, All, length, get_or, sym, ap, subst, ◌∙◌, arith}
 use Rattle.kernel_core.specs.Start.{Inputs}
-use Rattle.lwc_stream.specs.Crews.{HasServed, HaveServed, IsFresh}
+use Rattle.lwc_stream.specs.Workers.{HasServed, HaveServed, IsFresh}
 use Rattle.lwc_stream.specs.Queues.{End}
 use Rattle.process_core.proofs.Offers.{same_map}
 use Rattle.process_core.specs.Running.{Carried}
-use Rattle.thread_carrier.proofs.Logs.{each_grown}
-use Rattle.thread_carrier.specs.Growth.{visited}
-use Rattle.thread_carrier.specs.declared.visit.Visit.{Visit}
 use Rattle.turnstile.specs.Passes.{Lock}
 
-module _ {V : Type 0} (pass : V → Carried) (puts : V → End) (log : V → List Visit) (process : Lock Inputs) where
+module _ {V : Type 0} (pass : V → Carried) (puts : V → End) (process : Lock Inputs) where
   -- each worker of a list may serve
   pub may_serve : (xs ys : List V) → xs ≡ ys → All (λ w. IsFresh process (pass w) (puts w)) ys → (i : ℕ) (x : V) → i < length xs → x ≡ get_or xs i x → IsFresh process (pass x) (puts x)
   may_serve xs ys same fresh i x inside is =
@@ -23,12 +20,10 @@ module _ {V : Type 0} (pass : V → Carried) (puts : V → End) (log : V → Lis
     pub served : HasServed process (pass y) (puts y)
     pub number : (pass y).held.number ≡ (pass x).held.number
     pub queue : (puts y).queue ≡ (puts x).queue
-    pub visits : log y ≡ log x ++ visited process.name (pass y)
 
-  pub have_served : (xs ys : List V) → length ys ≡ length xs → ((i : ℕ) (d : V) → i < length xs → Serves (get_or xs i d) (get_or ys i d)) → HaveServed pass puts log process xs ys
+  pub have_served : (xs ys : List V) → length ys ≡ length xs → ((i : ℕ) (d : V) → i < length xs → Serves (get_or xs i d) (get_or ys i d)) → HaveServed pass puts process xs ys
   have_served xs ys count each = record {
     served = λ k d inside. (each k d (omega (arith, count))).served;
     numbers = same_map (λ w. (pass w).held.number) ys xs count (λ i d below. (each i d below).number);
     queues = same_map (λ w. (puts w).queue) ys xs count (λ i d below. (each i d below).queue);
-    logs = each_grown log pass process.name xs ys count (λ i d below. (each i d below).visits);
   }

@@ -4,8 +4,7 @@ pub use Rattle.kernel_core.specs.Start
 pub use Rattle.lwc_io.specs.Outside
 pub use Rattle.lwc_text.specs.Lines
 pub use Rattle.process_core.specs.Running
-pub use Rattle.thread_carrier.specs.Visits
 pub mod Queues
 pub mod Replies
 pub mod Streams
-pub mod Crews
+pub mod Workers

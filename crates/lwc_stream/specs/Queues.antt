@@ -1,53 +1,55 @@
--- Replies go through a worker's queue in pieces, and come out of it whole.
-use Rattle.std.specs.Prelude.{◌≤◌, if◌then◌else◌, ℕ, List, [], ◌∷◌, ◌++◌, length}
-use denote.RawPtr.{Ptr}
-use Rattle.lwc_base.specs.declared.limits.TheConstants.{MOST_REPLY_BYTES}
-use Rattle.lwc_stream.specs.declared.ends.Piece.{Piece}
-use Rattle.rtrb.specs.Shared.{Names}
-use Rattle.rtrb.specs.declared.end.End as rtrb
+-- What was taken out of a queue and then what it holds is what was put in. One pass at most puts replies in, and it has the list of them; one at most takes them out.
+use Rattle.std.specs.Prelude.{◌≡◌, ℕ, Bool, true, false, List, [], ◌++◌}
+use mathlib.Core.Option.{some}
+use lib.ListN.{get_elem?}
+use Rattle.atomic_table.specs.Seated.{TableId}
+use Rattle.crossbeam_queue.specs.Passes.{Pass, view}
+use Rattle.lwc_stream.specs.declared.ends.Ends.{Ends}
 use Rattle.snapshot_host.specs.declared.finishing.Finished.{Finished}
 
--- the replies that are whole, in order, and the bytes so far of one that has begun
-pub record Arrived : Type 0 where
-  pub whole : List Finished
-  pub begun : List ℕ
+abbrev pub ends : Bool → Bool → List Finished → List Finished → Ends
+ends puts takes put taken = record { puts = puts; takes = takes; put = put; taken = taken }
 
--- the reply that a piece ends
-abbrev pub reply_with : List ℕ → Piece → Finished
-reply_with begun p = record { request = p.request; status = p.status; bytes = begun ++ p.bytes.items }
+-- what a pass knows is so: the one that may put has put these, the one that may take has taken those
+abbrev pub Fits : ℕ → ℕ → List Finished → List Finished → ℕ → Ends → Type 0
+Fits putter taker put taken port v = (v.puts ≡ true → (port ≡ putter) × (v.put ≡ put)) × (v.takes ≡ true → (port ≡ taker) × (v.taken ≡ taken))
 
--- one piece more
-abbrev pub with_piece : Arrived → Piece → Arrived
-with_piece a p =
-    if p.is_last then record { whole = a.whole ++ reply_with a.begun p ∷ []; begun = [] }
-    else record { whole = a.whole; begun = a.begun ++ p.bytes.items }
-
--- more pieces, one after another
-unfoldable pub with_pieces : Arrived → List Piece → Arrived
-with_pieces a [] = a
-with_pieces a (p ∷ ps) = with_pieces (with_piece a p) ps
-
--- what pieces come to
-abbrev pub arrived : List Piece → Arrived
-arrived ps = with_pieces (record { whole = []; begun = [] }) ps
-
--- a piece that may come next: with it its reply is no longer than a reply may be
-abbrev pub CanFollow : List Piece → Piece → Type 0
-CanFollow before p = length ((arrived before).begun ++ p.bytes.items) ≤ MOST_REPLY_BYTES
-
--- which queue it is
-pub record Ring : Type 0 where
-  pub words : Ptr
-  pub slots : Ptr
-  pub names : Names
-
-abbrev pub ring_of : {T A P : Type 0} → rtrb.End T A P → Ring
-ring_of e = record { words = e.words; slots = e.slots; names = e.names }
+abbrev pub IsInOrder : List Finished → List Ends → Type 0
+IsInOrder items views = (putter : ℕ) × (taker : ℕ) × (put : List Finished) × (taken : List Finished) × (put ≡ taken ++ items)
+    × ((port : ℕ) (v : Ends) → get_elem? views port ≡ some v → Fits putter taker put taken port v)
 
 -- an end of a queue: which queue, and the replies that went through the end, in order
 pub record End : Type 0 where
-  pub queue : Ring
+  pub queue : TableId
   pub values : List Finished
 
-abbrev pub end_of : Ring → List Finished → End
+-- both ends of a queue
+pub record Joined : Type 0 where
+  pub queue : TableId
+  pub put : List Finished
+  pub taken : List Finished
+
+abbrev pub end_of : TableId → List Finished → End
 end_of queue values = record { queue = queue; values = values }
+
+abbrev pub joined_of : TableId → List Finished → List Finished → Joined
+joined_of queue put taken = record { queue = queue; put = put; taken = taken }
+
+abbrev pub puts_of : Pass Finished Ends → End
+puts_of p = end_of p.table_id (view p).put
+
+abbrev pub takes_of : Pass Finished Ends → End
+takes_of p = end_of p.table_id (view p).taken
+
+abbrev pub both_of : Pass Finished Ends → Joined
+both_of p = joined_of p.table_id (view p).put (view p).taken
+
+-- the pass may put and not take
+abbrev pub IsPutting : Pass Finished Ends → Type 0
+IsPutting p = ((view p).puts ≡ true) × ((view p).takes ≡ false) × ((view p).taken ≡ [])
+
+abbrev pub IsTaking : Pass Finished Ends → Type 0
+IsTaking p = ((view p).puts ≡ false) × ((view p).takes ≡ true) × ((view p).put ≡ [])
+
+abbrev pub AreBoth : Pass Finished Ends → Type 0
+AreBoth p = ((view p).puts ≡ true) × ((view p).takes ≡ true)

@@ -1,212 +1,209 @@
-//! The two ends of a worker's queue. Replies go through it in pieces, so that it takes memory only where bytes are.
-ghost use Rattle.std.specs.Prelude.{◌≡◌, ◌++◌, ◌∷◌, ◌<◌, ◌≤◌, ◌^◌, false, true, [], IfOk, IfSome, IsNone};
-ghost use Rattle.std.specs.Prelude.{MatchOption, length, vec_capacity};
-ghost use Rattle.lwc_base.specs.declared.limits.TheConstants.{MOST_REPLY_BYTES};
-ghost use Rattle.lwc_stream.specs.Queues.{CanFollow, arrived, end_of, reply_with};
-ghost use Rattle.lwc_stream.specs.declared.ends.TheConstants.{PIECE_BYTES};
-ghost use Rattle.rtrb.specs.Ring.{SameProducer, sent};
+//! The two ends of a worker's queue, and the rule that ties them.
+ghost use Rattle.std.specs.Prelude.{◌≡◌, ◌++◌, ◌∷◌, [], IfOk, IsNone, IfSome, MatchOption};
+ghost use Rattle.lwc_stream.specs.Queues.{end_of, joined_of};
 
-use arrayvec::ArrayVec;
-use lwc_base::{MOST_REPLY_BYTES, OutOfMemory, ThreadStatus};
-use rtrb::{Consumer, Producer, Protocol, PushError, RingBuffer};
-use snapshot_host::{Finished, ReplyBytes};
+use crate::stored::StoredReply;
+use crossbeam_queue::protocol::{Join, Lesson, Outcome, Protocol, Split};
+use crossbeam_queue::{Pass, RuledArrayQueue};
+use lwc_base::OutOfMemory;
+use snapshot_host::Finished;
 use std::alloc::Global;
+use std::collections::LinkedList;
 use std::marker::Model;
-use std::sync::Wait;
+use std::sync::{Arc, Wait};
 use std::thread;
 
-/// The most bytes of a piece.
-pub const PIECE_BYTES: usize = 128;
-
-/// The most pieces of a reply.
-const MOST_PIECES: usize = MOST_REPLY_BYTES / PIECE_BYTES;
-
-/// Some bytes of a reply on its way, and whether they are its last.
-#[derive(Drop)]
-pub struct Piece {
-    pub request: u16,
-    pub status: ThreadStatus,
-    pub is_last: bool,
-    pub bytes: ArrayVec<u8, 128>,
+/// What a pass may do, and what it has done: put replies in, or take them out. No value of it is made.
+pub struct Ends {
+    pub puts: bool,
+    pub takes: bool,
+    pub put: LinkedList<Finished>,
+    pub taken: LinkedList<Finished>,
 }
 
-impl Piece {
-    /// A piece of a reply, with these bytes of it.
-    fn of(reply: &Finished, bytes: &[u8], is_last: bool) -> Piece
-        requires { length bytes.now ≤ PIECE_BYTES }
-        ensures request { result.request ≡ reply.now.request }
-        ensures status { result.status ≡ reply.now.status }
-        ensures last { result.is_last ≡ is_last }
-        ensures bytes { result.bytes.items ≡ bytes.now }
-    {
-        let mut copy = ArrayVec::new();
-        let _ = copy.try_extend_from_slice(bytes);
-        Piece {
-            request: reply.request,
-            status: reply.status,
-            is_last,
-            bytes: copy,
-        }
-    }
+pub struct InOrder;
+
+impl<'a> Protocol<StoredReply<'a>, Ends> for InOrder {
+    ghost use Rattle.std.specs.Prelude.{true, []};
+    ghost use Rattle.lwc_stream.specs.Queues.{ends, IsInOrder};
+
+    ghost holds = { IsInOrder };
+
+    ghost first = { ends true true [] [] };
 }
 
-/// What a worker promises of the pieces that it puts in: no reply is longer than a reply may be.
-pub struct InPieces;
+/// The two ends, each with a pass of its own.
+pub struct Apart;
 
-impl Protocol<Piece> for InPieces {
-    ghost use Rattle.lwc_stream.specs.Queues.{CanFollow};
+impl Split<Ends> for Apart {
+    ghost use Rattle.std.specs.Prelude.{true, false, []};
+    ghost use Rattle.lwc_stream.specs.Queues.{ends};
 
-    ghost allows = { CanFollow };
+    ghost left = { λ v. ends true false v.put [] };
+
+    ghost right = { λ v. ends false true [] v.taken };
 }
+
+impl Join<Ends> for Apart {
+    ghost use Rattle.std.specs.Prelude.{true, false, []};
+    ghost use Rattle.lwc_stream.specs.Queues.{ends};
+
+    ghost both = { λ v w. ends true true v.put w.taken };
+
+    ghost spent = { ends false false [] [] };
+}
+
+/// A reply is put in.
+pub struct Put;
+
+impl<'a> Outcome<StoredReply<'a>, Ends> for Put {
+    ghost use Rattle.std.specs.Prelude.{◌≡◌, ◌++◌, ◌∷◌, []};
+    ghost use Rattle.lwc_stream.specs.Queues.{ends};
+
+    ghost then = { λ v x w. w ≡ ends v.puts v.takes (v.put ++ x ∷ []) v.taken };
+}
+
+/// A reply is taken out.
+pub struct Taken;
+
+impl<'a> Outcome<StoredReply<'a>, Ends> for Taken {
+    ghost use Rattle.std.specs.Prelude.{◌≡◌, ◌++◌, ◌∷◌, []};
+    ghost use Rattle.lwc_stream.specs.Queues.{ends};
+
+    ghost then = { λ v x w. w ≡ ends v.puts v.takes v.put (v.taken ++ x ∷ []) };
+}
+
+impl<'a> Lesson<StoredReply<'a>, Ends> for Taken {
+    ghost use Rattle.std.specs.Prelude.{◌≡◌, ◌++◌};
+
+    ghost fact = { λ v items. v.put ≡ v.taken ++ items };
+}
+
+type Ring<'a> = RuledArrayQueue<StoredReply<'a>, Ends, InOrder>;
+
+type EndPass<'a> = Pass<StoredReply<'a>, Ends>;
 
 /// An empty queue with room for this many replies, as its two ends. The only error is out of memory.
-pub(crate) fn open_queue(alloc: Global, replies: usize) -> Result<(Puts, Takes), OutOfMemory>
-    requires { replies < 2 ^ 32 }
+pub(crate) fn open_queue<'a>(
+    alloc: Global,
+    replies: usize,
+) -> Result<(Puts<'a>, Takes<'a>), OutOfMemory>
     ensures queue { IfOk result (λ q. q.0.queue ≡ q.1.queue) }
     ensures unput { IfOk result (λ q. q.0.values ≡ []) }
     ensures untaken { IfOk result (λ q. q.1.values ≡ []) }
 {
-    let (putting, taking) = RingBuffer::<Piece>::with_protocol::<Global, InPieces>(
-        alloc,
-        replies * MOST_PIECES,
-    )?;
-    let begun = Vec::with_capacity(alloc, MOST_REPLY_BYTES)?;
-    let puts = Puts { pieces: putting };
+    let (ring, mut pass) = Ring::<'a>::ruled(alloc, replies.max(1))?;
+    let taking = ring.another::<Apart>(&mut pass);
+    let ring: Arc<Ring<'a>> = Arc::new(alloc, ring)?;
+    let theirs = Arc::try_clone(&ring)?;
+    let puts = Puts { ring, pass };
     let takes = Takes {
-        pieces: taking,
-        begun,
+        ring: theirs,
+        pass: taking,
     };
     Ok((puts, takes))
 }
 
 /// The end at which replies are put in. Contracts see it as its queue and what was put in, in order.
 #[derive(Drop)]
-pub(crate) struct Puts {
-    pieces: Producer<Piece, Global, InPieces>,
+pub struct Puts<'a> {
+    ring: Arc<Ring<'a>>,
+    pass: EndPass<'a>,
 }
 
-impl Model for Puts {
-    ghost use Rattle.std.specs.Prelude.{◌≡◌, []};
-    ghost use Rattle.lwc_stream.specs.Queues.{End, arrived, ring_of};
-    ghost use Rattle.rtrb.specs.Ring.{sent};
+impl<'a> Model for Puts<'a> {
+    ghost use Rattle.crossbeam_queue.specs.Passes.{IsPassOf};
+    ghost use Rattle.lwc_stream.specs.Queues.{End, IsPutting, puts_of};
 
     ghost Value = { End };
 
-    ghost view = { λ p. record { queue = ring_of p.pieces.end; values = (arrived (sent p.pieces)).whole } };
+    ghost view = { λ p. puts_of p.pass };
 
-    ghost invariant = { λ p. (arrived (sent p.pieces)).begun ≡ [] };
+    ghost invariant = { λ p. IsPassOf p.ring.value p.pass × IsPutting p.pass };
 }
 
-impl Puts {
+impl<'a> Puts<'a> {
     /// Puts a reply in. It waits while the queue is full.
-    pub(crate) fn put<R: Wait>(&mut self, rt: &R, reply: &Finished)
-        ensures { self.new ≡ end_of self.old.queue (self.old.values ++ reply.now ∷ []) }
+    pub(crate) fn put<R: Wait>(&mut self, rt: &R, reply: StoredReply<'a>)
+        ensures { self.new ≡ end_of self.old.queue (self.old.values ++ reply.entry ∷ []) }
     {
-        let mut rest = reply.bytes.as_slice();
-        'pieces: while PIECE_BYTES < rest.len() {
-            let (bytes, more) = rest.split_at(PIECE_BYTES);
-            push(rt, &mut self.pieces, Piece::of(reply, bytes, false));
-            rest = more;
+        let mut left = reply;
+        for _ in rt.forever() {
+            match self.ring.try_push_as::<Put>(&mut self.pass, left) {
+                Ok(()) => return,
+                Err(back) => left = back,
+            }
+            thread::yield_now();
         }
-        push(rt, &mut self.pieces, Piece::of(reply, rest, true));
+        unreachable!()
     }
 }
 
-/// Puts a piece into a queue. It waits while the queue is full.
-fn push<R: Wait>(rt: &R, pieces: &mut Producer<Piece, Global, InPieces>, piece: Piece)
-    requires { CanFollow (sent pieces.old) piece }
-    ensures queue { SameProducer pieces.old pieces.new }
-    ensures sent { sent pieces.new ≡ sent pieces.old ++ piece ∷ [] }
-{
-    let mut left = piece;
-    for _ in rt.forever() {
-        match pieces.push(left) {
-            Ok(()) => return,
-            Err(PushError::Full(back)) => left = back,
-        }
-        thread::yield_now();
-    }
-    unreachable!()
-}
-
-/// The end at which replies are taken out, and the bytes so far of one that has begun to come. Contracts see it as its
-/// queue and what was taken out whole, in order.
+/// The end at which replies are taken out. Contracts see it as its queue and what was taken out, in order.
 #[derive(Drop)]
-pub(crate) struct Takes {
-    pieces: Consumer<Piece, Global, InPieces>,
-    begun: Vec<u8>,
+pub struct Takes<'a> {
+    ring: Arc<Ring<'a>>,
+    pass: EndPass<'a>,
 }
 
-impl Model for Takes {
-    ghost use Rattle.std.specs.Prelude.{◌≡◌, ◌≤◌, vec_capacity};
-    ghost use Rattle.lwc_base.specs.declared.limits.TheConstants.{MOST_REPLY_BYTES};
-    ghost use Rattle.lwc_stream.specs.Queues.{End, arrived, ring_of};
-    ghost use Rattle.rtrb.specs.Ring.{received};
+impl<'a> Model for Takes<'a> {
+    ghost use Rattle.crossbeam_queue.specs.Passes.{IsPassOf};
+    ghost use Rattle.lwc_stream.specs.Queues.{End, IsTaking, takes_of};
 
     ghost Value = { End };
 
-    ghost view = { λ t. record { queue = ring_of t.pieces.end; values = (arrived (received t.pieces)).whole } };
+    ghost view = { λ p. takes_of p.pass };
 
-    ghost invariant = { λ t. (t.begun.items ≡ (arrived (received t.pieces)).begun)
-        × (MOST_REPLY_BYTES ≤ vec_capacity t.begun) };
+    ghost invariant = { λ p. IsPassOf p.ring.value p.pass × IsTaking p.pass };
 }
 
-impl Takes {
-    /// Takes the reply that was put in first, if the whole of it is found.
-    pub(crate) fn take(&mut self) -> Option<Finished>
+impl<'a> Takes<'a> {
+    /// Takes the reply that was put in first, if one is found.
+    pub(crate) fn take(&mut self) -> Option<StoredReply<'a>>
         ensures { MatchOption result (self.new ≡ self.old)
             (λ x. self.new ≡ end_of self.old.queue (self.old.values ++ x ∷ [])) }
     {
-        'pieces: for _ in 0..MOST_PIECES {
-            let Ok(piece) = self.pieces.pop() else {
-                return None;
-            };
-            if let Some(reply) = join(&mut self.begun, &piece) {
-                return Some(reply);
-            }
-        }
-        None
+        self.ring.try_pop_as::<Taken>(&mut self.pass)
     }
 
-    /// Takes the reply that was put in first, with the other end in hand. With none left, all that was put in was
-    /// taken, in order.
-    pub(crate) fn take_rest(&mut self, puts: &mut Puts) -> Option<Finished>
-        requires queue { puts.old.queue ≡ self.old.queue }
-        ensures puts { puts.new ≡ puts.old }
-        ensures some { IfSome result (λ x. self.new ≡ end_of self.old.queue (self.old.values ++ x ∷ [])) }
-        ensures none { IsNone result → (self.new ≡ self.old) × (self.old.values ≡ puts.old.values) }
+    /// Both ends in one hand.
+    pub(crate) fn join(self, puts: Puts<'a>) -> Both<'a>
+        requires { puts.queue ≡ self.queue }
+        ensures { result ≡ joined_of self.entry.queue puts.entry.values self.entry.values }
     {
-        let count = self.pieces.slots_beside(&mut puts.pieces);
-        'pieces: for _ in 0..count {
-            let piece = self.pieces.pop_known();
-            if let Some(reply) = join(&mut self.begun, &piece) {
-                return Some(reply);
-            }
-        }
-        None
+        let Puts { ring: _, pass } = puts;
+        let Takes { ring, pass: other } = self;
+        let mut pass = pass;
+        ring.absorb::<Apart>(&mut pass, other);
+        Both { ring, pass }
     }
 }
 
-/// Adds a piece to the bytes so far of its reply. The last piece makes the reply whole, and leaves no bytes.
-fn join(begun: &mut Vec<u8>, piece: &Piece) -> Option<Finished>
-    requires few { length (begun.old.items ++ piece.now.bytes.items) ≤ MOST_REPLY_BYTES }
-    requires room { MOST_REPLY_BYTES ≤ vec_capacity begun.old }
-    ensures joined { MatchOption result
-        ((piece.now.is_last ≡ false) × (begun.new.items ≡ begun.old.items ++ piece.now.bytes.items))
-        (λ x. (piece.now.is_last ≡ true) × (begun.new.items ≡ []) × (x ≡ reply_with begun.old.items piece.now)) }
-    ensures room { MOST_REPLY_BYTES ≤ vec_capacity begun.new }
-{
-    let Ok(()) = begun.extend_from_slice(piece.bytes.as_slice()) else {
-        unreachable!();
-    };
-    if !piece.is_last {
-        return None;
+/// Both ends in one hand. Contracts see them as their queue, what was put in and what was taken out.
+#[derive(Drop)]
+pub(crate) struct Both<'a> {
+    ring: Arc<Ring<'a>>,
+    pass: EndPass<'a>,
+}
+
+impl<'a> Model for Both<'a> {
+    ghost use Rattle.crossbeam_queue.specs.Passes.{IsPassOf};
+    ghost use Rattle.lwc_stream.specs.Queues.{AreBoth, Joined, both_of};
+
+    ghost Value = { Joined };
+
+    ghost view = { λ p. both_of p.pass };
+
+    ghost invariant = { λ p. IsPassOf p.ring.value p.pass × AreBoth p.pass };
+}
+
+impl<'a> Both<'a> {
+    /// Takes the reply that was put in first. With none left, all that was put in was taken, in order.
+    pub(crate) fn take<R: Wait>(&mut self, rt: &R) -> Option<StoredReply<'a>>
+        ensures some { IfSome result (λ x.
+            self.new ≡ joined_of self.old.queue self.old.put (self.old.taken ++ x ∷ [])) }
+        ensures none { IsNone result → (self.new ≡ self.old) × (self.old.put ≡ self.old.taken) }
+    {
+        self.ring.pop_as::<Taken, R>(rt, &mut self.pass)
     }
-    let bytes = ReplyBytes::of(begun.as_slice());
-    begun.clear();
-    Some(Finished {
-        request: piece.request,
-        status: piece.status,
-        bytes,
-    })
 }

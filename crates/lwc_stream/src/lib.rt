@@ -5,11 +5,13 @@
 //! the queues while the workers go on, lets each wait until those to all earlier requests are written, and writes it.
 #![tactic(auto)]
 
-mod crew;
-mod desk;
+mod beside;
+mod collector;
 mod ends;
 pub mod laws;
-mod news;
+mod signal;
+mod store;
+mod stored;
 mod streaming;
 mod waiting;
 mod worker;

@@ -128,7 +128,7 @@ pub fn serve_of<R: AllocGlobal + Abort>(
     workers: u32,
 ) -> Result<Kernel<LazyWorld>, Fail>
     requires few { length bytes.now ≤ 8 }
-    requires workers { (1 ≤ workers) × (workers ≤ 4) }
+    requires workers { (1 ≤ workers) × (workers ≤ 16) }
     ensures fresh { IfOk result (λ kernel. kernel.steps ≡ []) }
     ensures room { IfOk result (λ kernel. kernel.room ≡ work (machine_of kernel)) }
 {

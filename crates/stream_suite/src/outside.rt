@@ -8,9 +8,6 @@ use std::sync::atomic::{AtomicBool, AtomicU64, Ordering};
 /// How often a thread that is held looks.
 const LOOKS: u32 = 1_000_000_000;
 
-/// How many turns a request of one byte 0 takes.
-const TURNS_OF_REQUEST: u64 = 7;
-
 /// A sink in memory that counts the lines that it has taken.
 #[derive(Drop)]
 pub struct CountingSink<'a> {
@@ -36,8 +33,11 @@ impl<'a> Sink for CountingSink<'a> {
     }
 }
 
-/// A gate that holds the first turn of each thread but one, and the turn of that one after its first request, until a
-/// sink has taken a line.
+/// How many turns a worker makes for one request of `COUNTER_HANDLER`.
+const TURNS_OF_A_REQUEST: u64 = 7;
+
+/// A gate that holds the first turn of each thread but one, and of that one the turns after its first request, until
+/// a sink has taken a line.
 #[derive(Drop)]
 pub struct LineGate {
     pub free: u32,
@@ -46,7 +46,7 @@ pub struct LineGate {
 }
 
 impl LineGate {
-    /// A gate of a sink that has taken no line, and that does not hold the first request of this thread.
+    /// A gate of a sink that has taken no line, and that does not hold the first turn of this thread.
     pub(crate) fn new(free: u32) -> LineGate {
         LineGate {
             free,
@@ -59,9 +59,14 @@ impl LineGate {
     pub(crate) fn has_run_out(&self) -> bool {
         self.ran_out.load(Ordering::SeqCst)
     }
+}
 
-    /// Looks until the sink has taken a line.
-    fn hold(&self) {
+impl Gate for LineGate {
+    /// Looks until the sink has taken a line, at the first turn of each thread but one and after a request of that one.
+    fn before<R: Wait>(&self, _rt: &R, thread: u32, turn: u64) {
+        if thread == self.free && turn < TURNS_OF_A_REQUEST {
+            return;
+        }
         for _look in 0..LOOKS {
             if self.lines.load(Ordering::SeqCst) > 0 {
                 return;
@@ -69,20 +74,6 @@ impl LineGate {
             spin_loop();
         }
         self.ran_out.store(true, Ordering::SeqCst);
-    }
-}
-
-impl Gate for LineGate {
-    /// Holds a thread at its first turn, or behind its first request if that is free.
-    fn before<R: Wait>(&self, _rt: &R, thread: u32, turn: u64) {
-        let first = if thread == self.free {
-            TURNS_OF_REQUEST
-        } else {
-            0
-        };
-        if turn == first {
-            self.hold();
-        }
     }
 }
 

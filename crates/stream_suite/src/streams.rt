@@ -22,7 +22,7 @@ fn stream<R: AllocGlobal + Abort + Threads + Wait + Sync, G: Gate, O: Sink>(
     out: &mut O,
 ) -> Result<bool, Fail>
     requires few { length bytes.now ≤ 8 }
-    requires workers { (1 ≤ workers) × (workers ≤ 4) }
+    requires workers { (1 ≤ workers) × (workers ≤ 16) }
 {
     let kernel = serve_of(rt, bytes, workers)?;
     let count = kernel.request_count();
@@ -71,7 +71,7 @@ fn written<R: AllocGlobal + Abort + Threads + Wait + Sync, G: Gate>(
     lines: &[u8],
 ) -> Result<Left, Fail>
     requires few { length bytes.now ≤ 8 }
-    requires workers { (1 ≤ workers) × (workers ≤ 4) }
+    requires workers { (1 ≤ workers) × (workers ≤ 16) }
 {
     let failed = stream(rt, bytes, workers, gate, out)?;
     Ok(Left {
@@ -93,14 +93,32 @@ fn replies_are_written_in_the_order_of_their_requests(rt: HostRuntime) -> Result
     Ok(())
 }
 
-/// Streams two requests while all workers are held, the free one behind its first request: nobody else calls the writer
-/// then. What is left, and whether the looks of the gate ran out.
+/// How many workers there are, and which one is free at first. Where it is the last of many, all others have started
+/// and are held when it serves.
+const HELD: [(u32, u32); 12] = [
+    (1, 0),
+    (2, 0),
+    (2, 1),
+    (3, 0),
+    (3, 2),
+    (4, 0),
+    (4, 1),
+    (4, 2),
+    (4, 3),
+    (16, 0),
+    (16, 7),
+    (16, 15),
+];
+
+/// Streams two requests to a sink while all workers are held until it has taken the line of request 0: the free one
+/// once it has served that request, and the others before their first turns. What is left, and whether the looks of
+/// the gate ran out.
 fn written_while_held<R: AllocGlobal + Abort + Threads + Wait + Sync>(
     rt: &R,
     workers: u32,
     free: u32,
 ) -> Result<(Left, bool), Fail>
-    requires { (1 ≤ workers) × (workers ≤ 4) }
+    requires { (1 ≤ workers) × (workers ≤ 16) }
 {
     let gate = LineGate::new(free);
     let mut out = CountingSink {
@@ -118,7 +136,7 @@ fn written_while_held<R: AllocGlobal + Abort + Threads + Wait + Sync>(
 
 #[test]
 fn a_line_is_written_while_workers_are_held(rt: HostRuntime) -> Result<(), Fail> {
-    for (workers, free) in [(1, 0), (2, 0), (2, 1), (4, 0), (4, 1), (4, 2), (4, 3)] {
+    for (workers, free) in HELD {
         let left = written_while_held(&rt, workers, free)?;
         assert!(rt;
             left == (WHOLE, false),

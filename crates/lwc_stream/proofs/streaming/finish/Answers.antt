@@ -6,7 +6,7 @@ use Rattle.lwc_stream.proofs.streaming.finish.Goals as goal
 pub returns-clause-written : goal.returns-clause-written
 returns-clause-written g c = λ before h.
     let lists = map (λ w. w.puts.values) c.args.workers.items in
-    let left = c.take_left-passes.ensures.shown c.args.desk.writer before (g.O.Sink.seen c.args.out.now) h in
+    let left = c.take_left-passes.ensures.shown c.args.collector.writer before (g.O.Sink.seen c.args.out.now) h in
     let s = c.show_ready.ensures.shown lists before left in
     let count = c.show_ready.ensures.places ∙ c.take_left-passes.ensures.places in (
       s.shown,

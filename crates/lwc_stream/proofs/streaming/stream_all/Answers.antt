@@ -11,46 +11,34 @@ use Rattle.lwc_stream.specs.Replies.{AreShown, finished_by}
 use Rattle.lwc_stream.specs.Streams.{HasShown, Held}
 use Rattle.process_core.proofs.Carrying.{all_made, still_all}
 use Rattle.process_core.specs.Running.{AreAllOf, Carried, IsPassOf}
-use Rattle.thread_carrier.proofs.Logs.{put_back}
-use Rattle.thread_carrier.specs.Growth.{grown}
 use Rattle.lwc_stream.proofs.streaming.stream_all.Goals as goal
 
 pub serve_beside-workers-requires-clause-fresh : goal.serve_beside-workers-requires-clause-fresh
 serve_beside-workers-requires-clause-fresh g c κs within =
     let process = c.args.process.now in
-    let workers = c.in_ok-workers.workers.items in
-    let same = c.in_ok-workers.ensures.passes in
+    let workers = c.workers_of-workers.result.items in
+    let same = c.workers_of-workers.ensures.passes in
     let ours : All (IsPassOf process) (map (λ w. w.pass) workers) = subst (All (IsPassOf process)) (sym same) c.requires.all.ours in
     let unseen : All (λ (p : Carried). p.held.seen ≡ []) (map (λ w. w.pass) workers) = subst (All (λ (p : Carried). p.held.seen ≡ [])) (sym same) c.requires.fresh in
     λ k d inside. record {
       ours = all_made (IsPassOf process) (λ w. w.pass) workers ours k d inside;
       unseen = all_made (λ (p : Carried). p.held.seen ≡ []) (λ w. w.pass) workers unseen k d inside;
-      empty = all_made (λ (e : End). e.values ≡ []) (λ w. w.puts) workers (subst (All (λ (e : End). e.values ≡ [])) (sym c.in_ok-workers.ensures.ends) c.in_ok-puts.ensures.unput) k d inside;
+      empty = all_made (λ (e : End). e.values ≡ []) (λ w. w.puts) workers (subst (All (λ (e : End). e.values ≡ [])) (sym c.workers_of-workers.ensures.ends) c.in_ok-puts.ensures.unput) k d inside;
     }
 
 pub finish-requires-clause-queues : goal.finish-requires-clause-queues
 finish-requires-clause-queues g c κs within =
     let queue = λ (e : End). e.queue in
     c.serve_beside-workers.ensures.served.queues
-    ∙ (sym (map-map queue (λ w. w.puts) c.in_ok-workers.workers.items)
-    ∙ (ap (map queue) c.in_ok-workers.ensures.ends ∙ (c.in_ok-puts.ensures.queues ∙ sym c.serve_beside-workers.ensures.queues)))
+    ∙ (sym (map-map queue (λ w. w.puts) c.workers_of-workers.result.items)
+    ∙ (ap (map queue) c.workers_of-workers.ensures.ends ∙ (c.in_ok-puts.ensures.queues ∙ sym c.serve_beside-workers.ensures.queues)))
 
 pub finish-requires-clause-room : goal.finish-requires-clause-room
 finish-requires-clause-room g c κs within =
-    let before = c.in_ok-workers.workers.items in
+    let before = c.workers_of-workers.result.items in
     let after = c.serve_beside-workers.result.0.items in
     let numbers = ap length c.serve_beside-workers.ensures.served.numbers in
-    omega (arith, numbers, length-map after (λ w. w.pass.held.number), length-map before (λ w. w.pass.held.number), ap length c.in_ok-workers.ensures.passes, length-map before (λ w. w.pass), c.in_ok-taken.ensures.capacity, c.len.ensures)
-
-pub finish-requires-clause-places : goal.finish-requires-clause-places
-finish-requires-clause-places g c κs within =
-    let before = c.in_ok-workers.workers.items in
-    let after = c.serve_beside-workers.result.0.items in
-    let rest = c.hire.new.logs.items in
-    let logs = c.args.logs.now in
-    let numbers = ap length c.serve_beside-workers.ensures.served.numbers in
-    let whole = ap length c.in_ok-workers.ensures.logs in
-    omega (arith, numbers, whole, length-map after (λ w. w.pass.held.number), length-map before (λ w. w.pass.held.number), length-append (map (λ w. w.log) before) rest, length-map before (λ w. w.log), c.in_ok-workers.ensures.room, logs.ok.0, logs.ok.1)
+    omega (arith, numbers, length-map after (λ w. w.pass.held.number), length-map before (λ w. w.pass.held.number), ap length c.workers_of-workers.ensures.passes, length-map before (λ w. w.pass), c.in_ok-taken.ensures.capacity, c.len.ensures)
 
 pub returns-clause-all : goal.returns-clause-all
 returns-clause-all g c =
@@ -58,30 +46,17 @@ returns-clause-all g c =
     let after = c.serve_beside-workers.result.0.items in
     let served = c.serve_beside-workers.ensures.served in
     subst (AreAllOf process) (sym c.finish.ensures.passes)
-    (still_all (λ w. w.pass) process c.args.passes.items c.in_ok-workers.workers.items after c.requires.all c.in_ok-workers.ensures.passes (λ k d inside. (served.served k d inside).ours) served.numbers)
+    (still_all (λ w. w.pass) process c.args.passes.items c.workers_of-workers.result.items after c.requires.all c.workers_of-workers.ensures.passes (λ k d inside. (served.served k d inside).ours) served.numbers)
 
 pub returns-clause-numbers : goal.returns-clause-numbers
 returns-clause-numbers g c =
     let number = λ (p : Carried). p.held.number in
     let after = c.serve_beside-workers.result.0.items in
-    let before = c.in_ok-workers.workers.items in
+    let before = c.workers_of-workers.result.items in
     ap (map number) c.finish.ensures.passes
     ∙ (map-map number (λ w. w.pass) after
     ∙ (c.serve_beside-workers.ensures.served.numbers
-    ∙ (sym (map-map number (λ w. w.pass) before) ∙ ap (map number) c.in_ok-workers.ensures.passes)))
-
-pub returns-clause-visits : goal.returns-clause-visits
-returns-clause-visits g c =
-    let name = c.args.process.now.name in
-    let visits = g.G.Gate.visits in
-    let after = c.serve_beside-workers.result.0.items in
-    let before = c.in_ok-workers.workers.items in
-    let old = c.args.logs.now.items in
-    let served = c.serve_beside-workers.ensures.served in
-    let count : length after ≡ length before =
-    sym (length-map after (λ w. w.pass.held.number)) ∙ (ap length served.numbers ∙ length-map before (λ w. w.pass.held.number)) in
-    put_back visits (λ w. w.log) (λ w. w.pass) name c.hire.new.logs.items before after old c.finish.new.logs.items c.in_ok-workers.ensures.logs served.logs count c.finish.ensures.logs
-    ∙ ap (grown name (map visits old)) (sym c.finish.ensures.passes)
+    ∙ (sym (map-map number (λ w. w.pass) before) ∙ ap (map number) c.workers_of-workers.ensures.passes)))
 
 pub returns-clause-ended : goal.returns-clause-ended
 returns-clause-ended g c =

@@ -1,11 +1,21 @@
-use Rattle.std.proofs.Common.{◌≡◌, ◌<◌, ◌∙◌, ◌++◌, ◌∷◌, [], length, map, sym, ap, subst, arith, append-nil, append_assoc, length-append}
+use Rattle.std.proofs.Common.{◌≡◌, ◌<◌, ◌∙◌, ◌++◌, ◌∷◌, [], length, map, refl, sym, ap, subst, arith, append-nil, append_assoc, length-append}
 use Rattle.std.proofs.Math.ListN.{length-map}
 use Rattle.std.proofs.lemmas.Bool.Decides.{nat_tests}
 use Rattle.lwc_stream.proofs.Lists.{heads, none_left}
 use Rattle.lwc_stream.specs.Streams.{HasShown}
 use Rattle.process_core.proofs.Handing.{first_of}
-use Rattle.thread_carrier.proofs.Logs.{turned_back}
 use Rattle.lwc_stream.proofs.streaming.take_left.Goals as goal
+
+pub workers-init : goal.workers-init
+workers-init g c = record {
+  queues = c.requires.queues;
+  passes = ap (λ l. l ++ map (λ w. w.pass) c.args.workers.items) c.requires.empty;
+  room = omega (arith, ap length c.requires.empty, c.requires.room);
+  done = [];
+  all = refl;
+  shown = λ failed before now h. h;
+  places = refl;
+}
 
 pub take_rest-requires : goal.take_rest-requires
 take_rest-requires g c =
@@ -42,10 +52,6 @@ workers-preserved g c =
           ∙ (append_assoc c.workers.taken.items (w.pass ∷ []) (map (λ x. x.pass) ws')
           ∙ (ap (λ l. c.workers.taken.items ++ map (λ x. x.pass) l) (sym first_w) ∙ inv.passes));
       room = omega (arith, inv.room, c.push_reserved.ensures.len, c.push_reserved.ensures.capacity, ap length c.push_reserved.ensures.items, length-append c.workers.taken.items (w.pass ∷ []), c.remove-pass.ensures.len, ap length first_w);
-      logs = ap (λ l. l ++ map (λ x. x.log) ws') c.push_reserved-in-workers.ensures.items
-          ∙ (append_assoc c.workers.logs.items (w.log ∷ []) (map (λ x. x.log) ws')
-          ∙ (ap (λ l. c.workers.logs.items ++ map (λ x. x.log) l) (sym first_w) ∙ inv.logs));
-      log_room = omega (arith, inv.log_room, c.push_reserved-in-workers.ensures.len, c.push_reserved-in-workers.ensures.capacity, ap length c.push_reserved-in-workers.ensures.items, length-append c.workers.logs.items (w.log ∷ []), ap length first_w);
       done = inv.done ++ w.puts.values ∷ [];
       all = append_assoc inv.done (w.puts.values ∷ []) (map (λ x. x.puts.values) ws') ∙ (ap (λ l. inv.done ++ map (λ x. x.puts.values) l) (sym first_w) ∙ inv.all);
       shown = λ failed before now h.
@@ -66,15 +72,6 @@ returns-clause-shown g c =
     subst (λ l. HasShown l c.workers.waiting failed before now)
     (ap (λ l. inv.done ++ map (λ x. x.values) l) (none_left es none_e) ∙ (sym (ap (λ l. inv.done ++ map (λ x. x.puts.values) l) (none_left ws none)) ∙ inv.all))
     (inv.shown failed before now h)
-
-pub returns-clause-logs : goal.returns-clause-logs
-returns-clause-logs g c =
-    let inv = c.workers.invariant in
-    let ws = c.workers.workers.items in
-    let none : length ws ≡ 0 = grind (arith, nat_tests) in
-    let all : c.workers.logs.items ≡ c.args.logs.now.items ++ map (λ x. x.log) c.args.workers.items =
-    sym (append-nil c.workers.logs.items) ∙ (ap (λ l. c.workers.logs.items ++ map (λ x. x.log) l) (sym (none_left ws none)) ∙ inv.logs) in
-    c.rotate_left.ensures.items ∙ turned_back _ c.args.logs.now.items (map (λ x. x.log) c.args.workers.items) c.workers.logs.items all (omega arith)
 
 pub returns-clause-passes : goal.returns-clause-passes
 returns-clause-passes g c =

@@ -10,8 +10,6 @@ invariant-workers g l = record {
   queues : map (λ w. w.puts.queue) l.workers.items ≡ map (λ e. e.queue) l.ends.items;
   passes : l.taken.items ++ map (λ w. w.pass) l.workers.items ≡ map (λ w. w.pass) l.fn.workers.items;
   room : length l.taken.items + length l.workers.items ≤ vec_capacity l.taken;
-  logs : l.logs.items ++ map (λ w. w.log) l.workers.items ≡ l.fn.logs.items ++ map (λ w. w.log) l.fn.workers.items;
-  log_room : length l.logs.items + length l.workers.items ≤ vec_capacity l.logs;
   done : List (List Finished);
   all : done ++ map (λ w. w.puts.values) l.workers.items ≡ map (λ w. w.puts.values) l.fn.workers.items;
   shown : (failed : Bool) (before now : SinkView) →

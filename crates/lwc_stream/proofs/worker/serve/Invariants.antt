@@ -1,21 +1,17 @@
 use Rattle.std.proofs.Common.{◌≡◌, ◌≤◌, ◌-◌, length}
-use Rattle.kernel_core.specs.Histories.{steps_by}
 use Rattle.lwc_base.specs.declared.limits.TheConstants.{MOST_STEPS}
 use Rattle.lwc_stream.specs.Replies.{finished_by}
 use Rattle.process_core.specs.Running.{IsPassOf}
-use Rattle.thread_carrier.specs.Growth.{HasVisited}
 use Rattle.lwc_stream.proofs.worker.serve.Given as goal
 
--- what the thread has finished so far was put in, and what it did at the gate is in its log
+-- what the thread has finished so far was put in
 abbrev pub invariant-turns : goal.invariant-turns
 invariant-turns g l = record {
   ours : IsPassOf l.process l.worker.pass;
   number : l.worker.pass.held.number ≡ l.initial.worker.pass.held.number;
   queue : l.worker.puts.queue ≡ l.initial.worker.puts.queue;
   put : l.worker.puts.values ≡ finished_by l.process.name l.worker.pass;
-  counted : l.turns ≡ steps_by l.worker.pass.held.number l.worker.pass.held.seen;
   few : l.turns ≤ length l.worker.pass.held.seen;
-  visited : HasVisited l.process.name l.initial.worker.pass l.worker.pass (g.G.Gate.visits l.initial.worker.log) (g.G.Gate.visits l.worker.log);
 }
 
 abbrev pub decreases-turns : goal.decreases-turns

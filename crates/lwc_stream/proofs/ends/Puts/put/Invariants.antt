@@ -1,15 +1,8 @@
-use Rattle.std.proofs.Common.{◌≡◌, ◌++◌, length}
-use Rattle.lwc_stream.specs.Queues.{arrived, ring_of}
-use Rattle.rtrb.specs.Ring.{sent}
+use Rattle.std.proofs.Common.{◌≡◌}
+use Rattle.crossbeam_queue.specs.Passes.{IsPassOf}
+use Rattle.lwc_stream.specs.Queues.{IsPutting, puts_of}
 use Rattle.lwc_stream.proofs.ends.Puts.put.Given as goal
 
--- the pieces so far have the first bytes of the reply, and the others are left
-abbrev pub invariant-pieces : goal.invariant-pieces
-invariant-pieces g l = record {
-  ring : ring_of l.self-inside.pieces.end ≡ l.fn.self.queue;
-  whole : (arrived (sent l.self-inside.pieces)).whole ≡ l.fn.self.values;
-  left : (arrived (sent l.self-inside.pieces)).begun ++ l.rest ≡ l.reply.bytes;
-}
-
-abbrev pub decreases-pieces : goal.decreases-pieces
-decreases-pieces g l = length l.rest
+-- the end is as it was
+abbrev pub invariant-loop : goal.invariant-loop
+invariant-loop g l = IsPassOf l.self-inside.ring.value l.self-inside.pass × IsPutting l.self-inside.pass × (puts_of l.self-inside.pass ≡ l.fn.self) × (l.left ≡ l.fn.reply)
