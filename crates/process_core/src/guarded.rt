@@ -1,5 +1,5 @@
 //! The kernel as the lock guards it.
-ghost use Rattle.std.specs.Prelude.{◌≡◌, ◌≤◌, ◌+◌, ◌<◌, ◌++◌, ◌∷◌, [], false, true, IfSome, Some, length};
+ghost use Rattle.std.specs.Prelude.{◌≡◌, ◌≤◌, ◌+◌, ◌<◌, ◌++◌, ◌∷◌, [], false, true, Some, length};
 ghost use Rattle.guest_machine.specs.Advances.{advanced};
 ghost use Rattle.kernel_core.specs.Histories.{IsLegal};
 ghost use Rattle.kernel_core.specs.Kernel.{machine_of, stepped, turn};
@@ -47,7 +47,8 @@ fn step_kernel<W: World>(kernel: &mut Kernel<W>, t: u32, slip: &mut Slip)
     requires within { t < thread_count kernel.old.inputs }
     requires going { is_ended (machine_of kernel.old) t ≡ false }
     requires room { work (machine_of kernel.old) ≤ kernel.old.room }
-    requires proposal { IfSome slip.old.proposal (λ a. a ≡ advanced kernel.old.inputs.image.text a.before) }
+    requires proposal { slip.old.is_proposed ≡ true →
+        slip.old.proposal ≡ advanced kernel.old.inputs.image.text slip.old.proposal.before }
     ensures step { kernel.new ≡ stepped kernel.old t }
     ensures turn { turn kernel.new t ≡ Some slip.new.last }
     ensures some { 0 < kernel.old.room }
@@ -55,7 +56,7 @@ fn step_kernel<W: World>(kernel: &mut Kernel<W>, t: u32, slip: &mut Slip)
     ensures work { work (machine_of kernel.new) < work (machine_of kernel.old) }
 {
     kernel.was_opened();
-    match kernel.make_step(t, slip.proposal.as_ref()) {
+    match kernel.make_step(t, slip.proposal()) {
         Ok(finished) => kernel.note_turn(t, finished, &mut slip.last),
         Err(OutOfMemory) => unreachable!(),
     }
@@ -79,8 +80,8 @@ impl<W: World> Guarded<W> {
     pub(crate) fn make_step(&mut self, t: u32, mut slip: Box<Slip>) -> Box<Slip>
         requires within { t < thread_count self.old.kernel.value.inputs }
         requires going { is_ended (machine_of self.old.kernel.value) t ≡ false }
-        requires proposal { IfSome slip.value.proposal (λ a. a
-            ≡ advanced self.old.kernel.value.inputs.image.text a.before) }
+        requires proposal { slip.value.is_proposed ≡ true → slip.value.proposal
+            ≡ advanced self.old.kernel.value.inputs.image.text slip.value.proposal.before }
         ensures inputs { self.new.kernel.value.inputs ≡ self.old.kernel.value.inputs }
         ensures room { self.new.first_room ≡ self.old.first_room }
         ensures steps { self.new.kernel.value.steps ≡ self.old.kernel.value.steps ++ t ∷ [] }

@@ -57,9 +57,7 @@ pub(crate) fn hand_out<W: World>(
 {
     'held: while !held.is_empty() {
         let pass = held.remove(0);
-        let last = turns[passes.len()].same();
-        let proposal = None;
-        let slip = Box::new(alloc, Slip { last, proposal })?;
+        let slip = Box::new(alloc, Slip::new(turns[passes.len()].same()))?;
         passes.push_reserved(ProcessPass::new(pass, slip));
     }
     Ok(passes)

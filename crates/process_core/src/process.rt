@@ -1,6 +1,6 @@
 //! A process, as its callers see it.
 ghost use Rattle.std.specs.Prelude.{◌≡◌, ◌<◌, ◌≤◌, ◌+◌, ℕ, [], ◌∷◌, ◌++◌, false, true, length, All};
-ghost use Rattle.std.specs.Prelude.{IfOk, IfSome, None, Some, slice_get};
+ghost use Rattle.std.specs.Prelude.{IfOk, IfSome, Some, slice_get};
 ghost use Rattle.guest_machine.specs.Advances.{advanced};
 ghost use Rattle.kernel_core.specs.Histories.{GoesOn, IsComplete, IsLegal, turn_after};
 ghost use Rattle.kernel_core.specs.Kernel as kernels;
@@ -14,9 +14,9 @@ ghost use Rattle.turnstile.specs.Past.{Knows};
 use crate::guarded::{Guarded, guard};
 use crate::opening::{first_turns, hand_out};
 use crate::passes::{ProcessPass, ProcessPasses};
-use crate::slip::Slip;
+use crate::slip::{Slip, advance_to};
 use guest_isa::Text;
-use guest_machine::{Advance, advance};
+use guest_machine::Advance;
 use kernel_core::{Kernel, Turn};
 use lwc_base::OutOfMemory;
 use std::alloc::Global;
@@ -60,7 +60,8 @@ fn take_turn<R: Wait, W: World>(
     requires within { pass.old.number < thread_count gate.now.name.inputs }
     requires knows { Leaves gate.now.name.inputs pass.old.number pass.old.seen slip.value.last }
     requires going { has_ended slip.value.last.status ≡ false }
-    requires proposal { IfSome slip.value.proposal (λ a. a ≡ advanced gate.now.name.inputs.image.text a.before) }
+    requires proposal { slip.value.is_proposed ≡ true →
+        slip.value.proposal ≡ advanced gate.now.name.inputs.image.text slip.value.proposal.before }
     ensures ours { gates.IsPassOf gate.now pass.new }
     ensures number { pass.new.number ≡ pass.old.number }
     ensures leaves { Leaves gate.now.name.inputs pass.new.number pass.new.seen result.value.last }
@@ -75,8 +76,8 @@ fn take_turn<R: Wait, W: World>(
         move |guarded: &mut Guarded<W>| -> Box<Slip>
             requires { (t < thread_count guarded.now.kernel.value.inputs)
                 × (is_ended (machine_of guarded.now.kernel.value) t ≡ false)
-                × IfSome slip.value.proposal (λ a. a
-                ≡ advanced guarded.now.kernel.value.inputs.image.text a.before) }
+                × (slip.value.is_proposed ≡ true → slip.value.proposal
+                ≡ advanced guarded.now.kernel.value.inputs.image.text slip.value.proposal.before) }
             ensures { (guarded.exit.now.kernel.value.inputs ≡ guarded.entry.now.kernel.value.inputs)
                 × (guarded.exit.now.first_room ≡ guarded.entry.now.first_room)
                 × (guarded.exit.now.kernel.value.steps ≡ guarded.entry.now.kernel.value.steps ++ t ∷ [])
@@ -129,18 +130,20 @@ impl<W: World> Process<W> {
         &self.text
     }
 
-    /// What a turn of the pass is proposed best: the advance of the registers that its last turn left. A thread that
-    /// is alone proposes nothing: nobody waits while it advances in its turn. It waits for nobody.
-    pub fn proposal(&self, pass: &ProcessPass<W>) -> Option<Advance>
-        ensures alone { thread_count self.now.name.inputs ≡ 1 → result ≡ None }
-        ensures others { 1 < thread_count self.now.name.inputs →
-            result ≡ Some (advanced self.now.name.inputs.image.text pass.now.last.regs) }
+    /// Makes the proposal of the pass's next turn in the place of another one, and says so: the advance of the
+    /// registers that the last turn left. A thread that is alone proposes nothing, since nobody waits while it advances
+    /// in its turn. It waits for nobody, and takes no memory.
+    pub fn propose(&self, pass: &ProcessPass<W>, proposal: &mut Advance) -> bool
+        ensures others { 1 < thread_count self.now.name.inputs → (result ≡ true)
+            × (proposal.new ≡ advanced self.now.name.inputs.image.text pass.now.last.regs) }
+        ensures alone { thread_count self.now.name.inputs ≡ 1 → (result ≡ false) × (proposal.new ≡ proposal.old) }
+        ensures fits { result ≡ true → proposal.new ≡ advanced self.now.name.inputs.image.text proposal.new.before }
     {
         if self.threads == 1 {
-            None
-        } else {
-            Some(advance(&self.text, &pass.last().regs))
+            return false;
         }
+        advance_to(proposal, &self.text, &pass.last().regs);
+        true
     }
 
     /// One step of the pass's thread, or none where its last turn had ended the thread: then that turn is
@@ -193,7 +196,7 @@ impl<W: World> Process<W> {
             return;
         }
         if let Some(mut slip) = pass.slip.take() {
-            slip.proposal = proposal.copied();
+            slip.take(&self.text, proposal);
             pass.slip = Some(take_turn(&self.gate, rt, &mut pass.pass, slip));
         }
     }

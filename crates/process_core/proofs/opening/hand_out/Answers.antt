@@ -23,7 +23,7 @@ held-preserved g c =
     let rest = c.remove-pass.new.self.items in
     let now = c.push_reserved.ensures.items ∙ ap (λ (r : Carried). ps ++ r ∷ []) c.new-in-held.ensures in
     let name = c.args.gate.now.name.inputs in
-    let found : last ≡ get_or c.args.turns.now.items c.len.result last = subst (λ (x : Turn). x ≡ get_or c.args.turns.now.items c.len.result x) (sym (ap (λ (s : Slip). s.last) c.in_ok-slip.ensures.ok ∙ c.same-last.ensures)) c.index.ensures in
+    let found : last ≡ get_or c.args.turns.now.items c.len.result last = subst (λ (x : Turn). x ≡ get_or c.args.turns.now.items c.len.result x) (sym (ap (λ (s : Slip). s.last) c.in_ok-slip.ensures.ok ∙ c.new.ensures ∙ c.same.ensures)) c.index.ensures in
     record {
       all = subst (λ (l : List Carried). map (λ (p : Carried). p.held) l ++ rest ≡ all) (sym now)
           (handed ps pass last rest all (subst (λ (l : List (Held Opened)). map (λ (p : Carried). p.held) ps ++ l ≡ all) first c.held.invariant.all));

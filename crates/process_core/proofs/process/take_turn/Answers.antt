@@ -1,7 +1,7 @@
 use Rattle.process_core.proofs.Sends.{guarded_send, guarded_sync}
 use Rattle.std.proofs.Crossing.{crosses}
 use denote.Param.Send.{sendable}
-use Rattle.std.proofs.Common.{◌≡◌, ◌∙◌, ◌++◌, ◌∷◌, [], ap, sym, subst, arith, IfSome, ℕ}
+use Rattle.std.proofs.Common.{◌≡◌, ◌∙◌, ◌++◌, ◌∷◌, [], ap, sym, subst, arith, true, ℕ}
 use Rattle.guest_machine.specs.Advances.{advanced}
 use Rattle.kernel_core.specs.Kernel.{History}
 use Rattle.process_core.proofs.Due.{after_turn, named, ready}
@@ -27,7 +27,7 @@ with_turn-requires-clause-callable g c κs lives x due p is =
     let e : p.now.kernel.value ≡ x.kernel.value = cc in
     let s = c.type_bounds.send-W in
     let y = c.type_bounds.sync-W in (
-      ready p.now.kernel.value c.args.gate.now.name.inputs c.args.pass.now.seen c.args.pass.now.number c.number-t.result c.args.slip.value.last (λ i. IfSome c.args.slip.value.proposal (λ a. a ≡ advanced i.image.text a.before))
+      ready p.now.kernel.value c.args.gate.now.name.inputs c.args.pass.now.seen c.args.pass.now.number c.number-t.result c.args.slip.value.last (λ i. c.args.slip.value.is_proposed ≡ true → c.args.slip.value.proposal ≡ advanced i.image.text c.args.slip.value.proposal.before)
           (ap (λ (h : History). h.inputs) e ∙ ap (λ (o : Opened). o.inputs) due.0) (subst (λ (h : History). Knows h.steps c.args.pass.now.number c.args.pass.now.seen) (sym e) due.1)
           c.requires.knows c.requires.going c.requires.within c.requires.proposal c.number-t.ensures,
       (search (sendable, crosses, guarded_send, guarded_sync) depth 80 fits 20000, search (sendable, crosses, guarded_send, guarded_sync) depth 80 fits 20000),
