@@ -6,7 +6,6 @@ ghost use Rattle.std.specs.Prelude.{◌≡◌, ◌≢◌, [], Err, IfErr, IfOk, 
 ghost use Rattle.std.specs.IoError.{error_kind};
 
 use crate::progress::{ClearingSink, Progress};
-use lwc_base::MOST_THREADS;
 use lwc_io::{RealFiles, RealSink, Sink};
 use lwcrun_core::{ExitStatus, lwcrun};
 use std::alloc::Global;
@@ -14,7 +13,6 @@ use std::env;
 use std::io::{self, ErrorKind};
 use std::process::ExitCode;
 use std::rt::Env;
-use thread_carrier::VisitLog;
 
 mod progress;
 
@@ -42,9 +40,8 @@ fn main(rt: HostRuntime) -> ExitCode {
     let mut out = ClearingSink::new(&progress, RealSink::new(rt.stdout()));
     let mut err = ClearingSink::new(&progress, RealSink::new(rt.stderr()));
     let mut files = RealFiles::new(rt);
-    let logs = VisitLog::for_threads(rt.alloc(), MOST_THREADS as usize);
-    let status = match (words_or_none(rt.alloc(), words(&rt)), logs) {
-        (Ok(words), Ok(mut logs)) => lwcrun(
+    let status = match words_or_none(rt.alloc(), words(&rt)) {
+        Ok(words) => lwcrun(
             &rt,
             rt.alloc(),
             words.as_slice(),
@@ -52,9 +49,8 @@ fn main(rt: HostRuntime) -> ExitCode {
             &mut out,
             &mut err,
             &progress,
-            &mut logs,
         ),
-        _ => {
+        Err(_) => {
             let _ = err.write(b"lwcrun: no memory\n");
             ExitStatus::NoMemory
         }

@@ -2,15 +2,12 @@
 
 ghost use Rattle.std.specs.Prelude.{◌≡◌};
 
-use lwc_io::{Failed, Sink};
-use process_core::ProcessPass;
+use lwc_io::{Failed, Gate, Sink};
 use std::io::IsTerminal;
 use std::marker::Model;
 use std::sync::Wait;
 use std::sync::atomic::{AtomicBool, AtomicU64, Ordering};
 use std::time::Instant;
-use thread_carrier::{Gate, VisitLog};
-use world_face::World;
 
 /// How many turns are made from one look at the clock to the next.
 const TURNS_A_LOOK: u64 = 256;
@@ -18,16 +15,14 @@ const TURNS_A_LOOK: u64 = 256;
 /// The last tenth of a second in which no line is shown, counted from 0 on.
 const QUIET_TENTHS: u64 = 9;
 
-/// A gate at which nobody waits. Where standard error is a terminal it counts the turns of all threads
-/// and the requests that they finished, and once a second has passed it shows these numbers there, at
-/// most once in each tenth of a second.
+/// A gate at which nobody waits. Where standard error is a terminal it counts the turns to which threads came, and
+/// once a second has passed it shows their number there, at most once in each tenth of a second.
 #[derive(Drop)]
 pub struct Progress {
     rt: HostRuntime,
     // When the program began, where standard error is a terminal and there is a clock.
     start: Option<Instant>,
     turns: AtomicU64,
-    requests: AtomicU64,
     // The tenth of a second from the start in which the line was shown last; at first `QUIET_TENTHS`.
     tenth: AtomicU64,
     is_shown: AtomicBool,
@@ -45,7 +40,6 @@ impl Progress {
             rt,
             start,
             turns: AtomicU64::new(0),
-            requests: AtomicU64::new(0),
             tenth: AtomicU64::new(QUIET_TENTHS),
             is_shown: AtomicBool::new(false),
         }
@@ -63,17 +57,8 @@ impl Progress {
         let turns = self.turns.fetch_add(1, Ordering::SeqCst);
         if turns % TURNS_A_LOOK == 0 && self.enter_tenth(start) {
             self.is_shown.store(true, Ordering::SeqCst);
-            self.show(turns);
+            let _ = eprint!(self.rt; "\r\x1b[Klwcrun: {turns} turns");
         }
-    }
-
-    /// Shows the number of turns, and that of the finished requests where there are any.
-    fn show(&self, turns: u64) {
-        let requests = self.requests.load(Ordering::SeqCst);
-        let _ = match requests {
-            0 => eprint!(self.rt; "\r\x1b[Klwcrun: {turns} turns"),
-            _ => eprint!(self.rt; "\r\x1b[Klwcrun: {turns} turns, {requests} requests"),
-        };
     }
 
     /// Notes which tenth of a second it is. Says whether the line may be shown in it, and nobody noted it
@@ -93,39 +78,10 @@ impl Progress {
 }
 
 impl Gate for Progress {
-    type Log = VisitLog;
-
-    ghost leave = { λ _. Unit {0} };
-
-    ghost visits = { λ log. log.visits };
-
     /// Returns at once.
-    fn before<R: Wait, W: World>(
-        &self,
-        _rt: &R,
-        log: &mut VisitLog,
-        _pass: &ProcessPass<W>,
-        thread: u32,
-        turn: u64,
-    ) {
-        log.note_turn(thread, turn);
+    fn before<R: Wait>(&self, _rt: &R, _thread: u32, _turn: u64) {
         if let Some(start) = self.start {
             self.count_turn(start);
-        }
-    }
-
-    /// Returns at once.
-    fn finished<R: Wait, W: World>(
-        &self,
-        _rt: &R,
-        log: &mut VisitLog,
-        _pass: &ProcessPass<W>,
-        thread: u32,
-        request: u16,
-    ) {
-        log.note_request(thread, request);
-        if self.start.is_some() {
-            self.requests.fetch_add(1, Ordering::SeqCst);
         }
     }
 }

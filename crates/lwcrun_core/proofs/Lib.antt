@@ -1,4 +1,3 @@
 mod Answered
 mod Clauses
 mod Promises
-mod Visited

@@ -6,14 +6,13 @@ use Rattle.lwcrun_core.specs.declared.status.ExitStatus.{ExitStatus}
 use Rattle.lwcrun_core.specs.declared.status.ExitStatus.TheVariants as statuses
 use Rattle.lwcrun_modes.specs.Ends.{End, Outside, Ended, FetchFailed, IsUnwritten, WriteFailed}
 use Rattle.lwcrun_modes.specs.Ends as ends
-use Rattle.lwcrun_modes.specs.Works.{HaveVisited, IsText, Work, plan_of}
+use Rattle.lwcrun_modes.specs.Works.{IsText, Work, plan_of}
 use Rattle.lwcrun_line.specs.Lines.{Command, IsStream}
 use Rattle.lwcrun_line.specs.Lines as commands
 use Rattle.lwcrun_modes.specs.Plans.{AreFetchesOf, FileContents, outcome}
 use Rattle.lwcrun_modes.specs.Reading.{Fetched}
 use Rattle.lwcrun_modes.specs.StreamEnds.{WroteReplies}
 use Rattle.lwcrun_core.specs.Statuses.{IsAnswered, status_of_rejection}
-use Rattle.thread_carrier.specs.declared.visit.Visit.{Visit}
 
 -- what holds at each end of a command: what holds at that end of its plan; or a stream's memory ran out behind the
 -- replies
@@ -27,16 +26,6 @@ CommandEnded o command e =
 unfoldable pub CallEnded : Outside → Option Command → End Rejection → Type 0
 CallEnded o None e = ((e ≡ ends.Usage) ⊎ (e ≡ ends.NoMemory)) × IsUnwritten o × (o.files_after ≡ o.files)
 CallEnded o (Some command) e = CommandEnded o command e
-
--- what the threads of a command did at the gate, by the exit status: where the text was written, or a part of it, the
--- logs have grown by the visits of the history that the text is of; out of memory they may have any visits; else there
--- were none
-abbrev pub VisitedBy : List (List Visit) → List (List Visit) → Outside → Command → ExitStatus → Type 0
-VisitedBy before after o command statuses.Ok = Ended (HaveVisited before after) o (plan_of command) ends.Done
-VisitedBy before after o command statuses.WriteFault =
-    Ended (HaveVisited before after) o (plan_of command) ends.Unwritten
-VisitedBy before after o command statuses.NoMemory = Unit {0}
-VisitedBy before after o command status = after ≡ before
 
 -- the line asks for a stream, and its replies were written and nothing else
 abbrev pub WroteOnlyReplies : Outside → Option Command → Type 0

@@ -1,24 +1,23 @@
-ghost use Rattle.std.specs.Prelude.{◌≡◌, ◌≤◌, None, Some, length, map, string_bytes};
-ghost use Rattle.lwc_base.specs.declared.limits.TheConstants.{MOST_THREADS};
-ghost use Rattle.lwcrun_core.specs.Calls.{IsOrNoMemory, status_by};
+ghost use Rattle.std.specs.Prelude.{◌≡◌, None, Some, map, string_bytes};
+ghost use Rattle.lwcrun_core.specs.Calls.{Answers, FetchesPlan, IsOrNoMemory, status_by};
 ghost use Rattle.lwcrun_core.specs.Headlines.{IsRunnable};
+ghost use Rattle.lwcrun_core.specs.InMemory.{contents, files_view, unseen};
+ghost use Rattle.lwcrun_line.specs.Lines.{Command, command_of};
+ghost use Rattle.lwcrun_modes.specs.Plans.{outcome};
+ghost use Rattle.lwcrun_modes.specs.Views.{outside};
 ghost use Rattle.lwcrun_modes.specs.Works.{plan_of};
-ghost use Rattle.lwcrun_core.specs.InMemory.{contents};
-ghost use Rattle.lwcrun_line.specs.Lines.{Command, RunsThreads, command_of};
-ghost use Rattle.lwcrun_modes.specs.Plans.{ComesToWork, outcome};
 
 use crate::call::lwcrun;
 use crate::status::ExitStatus;
-use lwc_io::{Sink, SureFiles, SureSink};
+use lwc_io::{Gate, Sink, SureFiles, SureSink};
 use std::alloc::Global;
 use std::sync::Wait;
 use std::thread::Threads;
-use thread_carrier::Gate;
 
 /// What the program does over files in memory, none of which fails, and an output that takes all it is given. A
 /// name that was not given is an empty file. The exit status is `Usage` for a line that is not accepted, and that
 /// of where the command's plan leads for another one: so `Ok` for inputs in their grammars and limits. `NoMemory`
-/// may come in place of each.
+/// may come in place of each. `outcome` is that of `lwcrun`: it says what is written to `err`.
 pub fn lwcrun_in_memory<R: Threads + Wait + Sync, E: Sink, G: Gate>(
     rt: &R,
     alloc: Global,
@@ -26,17 +25,16 @@ pub fn lwcrun_in_memory<R: Threads + Wait + Sync, E: Sink, G: Gate>(
     files: &mut SureFiles,
     err: &mut E,
     gate: &G,
-    logs: &mut Vec<G::Log>,
 ) -> ExitStatus
-    requires leave { (command : Command) → command_of (map string_bytes words.now) ≡ Some command
-        → RunsThreads command → ComesToWork (λ name. Some (contents files.old.files name)) (plan_of command)
-        → G.leave gate.now }
-    requires logs { MOST_THREADS ≤ length logs.old.items }
+    ensures outcome { Answers (outside (files_view files.old) (files_view files.new) unseen unseen)
+        (command_of (map string_bytes words.now)) result (E.seen err.old) (E.seen err.new) }
     ensures usage { command_of (map string_bytes words.now) ≡ None → IsOrNoMemory result ExitStatus.Usage }
     ensures ends { (command : Command) → command_of (map string_bytes words.now) ≡ Some command
         → IsOrNoMemory result (status_by (outcome (contents files.old.files) (plan_of command))) }
     ensures complete { (command : Command) → command_of (map string_bytes words.now) ≡ Some command
         → IsRunnable command (contents files.old.files) → IsOrNoMemory result ExitStatus.Ok }
+    ensures fetches { FetchesPlan (command_of (map string_bytes words.now))
+        (files_view files.old) (files_view files.new) }
 {
-    lwcrun(rt, alloc, words, files, &mut SureSink, err, gate, logs)
+    lwcrun(rt, alloc, words, files, &mut SureSink, err, gate)
 }

@@ -13,4 +13,5 @@ pub use in_memory::lwcrun_in_memory;
 pub use limits::limits_are_as_documented;
 pub use lwcrun_line::{Line, LineFault, read_line};
 pub use lwcrun_modes::{Ending, open_process, replay};
+pub use messages::{message_of, status_of};
 pub use status::ExitStatus;

@@ -2,7 +2,7 @@ ghost use Rattle.std.specs.Prelude.{◌≡◌, ◌⊎◌, IfOk, string_bytes};
 ghost use Rattle.lwcrun_modes.specs.Ends as ends;
 ghost use Rattle.lwcrun_modes.specs.Ends.{End};
 ghost use Rattle.lwcrun_core.specs.Statuses.{MayBeAnsweredAs, IsAnswered, Takes, message_of, rejection_words};
-ghost use Rattle.lwcrun_core.specs.Statuses.{message, status_of_rejection};
+ghost use Rattle.lwcrun_core.specs.Statuses.{message, status_of, status_of_rejection};
 ghost use Rattle.lwcrun_modes.specs.Views.{end_of};
 
 use crate::status::ExitStatus;
@@ -17,6 +17,52 @@ const USAGE: &str =
      asm SOURCE, dis IMAGE, gen NUMBER, lift IMAGE, monitor IMAGE SCHEDULE, vault IMAGE VAULT SCHEDULE, \
      debug IMAGE SCHEDULE SCRIPT, stream IMAGE REQUESTS; \
      --frames F --budget B --workers W\n";
+
+/// The message of a call that ran out of memory.
+const NO_MEMORY: &str = "lwcrun: no memory\n";
+
+/// The message of a call whose output was not written.
+const UNWRITTEN: &str = "lwcrun: cannot write\n";
+
+/// The message of an ending: none where all was written, and else one line.
+///
+/// # Errors
+///
+/// The only error is out of memory.
+#[tactic(auto, unfolding(crate::specs::Statuses::message_of))]
+pub fn message_of(alloc: Global, ending: &Ending<'_>) -> Result<String, OutOfMemory>
+    ensures { IfOk result (λ text. string_bytes text ≡ message_of (end_of ending.now)) }
+{
+    match ending {
+        Ending::Done => Ok(String::new(alloc)),
+        Ending::NoMemory => text_of(alloc, NO_MEMORY),
+        Ending::Usage => text_of(alloc, USAGE),
+        Ending::Unread(name) => unread_line(alloc, name),
+        Ending::Unwritten => text_of(alloc, UNWRITTEN),
+        Ending::Refused(rejection) => rejection_line(alloc, rejection),
+    }
+}
+
+/// The exit status of an ending.
+pub fn status_of(ending: &Ending<'_>) -> ExitStatus
+    ensures { result ≡ status_of (end_of ending.now) }
+{
+    match ending {
+        Ending::Done => ExitStatus::Ok,
+        Ending::NoMemory => ExitStatus::NoMemory,
+        Ending::Usage => ExitStatus::Usage,
+        Ending::Unread(_) => ExitStatus::ReadFault,
+        Ending::Unwritten => ExitStatus::WriteFault,
+        Ending::Refused(rejection) => rejection_status(rejection),
+    }
+}
+
+/// A text of its own. The only error is out of memory.
+fn text_of(alloc: Global, text: &str) -> Result<String, OutOfMemory>
+    ensures { IfOk result (λ copy. string_bytes copy ≡ text.now) }
+{
+    Ok(String::from_str(alloc, text)?)
+}
 
 /// Writes the message of an ending and returns its exit status. If there is no memory for the message, the
 /// call ends out of memory.
@@ -48,7 +94,7 @@ fn write_nothing<E: Sink>(err: &mut E) -> ExitStatus
 fn write_no_memory<E: Sink>(err: &mut E) -> ExitStatus
     ensures { IsAnswered ends.NoMemory result (E.seen err.old) (E.seen err.new) }
 {
-    write_text(err, "lwcrun: no memory\n");
+    write_text(err, NO_MEMORY);
     ExitStatus::NoMemory
 }
 
@@ -88,7 +134,7 @@ fn unread_line(alloc: Global, name: &str) -> Result<String, OutOfMemory>
 fn write_unwritten<E: Sink>(err: &mut E) -> ExitStatus
     ensures { IsAnswered ends.Unwritten result (E.seen err.old) (E.seen err.new) }
 {
-    write_text(err, "lwcrun: cannot write\n");
+    write_text(err, UNWRITTEN);
     ExitStatus::WriteFault
 }
 

@@ -2,13 +2,11 @@
 
 use crate::case::Case;
 use crate::outside::{CaseGate, CountingSink, Outside, SURE};
-use lwc_base::MOST_THREADS;
-use lwc_io::{MemoryFiles, MemorySink, NamedFile, SureFiles};
+use lwc_io::{MemoryFiles, MemorySink, NamedFile, OpenGate, SureFiles};
 use lwcrun_core::{ExitStatus, Line, lwcrun, lwcrun_in_memory, read_line, replay};
 use std::alloc::{AllocError, Global};
 use std::sync::Wait;
 use std::thread::Threads;
-use thread_carrier::{OpenGate, VisitLog};
 
 /// What a call has left: its status, what it wrote, its message, and whether a thread that was held looked until its
 /// looks ran out.
@@ -36,7 +34,6 @@ pub fn call<R: AllocGlobal + Threads + Wait + Sync>(
         lines: gate.lines(),
     };
     let mut err = MemorySink::new(alloc, 1 << 20, Vec::new(alloc));
-    let mut logs = VisitLog::for_threads(alloc, MOST_THREADS as usize)?;
     let status = lwcrun(
         rt,
         alloc,
@@ -45,7 +42,6 @@ pub fn call<R: AllocGlobal + Threads + Wait + Sync>(
         &mut out,
         &mut err,
         &gate,
-        &mut logs,
     );
     Ok(Left {
         status,
@@ -65,16 +61,7 @@ pub fn status_in_memory<R: AllocGlobal + Threads + Wait + Sync>(
     let line = line_of(alloc, words)?;
     let mut files = SureFiles::new(named);
     let mut err = MemorySink::new(alloc, 1 << 20, Vec::new(alloc));
-    let mut logs = VisitLog::for_threads(alloc, MOST_THREADS as usize)?;
-    Ok(lwcrun_in_memory(
-        rt,
-        alloc,
-        line.as_slice(),
-        &mut files,
-        &mut err,
-        &OpenGate,
-        &mut logs,
-    ))
+    Ok(lwcrun_in_memory(rt, alloc, line.as_slice(), &mut files, &mut err, &OpenGate))
 }
 
 /// What a replay writes in a function that has no handle of the runtime, so that no thread starts and nobody waits,

@@ -1,12 +1,9 @@
 //! The outside of a call: what fails, a gate that may hold one thread, and a sink that shows how many lines it took.
 
-use lwc_io::{Failed, MemorySink, Sink};
-use process_core::ProcessPass;
+use lwc_io::{Failed, Gate, MemorySink, Sink};
 use std::hint::spin_loop;
 use std::sync::Wait;
 use std::sync::atomic::{AtomicBool, AtomicU64, Ordering};
-use thread_carrier::{Gate, VisitLog};
-use world_face::World;
 
 /// How often a thread that is held looks.
 const LOOKS: u32 = 1_000_000_000;
@@ -88,22 +85,8 @@ impl CaseGate {
 }
 
 impl Gate for CaseGate {
-    type Log = VisitLog;
-
-    ghost leave = { λ _. Unit {0} };
-
-    ghost visits = { λ log. log.visits };
-
     /// Notes the second turn of the thread that is awaited, and holds the first turn of the one that is held.
-    fn before<R: Wait, W: World>(
-        &self,
-        _rt: &R,
-        log: &mut VisitLog,
-        _pass: &ProcessPass<W>,
-        thread: u32,
-        turn: u64,
-    ) {
-        log.note_turn(thread, turn);
+    fn before<R: Wait>(&self, _rt: &R, thread: u32, turn: u64) {
         let Some(hold) = self.hold else {
             return;
         };
@@ -113,18 +96,6 @@ impl Gate for CaseGate {
         if turn == 0 && thread == hold.held {
             self.wait(hold);
         }
-    }
-
-    /// Returns at once.
-    fn finished<R: Wait, W: World>(
-        &self,
-        _rt: &R,
-        log: &mut VisitLog,
-        _pass: &ProcessPass<W>,
-        thread: u32,
-        request: u16,
-    ) {
-        log.note_request(thread, request);
     }
 }
 

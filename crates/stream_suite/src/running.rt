@@ -1,6 +1,6 @@
 //! Threads that are carried side by side: while one is held, another goes on.
 
-ghost use Rattle.std.specs.Prelude.{◌≡◌, []};
+ghost use Rattle.std.specs.Prelude.{◌≡◌, ◌≤◌, []};
 ghost use Rattle.kernel_core.specs.Kernel.{machine_of};
 ghost use Rattle.kernel_core.specs.Machine.{work};
 
@@ -14,7 +14,7 @@ use std::process::Abort;
 use std::sync::Wait;
 use std::test::Fail;
 use std::thread::Threads;
-use thread_carrier::{VisitLog, run_threads};
+use thread_carrier::run_threads;
 
 /// The kernel after its threads were carried to their ends.
 fn carried<R: AllocGlobal + Abort + Threads + Wait + Sync>(
@@ -23,13 +23,10 @@ fn carried<R: AllocGlobal + Abort + Threads + Wait + Sync>(
     gate: &HoldingGate,
 ) -> Result<Kernel<LazyWorld>, Fail>
     requires fresh { kernel.steps ≡ [] }
-    requires room { kernel.room ≡ work (machine_of kernel) }
+    requires room { work (machine_of kernel) ≤ kernel.room }
 {
     let (process, passes) = Process::open(rt.alloc(), kernel)?;
-    let mut logs = VisitLog::for_threads(rt.alloc(), passes.len()).expect(rt, "memory for logs");
-    let kernel = run_threads(rt, rt.alloc(), process, passes, gate, &mut logs);
-    drop(logs);
-    Ok(kernel?)
+    Ok(run_threads(rt, rt.alloc(), process, passes, gate)?)
 }
 
 /// What a kernel shows of a run or a serve of two threads: the number of steps and the first one, and how each thread
