@@ -192,17 +192,3 @@ IsWithinLimits (Stream image requests settings) = AreServeSettings settings
 abbrev pub IsStream : Command → Type 0
 IsStream (Stream image requests settings) = Unit {0}
 IsStream command = ⊥
-
--- the command runs threads, which come to the gate
-abbrev pub RunsThreads : Command → Type 0
-RunsThreads (Replay image schedule requests settings) = ⊥
-RunsThreads (Run image settings) = Unit {0}
-RunsThreads (Serve image requests settings) = Unit {0}
-RunsThreads (Asm source) = ⊥
-RunsThreads (Dis image) = ⊥
-RunsThreads (Gen number) = Unit {0}
-RunsThreads (Lift image) = ⊥
-RunsThreads (Monitor image schedule settings) = ⊥
-RunsThreads (Vault image vault schedule settings) = ⊥
-RunsThreads (Debug image schedule script settings) = ⊥
-RunsThreads (Stream image requests settings) = Unit {0}
