@@ -1,8 +1,6 @@
 -- What a pass knows of a kernel that is due for it.
-use Rattle.std.proofs.Common.{◌≡◌, ◌+◌, ◌<◌, ◌≤◌, ◌==◌, ℕ, List, [], ◌∷◌, ◌++◌, length, Option, Some, false, cond, sym, ap, subst, ◌∙◌, arith, append_assoc, IfSome}
+use Rattle.std.proofs.Common.{◌≡◌, ◌+◌, ◌<◌, ◌≤◌, ◌==◌, ℕ, List, [], ◌∷◌, ◌++◌, length, Option, Some, false, cond, sym, ap, subst, ◌∙◌, arith, append_assoc}
 use Rattle.std.proofs.lemmas.List.Sums.{sum_by-append}
-use Rattle.guest_machine.specs.Advances.{advanced}
-use Rattle.guest_machine.specs.declared.progress.Advance.{Advance}
 use Rattle.kernel_core.specs.Histories.{GoesOn, IsLegal, steps_by, turn_after}
 use Rattle.kernel_core.specs.Kernel.{History, machine_of, turn}
 use Rattle.kernel_core.specs.Machine.{has_ended, is_ended}
@@ -71,12 +69,12 @@ still_going : (h : History) (inputs : Inputs) (seen : List ℕ) (t : ℕ) (last 
     has_ended last.status ≡ false → is_ended (machine_of h) t ≡ false
 still_going h inputs seen t last same k leaves going = ended_by_turn h t last (still_is h inputs seen t last same k leaves) ∙ going
 
--- a step of the thread may be made
-pub ready : (h : History) (inputs : Inputs) (seen : List ℕ) (n t : ℕ) (last : Turn) (proposal : Option Advance) → h.inputs ≡ inputs → Knows h.steps n seen → Leaves inputs n seen last →
-    has_ended last.status ≡ false → n < thread_count inputs → IfSome proposal (λ a. a.now ≡ advanced inputs.image.text a.now.before) → t ≡ n →
-    (t < thread_count h.inputs) × (is_ended (machine_of h) t ≡ false) × IfSome proposal (λ (a : Advance). a ≡ advanced h.inputs.image.text a.before)
-ready h inputs seen n t last proposal same k leaves going within offer is = (
+-- a step of the thread may be made, and what holds of the inputs holds of the kernel's
+pub ready : (h : History) (inputs : Inputs) (seen : List ℕ) (n t : ℕ) (last : Turn) (Fits : Inputs → Type 0) → h.inputs ≡ inputs → Knows h.steps n seen → Leaves inputs n seen last →
+    has_ended last.status ≡ false → n < thread_count inputs → Fits inputs → t ≡ n →
+    (t < thread_count h.inputs) × (is_ended (machine_of h) t ≡ false) × Fits h.inputs
+ready h inputs seen n t last Fits same k leaves going within fits is = (
   subst (λ (i : Inputs). t < thread_count i) (sym same) (subst (λ (m : ℕ). m < thread_count inputs) (sym is) within),
   subst (λ (m : ℕ). is_ended (machine_of h) m ≡ false) (sym is) (still_going h inputs seen n last same k leaves going),
-  subst (λ (i : Inputs). IfSome proposal (λ (a : Advance). a ≡ advanced i.image.text a.before)) (sym same) offer,
+  subst Fits (sym same) fits,
 )

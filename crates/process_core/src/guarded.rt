@@ -8,8 +8,8 @@ ghost use Rattle.kernel_core.specs.Start.{start, thread_count};
 ghost use Rattle.lwc_base.specs.declared.limits.TheConstants.{MOST_STEPS};
 
 use crate::opened::Opened;
-use guest_machine::Advance;
-use kernel_core::{Kernel, Turn};
+use crate::slip::Slip;
+use kernel_core::Kernel;
 use lwc_base::OutOfMemory;
 use turnstile::Turned;
 use world_face::World;
@@ -41,27 +41,22 @@ impl<W: World> Turned for Guarded<W> {
     ghost short = { λ g. omega (arith, g.whole, g.few) };
 }
 
-/// A step of a thread that has not ended, with room for it. Notes in `last` what it left.
-fn step_kernel<W: World>(
-    kernel: &mut Kernel<W>,
-    t: u32,
-    proposal: Option<&Advance>,
-    last: &mut Turn,
-)
+/// A step of a thread that has not ended, with room for it. Notes in the slip what it left.
+fn step_kernel<W: World>(kernel: &mut Kernel<W>, t: u32, slip: &mut Slip)
     requires roomy { W.roomy ≡ true }
     requires within { t < thread_count kernel.old.inputs }
     requires going { is_ended (machine_of kernel.old) t ≡ false }
     requires room { work (machine_of kernel.old) ≤ kernel.old.room }
-    requires proposal { IfSome proposal (λ a. a.now ≡ advanced kernel.old.inputs.image.text a.now.before) }
+    requires proposal { IfSome slip.old.proposal (λ a. a ≡ advanced kernel.old.inputs.image.text a.before) }
     ensures step { kernel.new ≡ stepped kernel.old t }
-    ensures turn { turn kernel.new t ≡ Some last.new }
+    ensures turn { turn kernel.new t ≡ Some slip.new.last }
     ensures some { 0 < kernel.old.room }
     ensures room { kernel.new.room + 1 ≡ kernel.old.room }
     ensures work { work (machine_of kernel.new) < work (machine_of kernel.old) }
 {
     kernel.was_opened();
-    match kernel.make_step(t, proposal) {
-        Ok(finished) => kernel.note_turn(t, finished, last),
+    match kernel.make_step(t, slip.proposal.as_ref()) {
+        Ok(finished) => kernel.note_turn(t, finished, &mut slip.last),
         Err(OutOfMemory) => unreachable!(),
     }
 }
@@ -80,24 +75,19 @@ pub(crate) fn guard<W: World>(kernel: Box<Kernel<W>>) -> Guarded<W>
 }
 
 impl<W: World> Guarded<W> {
-    /// A step of a thread that has not ended. What it left is noted in the box, which comes back.
-    pub(crate) fn make_step(
-        &mut self,
-        t: u32,
-        proposal: Option<&Advance>,
-        mut last: Box<Turn>,
-    ) -> Box<Turn>
+    /// A step of a thread that has not ended. What it left is noted in the slip.
+    pub(crate) fn make_step(&mut self, t: u32, mut slip: Box<Slip>) -> Box<Slip>
         requires within { t < thread_count self.old.kernel.value.inputs }
         requires going { is_ended (machine_of self.old.kernel.value) t ≡ false }
-        requires proposal { IfSome proposal (λ a. a.now
-            ≡ advanced self.old.kernel.value.inputs.image.text a.now.before) }
+        requires proposal { IfSome slip.value.proposal (λ a. a
+            ≡ advanced self.old.kernel.value.inputs.image.text a.before) }
         ensures inputs { self.new.kernel.value.inputs ≡ self.old.kernel.value.inputs }
         ensures room { self.new.first_room ≡ self.old.first_room }
         ensures steps { self.new.kernel.value.steps ≡ self.old.kernel.value.steps ++ t ∷ [] }
-        ensures turn { turn self.new.kernel.value t ≡ Some result.value }
+        ensures turn { turn self.new.kernel.value t ≡ Some result.value.last }
     {
-        step_kernel(&mut self.kernel, t, proposal, &mut last);
-        last
+        step_kernel(&mut self.kernel, t, &mut slip);
+        slip
     }
 
     /// The kernel.

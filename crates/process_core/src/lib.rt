@@ -12,6 +12,7 @@ mod opened;
 mod opening;
 mod passes;
 mod process;
+mod slip;
 
 pub use opened::Opened;
 pub use passes::{ProcessPass, ProcessPasses};

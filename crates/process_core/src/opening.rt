@@ -11,6 +11,7 @@ ghost use Rattle.turnstile.specs.Passes.{Held};
 
 use crate::guarded::Guarded;
 use crate::passes::{ProcessPass, ProcessPasses};
+use crate::slip::Slip;
 use kernel_core::{Kernel, Turn};
 use lwc_base::OutOfMemory;
 use std::alloc::Global;
@@ -56,8 +57,10 @@ pub(crate) fn hand_out<W: World>(
 {
     'held: while !held.is_empty() {
         let pass = held.remove(0);
-        let last = Box::new(alloc, turns[passes.len()].same())?;
-        passes.push_reserved(ProcessPass::new(pass, last));
+        let last = turns[passes.len()].same();
+        let proposal = None;
+        let slip = Box::new(alloc, Slip { last, proposal })?;
+        passes.push_reserved(ProcessPass::new(pass, slip));
     }
     Ok(passes)
 }

@@ -14,6 +14,7 @@ ghost use Rattle.turnstile.specs.Past.{Knows};
 use crate::guarded::{Guarded, guard};
 use crate::opening::{first_turns, hand_out};
 use crate::passes::{ProcessPass, ProcessPasses};
+use crate::slip::Slip;
 use guest_isa::Text;
 use guest_machine::{Advance, advance};
 use kernel_core::{Kernel, Turn};
@@ -48,22 +49,21 @@ impl<W: World> Model for Process<W> {
         × (p.gate.seats ≡ thread_count p.gate.name.inputs) × (p.threads ≡ thread_count p.gate.name.inputs) };
 }
 
-/// One step of the pass's thread, which its last turn had not ended. What it left is noted in the box.
+/// One step of the pass's thread, which its last turn had not ended. What it left is noted in the slip.
 fn take_turn<R: Wait, W: World>(
     gate: &Turnstile<Guarded<W>>,
     rt: &R,
     pass: &mut Pass<Guarded<W>>,
-    proposal: Option<&Advance>,
-    last: Box<Turn>,
-) -> Box<Turn>
+    slip: Box<Slip>,
+) -> Box<Slip>
     requires ours { gates.IsPassOf gate.now pass.old }
     requires within { pass.old.number < thread_count gate.now.name.inputs }
-    requires knows { Leaves gate.now.name.inputs pass.old.number pass.old.seen last.value }
-    requires going { has_ended last.value.status ≡ false }
-    requires proposal { IfSome proposal (λ a. a.now ≡ advanced gate.now.name.inputs.image.text a.now.before) }
+    requires knows { Leaves gate.now.name.inputs pass.old.number pass.old.seen slip.value.last }
+    requires going { has_ended slip.value.last.status ≡ false }
+    requires proposal { IfSome slip.value.proposal (λ a. a ≡ advanced gate.now.name.inputs.image.text a.before) }
     ensures ours { gates.IsPassOf gate.now pass.new }
     ensures number { pass.new.number ≡ pass.old.number }
-    ensures leaves { Leaves gate.now.name.inputs pass.new.number pass.new.seen result.value }
+    ensures leaves { Leaves gate.now.name.inputs pass.new.number pass.new.seen result.value.last }
     ensures goes_on { GoesOn pass.old.number pass.old.seen pass.new.seen }
     ensures later { pass.old.noted < length pass.new.seen }
     ensures noted { pass.old.noted ≤ pass.new.noted }
@@ -72,16 +72,16 @@ fn take_turn<R: Wait, W: World>(
     gate.with_turn(
         rt,
         pass,
-        move |guarded: &mut Guarded<W>| -> Box<Turn>
+        move |guarded: &mut Guarded<W>| -> Box<Slip>
             requires { (t < thread_count guarded.now.kernel.value.inputs)
                 × (is_ended (machine_of guarded.now.kernel.value) t ≡ false)
-                × IfSome proposal (λ a. a.now
-                ≡ advanced guarded.now.kernel.value.inputs.image.text a.now.before) }
+                × IfSome slip.value.proposal (λ a. a
+                ≡ advanced guarded.now.kernel.value.inputs.image.text a.before) }
             ensures { (guarded.exit.now.kernel.value.inputs ≡ guarded.entry.now.kernel.value.inputs)
                 × (guarded.exit.now.first_room ≡ guarded.entry.now.first_room)
                 × (guarded.exit.now.kernel.value.steps ≡ guarded.entry.now.kernel.value.steps ++ t ∷ [])
-                × (kernels.turn guarded.exit.now.kernel.value t ≡ Some result.value) }
-        { guarded.make_step(t, proposal, last) },
+                × (kernels.turn guarded.exit.now.kernel.value t ≡ Some result.value.last) }
+        { guarded.make_step(t, slip) },
     )
 }
 
@@ -192,8 +192,9 @@ impl<W: World> Process<W> {
         if pass.last().has_ended() {
             return;
         }
-        if let Some(last) = pass.last.take() {
-            pass.last = Some(take_turn(&self.gate, rt, &mut pass.pass, proposal, last));
+        if let Some(mut slip) = pass.slip.take() {
+            slip.proposal = proposal.copied();
+            pass.slip = Some(take_turn(&self.gate, rt, &mut pass.pass, slip));
         }
     }
 
