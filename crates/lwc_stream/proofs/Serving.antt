@@ -1,13 +1,13 @@
 -- Lists of workers, before they serve and after.
 use Rattle.std.proofs.Common.{◌≡◌, ◌<◌, ℕ, List, All, length, get_or, sym, ap, subst, ◌∙◌, arith}
-use Rattle.kernel_core.specs.Start.{Inputs}
+use Rattle.process_core.specs.declared.opened.Opened.{Opened}
 use Rattle.lwc_stream.specs.Workers.{HasServed, HaveServed, IsFresh}
 use Rattle.lwc_stream.specs.Queues.{End}
 use Rattle.process_core.proofs.Offers.{same_map}
 use Rattle.process_core.specs.Running.{Carried}
 use Rattle.turnstile.specs.Passes.{Lock}
 
-module _ {V : Type 0} (pass : V → Carried) (puts : V → End) (process : Lock Inputs) where
+module _ {V : Type 0} (pass : V → Carried) (puts : V → End) (process : Lock Opened) where
   -- each worker of a list may serve
   pub may_serve : (xs ys : List V) → xs ≡ ys → All (λ w. IsFresh process (pass w) (puts w)) ys → (i : ℕ) (x : V) → i < length xs → x ≡ get_or xs i x → IsFresh process (pass x) (puts x)
   may_serve xs ys same fresh i x inside is =

@@ -51,7 +51,7 @@ pub fn stream_all<R: Threads + Wait + Sync, W: World, G: Gate, O: Sink>(
     requests: u32,
     out: &mut O,
 ) -> Result<Streamed<W>, OutOfMemory>
-    requires count { requests ≡ length process.now.name.requests }
+    requires count { requests ≡ length process.now.name.inputs.requests }
     requires all { AreAllOf process.now passes.items }
     requires fresh { All (λ p. p.held.seen ≡ []) passes.items }
     ensures all { IfOk result (λ s. AreAllOf process.now s.passes.items) }
@@ -59,7 +59,7 @@ pub fn stream_all<R: Threads + Wait + Sync, W: World, G: Gate, O: Sink>(
         ≡ map (λ p. p.held.number) passes.items) }
     ensures ended { IfOk result (λ s. All (λ p. has_ended p.last.status ≡ true) s.passes.items) }
     ensures written { IfOk result (λ s. (shown : List Finished)
-        × AreShown (map (finished_by process.now.name) s.passes.items) requests shown
+        × AreShown (map (finished_by process.now.name.inputs) s.passes.items) requests shown
         × IsWritten s.failed (O.seen out.old) (O.seen out.new) (lines_of shown)) }
     ensures unwritten { OnErr result (O.seen out.new ≡ O.seen out.old) }
 {

@@ -20,8 +20,9 @@ pub(crate) struct Worker<'a, W: World> {
     pub(crate) store: Store<'a>,
 }
 
-/// Carries the thread to its end. Before each turn it comes to the gate. A reply that the turn finished is put
-/// into the queue, and the caller is notified. It may wait.
+/// Carries the thread to its end. For each turn it first advances the thread's registers, outside the lock, unless
+/// the thread is alone; then it comes to the gate; then it makes the turn with that advance as its proposal. A reply
+/// that the turn finished is put into the queue, and the caller is notified. It may wait.
 pub(crate) fn serve<R: Wait, W: World, G: Gate>(
     rt: &R,
     process: &Process<W>,
@@ -36,8 +37,9 @@ pub(crate) fn serve<R: Wait, W: World, G: Gate>(
 {
     let mut turns = 0u64;
     'turns: while !worker.pass.last().has_ended() {
+        let proposal = process.proposal(&worker.pass);
         gate.before(rt, worker.pass.thread(), turns);
-        process.make_turn(rt, &mut worker.pass, None);
+        process.make_turn(rt, &mut worker.pass, proposal.as_ref());
         hand_on(rt, signal, worker);
         turns += 1;
     }

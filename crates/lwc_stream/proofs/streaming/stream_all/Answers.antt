@@ -66,7 +66,7 @@ returns-clause-ended g c =
 
 pub returns-clause-written : goal.returns-clause-written
 returns-clause-written g c =
-    let name = c.args.process.now.name in
+    let name = c.args.process.now.name.inputs in
     let seen = g.O.Sink.seen in
     let after = c.serve_beside-workers.result.0.items in
     let ends = c.in_ok-puts.takes.items in

@@ -29,6 +29,6 @@ turns-preserved g c =
       queue = ap (λ (e : End). e.queue) c.hand_on.ensures.puts ∙ c.turns.invariant.queue;
       put = ap (λ (e : End). e.values) c.hand_on.ensures.puts
           ∙ (ap (λ (l : List Finished). l ++ replies_of q.last.finished) c.turns.invariant.put
-          ∙ sym (one_turn_more c.args.process.now.name p q same on c.make_turn.ensures.turn));
+          ∙ sym (one_turn_more c.args.process.now.name.inputs p q same on c.make_turn.ensures.turn));
       few = omega (arith, longer _ _ _ on, c.turns.invariant.few);
     }

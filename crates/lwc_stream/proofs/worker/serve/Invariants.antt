@@ -10,7 +10,7 @@ invariant-turns g l = record {
   ours : IsPassOf l.process l.worker.pass;
   number : l.worker.pass.held.number ≡ l.initial.worker.pass.held.number;
   queue : l.worker.puts.queue ≡ l.initial.worker.puts.queue;
-  put : l.worker.puts.values ≡ finished_by l.process.name l.worker.pass;
+  put : l.worker.puts.values ≡ finished_by l.process.name.inputs l.worker.pass;
   few : l.turns ≤ length l.worker.pass.held.seen;
 }
 
