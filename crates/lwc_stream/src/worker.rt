@@ -7,6 +7,7 @@ ghost use Rattle.lwc_stream.specs.Workers.{HasServed, IsFresh};
 use crate::ends::Puts;
 use crate::signal::Signal;
 use crate::store::Store;
+use guest_machine::advance;
 use lwc_io::Gate;
 use process_core::{Process, ProcessPass};
 use std::sync::Wait;
@@ -35,11 +36,17 @@ pub(crate) fn serve<R: Wait, W: World, G: Gate>(
     ensures number { worker.new.pass.held.number ≡ worker.old.pass.held.number }
     ensures queue { worker.new.puts.queue ≡ worker.old.puts.queue }
 {
+    let mut advance = advance(process.text(), &worker.pass.last().regs);
     let mut turns = 0u64;
     'turns: while !worker.pass.last().has_ended() {
-        let proposal = process.proposal(&worker.pass);
+        let is_proposed = process.propose(&worker.pass, &mut advance);
         gate.before(rt, worker.pass.thread(), turns);
-        process.make_turn(rt, &mut worker.pass, proposal.as_ref());
+        let proposal = if is_proposed {
+            Some(&advance)
+        } else {
+            None
+        };
+        process.make_turn(rt, &mut worker.pass, proposal);
         hand_on(rt, signal, worker);
         turns += 1;
     }
