@@ -1,20 +1,21 @@
 //! The program's call over files in memory, and its public parts.
 
 use crate::case::Case;
-use crate::outside::{CaseGate, CountingSink, Outside, SURE};
+use crate::outside::{CaseGate, CountingSink, Outside, SURE, Visits};
 use lwc_io::{MemoryFiles, MemorySink, NamedFile, OpenGate, SureFiles};
 use lwcrun_core::{ExitStatus, Line, lwcrun, lwcrun_in_memory, read_line, replay};
 use std::alloc::{AllocError, Global};
 use std::sync::Wait;
 use std::thread::Threads;
 
-/// What a call has left: its status, what it wrote, its message, and whether a thread that was held looked until its
-/// looks ran out.
+/// What a call has left: its status, what it wrote, its message, who came to the gate, and whether a thread that was held
+/// looked until its looks ran out.
 #[derive(Drop)]
 pub struct Left {
     pub status: ExitStatus,
     pub out: MemorySink,
     pub err: MemorySink,
+    pub visits: Visits,
     pub has_run_out: bool,
 }
 
@@ -28,7 +29,7 @@ pub fn call<R: AllocGlobal + Threads + Wait + Sync>(
     let alloc = rt.alloc();
     let line = line_of(alloc, words)?;
     let mut files = MemoryFiles::new(alloc, named, vec![in alloc; outside.fetch]?)?;
-    let gate = CaseGate::new(outside.hold);
+    let gate = CaseGate::new(alloc, outside.hold)?;
     let mut out = CountingSink {
         sink: MemorySink::new(alloc, outside.most, vec![in alloc; outside.write]?),
         lines: gate.lines(),
@@ -48,6 +49,7 @@ pub fn call<R: AllocGlobal + Threads + Wait + Sync>(
         out: out.sink,
         err,
         has_run_out: gate.has_run_out(),
+        visits: gate.visits,
     })
 }
 

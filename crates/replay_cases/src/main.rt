@@ -86,10 +86,28 @@ fn differences<R: AllocGlobal + Threads + Wait + Sync>(
     Ok(found)
 }
 
+/// The mode of a line.
+fn mode_of(words: &str) -> &str {
+    words.split(' ').next().unwrap_or("")
+}
+
+/// Whether threads came to the gate otherwise than before each turn that the report lists. The turns of a generated
+/// serve, or of a call that ended in its middle, are not listed.
+fn came_otherwise(words: &str, left: &Left) -> bool {
+    match (mode_of(words), left.status) {
+        ("run" | "serve" | "stream", ExitStatus::Ok) => {
+            !left.visits.are_of(last_word(left.out.bytes()))
+        }
+        ("gen", ExitStatus::Ok) | (_, ExitStatus::WriteFault | ExitStatus::NoMemory) => {
+            !left.visits.are_in_order()
+        }
+        _ => !left.visits.are_of(&[]),
+    }
+}
+
 /// Whether several threads made the steps of what a line has written.
 fn is_by_threads(words: &str, report: &[u8]) -> bool {
-    let mode = words.split(' ').next().unwrap_or("");
-    matches!(mode, "run" | "serve" | "stream")
+    matches!(mode_of(words), "run" | "serve" | "stream")
         && !last_word(report)
             .iter()
             .all(|digit| b" 0\n".contains(digit))
@@ -131,6 +149,9 @@ fn answer<R: AllocGlobal + Threads + Wait + Sync>(
     append_steps(alloc, &mut lines, case, left.out.bytes())?;
     if left.has_run_out {
         lines.push(String::from_str(alloc, "the looks ran out")?)?;
+    }
+    if came_otherwise(words, &left) {
+        lines.push(String::from_str(alloc, "threads came to the gate otherwise")?)?;
     }
     append_shown(alloc, &mut lines, left.err.bytes(), false)?;
     if left.status == ExitStatus::Ok {

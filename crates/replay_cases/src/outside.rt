@@ -1,6 +1,8 @@
-//! The outside of a call: what fails, a gate that may hold one thread, and a sink that shows how many lines it took.
+//! The outside of a call: what fails, a gate that counts who comes and may hold one thread, and a sink that shows how
+//! many lines it took.
 
 use lwc_io::{Failed, Gate, MemorySink, Sink};
+use std::alloc::{AllocError, Global};
 use std::hint::spin_loop;
 use std::sync::Wait;
 use std::sync::atomic::{AtomicBool, AtomicU64, Ordering};
@@ -34,9 +36,61 @@ pub struct Hold {
     pub awaited: Option<u32>,
 }
 
-/// A gate at which one thread may be held.
+/// The digits of the threads in a schedule.
+pub const DIGITS: &[u8; 16] = b"0123456789abcdef";
+
+/// How often each thread came to a gate, and whether it came each time before the turn that was next.
+#[derive(Drop)]
+pub struct Visits {
+    counts: Vec<AtomicU64>,
+    left_order: AtomicBool,
+}
+
+impl Visits {
+    /// No visits.
+    fn none(alloc: Global) -> Result<Visits, AllocError> {
+        let mut counts = Vec::new(alloc);
+        for _digit in DIGITS {
+            counts.push(AtomicU64::new(0))?;
+        }
+        Ok(Visits {
+            counts,
+            left_order: AtomicBool::new(false),
+        })
+    }
+
+    /// Notes that a thread comes before this turn.
+    fn note(&self, thread: u32, turn: u64) {
+        let next = match self.counts.get(thread as usize) {
+            Some(count) => count.fetch_add(1, Ordering::SeqCst),
+            None => u64::MAX,
+        };
+        if next != turn {
+            self.left_order.store(true, Ordering::SeqCst);
+        }
+    }
+
+    /// Whether each thread came before its turns in their order.
+    pub fn are_in_order(&self) -> bool {
+        !self.left_order.load(Ordering::SeqCst)
+    }
+
+    /// Whether each thread came before each turn that a schedule of these digits has, in order, and no further time.
+    pub fn are_of(&self, digits: &[u8]) -> bool {
+        for (thread, count) in DIGITS.iter().zip(self.counts.iter()) {
+            let turns = digits.iter().filter(|digit| *digit == thread).count();
+            if count.load(Ordering::SeqCst) != turns as u64 {
+                return false;
+            }
+        }
+        self.are_in_order()
+    }
+}
+
+/// A gate that counts who comes, and at which one thread may be held.
 #[derive(Drop)]
 pub struct CaseGate {
+    pub visits: Visits,
     hold: Option<Hold>,
     lines: AtomicU64,
     came: AtomicBool,
@@ -44,14 +98,15 @@ pub struct CaseGate {
 }
 
 impl CaseGate {
-    /// A gate to which nobody has come, of an output that has taken no line.
-    pub fn new(hold: Option<Hold>) -> CaseGate {
-        CaseGate {
+    /// A gate to which nobody has come, of an output that has taken no line. The only error is out of memory.
+    pub fn new(alloc: Global, hold: Option<Hold>) -> Result<CaseGate, AllocError> {
+        Ok(CaseGate {
+            visits: Visits::none(alloc)?,
             hold,
             lines: AtomicU64::new(0),
             came: AtomicBool::new(false),
             ran_out: AtomicBool::new(false),
-        }
+        })
     }
 
     /// The number of lines that the output has taken, to be counted by its sink.
@@ -85,8 +140,10 @@ impl CaseGate {
 }
 
 impl Gate for CaseGate {
-    /// Notes the second turn of the thread that is awaited, and holds the first turn of the one that is held.
+    /// Notes who comes, and the second turn of the thread that is awaited, and holds the first turn of the one that is
+    /// held.
     fn before<R: Wait>(&self, _rt: &R, thread: u32, turn: u64) {
+        self.visits.note(thread, turn);
         let Some(hold) = self.hold else {
             return;
         };

@@ -1,6 +1,7 @@
 //! What a call wrote, as it is printed.
 
 use crate::case::Case;
+use crate::outside::DIGITS;
 use std::alloc::{AllocError, Global};
 
 /// The longest line that is printed whole.
@@ -73,7 +74,7 @@ pub fn append_steps(
     }
     if case.shows_each {
         let mut line = String::from_str(alloc, "each")?;
-        for thread in b"0123456789abcdef" {
+        for thread in DIGITS {
             let count = digits.iter().filter(|digit| *digit == thread).count();
             line.push_str(format!(in alloc; " {count}")?.as_str())?;
         }
