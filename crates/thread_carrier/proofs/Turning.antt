@@ -1,5 +1,6 @@
 -- One turn more of a thread that is carried.
-use Rattle.std.proofs.Common.{◌≡◌, ◌+◌, ◌<◌, ◌++◌, ◌∷◌, ◌∙◌, ℕ, zero, suc, [], List, AllZip, get_or, length, refl, ap, subst, arith, append_assoc, append-nil, sym}
+use Rattle.std.proofs.Common.{◌≡◌, ◌+◌, ◌<◌, ◌++◌, ◌∷◌, ◌∙◌, ℕ, suc, [], List, get_or, length, refl, ap, subst, arith, append_assoc, append-nil, sym}
+use Rattle.std.specs.List.{AllZip}
 use Rattle.kernel_core.specs.Histories.{GoesOn, steps_by}
 use Rattle.process_core.proofs.Offers.{one_more}
 use Rattle.process_core.specs.Running.{Carried}

@@ -1,4 +1,5 @@
-ghost use Rattle.std.specs.Prelude.{◌≡◌, ◌<◌, ◌^◌, true, All, AllZip, map};
+ghost use Rattle.std.specs.Prelude.{◌≡◌, ◌<◌, ◌^◌, true, All, map};
+ghost use Rattle.std.specs.List.{AllZip};
 ghost use Rattle.kernel_core.specs.Machine.{has_ended};
 ghost use Rattle.process_core.specs.Running.{IsPassOf};
 ghost use Rattle.thread_carrier.specs.Turned.{HasTurned};
