@@ -12,7 +12,7 @@ use Rattle.kernel_core.specs.Ready.{IsReady}
 use Rattle.kernel_core.specs.Refused.{advanced_thread, refusal_in, refusal_of}
 use Rattle.kernel_core.specs.Start.{Inputs}
 use Rattle.kernel_core.specs.Step.{AfterStep, Outcome, after_outcome, after_thread, finish, guest_calls, only, settled, step, step_by, thread_outcome}
-use Rattle.kernel_core.specs.declared.calling.TheConstants.{LW_OVERLAY, LW_SYSCALL}
+use Rattle.kernel_core.specs.declared.calling.TheConstants.{LW_OVERLAY, LW_SWITCH, LW_SYSCALL}
 use Rattle.kernel_core.specs.declared.thread.Thread.{Thread}
 use Rattle.lwc_base.specs.declared.descriptor.Cap.{Cap}
 use Rattle.lwc_base.specs.declared.descriptor.Descriptor.{Descriptor}
@@ -378,7 +378,7 @@ module _ (inputs : Inputs) (steps : ℕ) (m : Machine) (t : ℕ) (ready : IsRead
   was_live e n there live = elim (leads_so.allowed.born e (leads_so.leaves.live e live)) [
     | inl was ↦ was
     | inr born ↦ elim born [
-      | inl idle ↦ absurd ((away.here idle.0 idle.1).0 idle.2)
+      | inl idle ↦ absurd (away.here idle.0 idle.1 idle.2)
       | inr made ↦ absurd (elim there [
         | inl inside ↦ not_both (subst (λ (d : Name). f.inside d ≡ true) made.2 inside) (away.made made.0 n made.1).0
         | inr opened ↦ not_both (subst (λ (d : Name). f.opened d (Slot n) ≡ true) made.2 opened) (away.made made.0 n made.1).1
@@ -419,17 +419,36 @@ module _ (inputs : Inputs) (steps : ℕ) (m : Machine) (t : ℕ) (ready : IsRead
   more_counted : (j : ℕ) → (before.next j).contexts ≤ (after.next j).contexts
   more_counted j = subst (λ (next : _). (before.next j).contexts ≤ (next j).contexts) (sym leads_so.leaves.next) (leads_so.allowed.confines.counted j)
 
+  -- what may change in slot 0 is outside
+  changed_outside : (d : Name) → MayChange m t d (Slot 0) → f.inside d ≡ false
+  changed_outside d may = elim (f.inside d) as (λ b. f.inside d ≡ b → f.inside d ≡ false) [
+    | true ↦ λ inside. absurd (away.slots d 0 (inl inside) (omega arith) (record { changed = d; may = may; one = inl refl }))
+    | false ↦ λ outside. outside
+  ] refl
+
+  thread_outside : (x : Thread) → slice_get m.threads t ≡ Some x → f.inside x.context ≡ false
+  thread_outside x found = changed_outside x.context (OfItsOwn x (Slot 0) found)
+
+  -- an accepted switch leads outside: it changes the lowest empty slot there
+  target_outside : (x : Thread) (d : Name) (cap : Cap) → MakesCall m t x LW_SWITCH → IsGiven m x d cap → f.inside d ≡ false
+  target_outside x d cap call given =
+      let enters = confined_so.switch x d cap call given in
+      elim (f.inside d) as (λ b. f.inside d ≡ b → f.inside d ≡ false) [
+        | true ↦ λ inside. absurd (away.slots d enters.slot (inl inside) enters.within (record { changed = d; may = OfTheTarget x d cap enters.slot call given enters.lowest; one = inl refl }))
+        | false ↦ λ outside. outside
+      ] refl
+
   -- the thread that made the step is outside afterwards, while it runs
   still_outside : (x y : Thread) → slice_get m.threads t ≡ Some x → slice_get (step m t).threads t ≡ Some y → y.status ≡ status.Running → f.inside y.context ≡ false
   unfolding step_by
   still_outside x y found there runs = by_status x.status refl (subst (λ (o : Option Thread). slice_get (after_thread guest_calls m t o).threads t ≡ Some y) found there)
     where
       stands : (d : Name) → Stands m t x d → f.inside d ≡ false
-      stands d (inl same) = subst (λ (n : Name). f.inside n ≡ false) (sym same) (away.here x found).1
-      stands d (inr goes) = away.there x d goes.0 goes.1 goes.2
+      stands d (inl same) = subst (λ (n : Name). f.inside n ≡ false) (sym same) (thread_outside x found)
+      stands d (inr goes) = target_outside x d goes.0 goes.1 goes.2
 
       is_x : slice_get m.threads t ≡ Some y → f.inside y.context ≡ false
-      is_x old = let same : Some x ≡ Some y = sym found ∙ old in let one : x ≡ y = cc in subst (λ (z : Thread). f.inside z.context ≡ false) one (away.here x found).1
+      is_x old = let same : Some x ≡ Some y = sym found ∙ old in let one : x ≡ y = cc in subst (λ (z : Thread). f.inside z.context ≡ false) one (thread_outside x found)
 
       by_status : (s : ThreadStatus) → x.status ≡ s → slice_get (after_outcome m t (thread_outcome guest_calls t m.environment m.serve m.text x s)).threads t ≡ Some y → f.inside y.context ≡ false
       by_status status.Running is there = elim (set_cases m.threads t t (settled t m.serve (outcome_of m t x)).thread y there) [
@@ -438,7 +457,7 @@ module _ (inputs : Inputs) (steps : ℕ) (m : Machine) (t : ℕ) (ready : IsRead
             subst (λ (n : Name). f.inside n ≡ false) (sym (ap (λ (z : Thread). z.context) set ∙ settles.1)) (stands (outcome_of m t x).thread.context (outcome_stands inputs steps m t ready x found is))
         | inr old ↦ is_x old
       ]
-      by_status status.Idle is there = absurd ((away.here x found).0 is)
+      by_status status.Idle is there = absurd (away.here x found is)
       by_status (status.Done code) is there = is_x there
       by_status (status.Faulted e) is there = is_x there
 

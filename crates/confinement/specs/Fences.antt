@@ -90,13 +90,11 @@ pub data MayJoin (m : Machine) (t : ℕ) : Name → Key → Name → Type 0 wher
       has_key cap k ≡ true → mode (items_of (world_of m) x.context call.Overlay (regs_at m x)) k ≡ Some Share →
       MayJoin m t x.context k d
 
--- the next step of a thread is made outside, and stays away from what is inside: no accepted switch leads inside;
--- what it makes is neither inside nor opened; it may change no slot that is inside or opened; and where it may join
--- two contexts, both or neither may be seen to change
+-- the next step of a thread begins no request, and stays away from what is inside: what it makes is neither inside
+-- nor opened; it may change no slot that is inside or opened, so its thread stands outside, and no accepted switch
+-- leads inside; and where it may join two contexts, both or neither may be seen to change
 pub record StaysAway (f : Fence) (m : Machine) (t : ℕ) : Type 0 where
-  pub here : (x : Thread) → slice_get m.threads t ≡ Some x → (x.status ≢ Idle) × (f.inside x.context ≡ false)
-  pub there : (x : Thread) (d : Name) (cap : Cap) → MakesCall m t x LW_SWITCH → IsGiven m x d cap →
-      f.inside d ≡ false
+  pub here : (x : Thread) → slice_get m.threads t ≡ Some x → x.status ≢ Idle
   pub made : (x : Thread) (n : ℕ) → MakesCall m t x LW_CREATE →
       (f.inside (next_context (world_of m) x.job) ≡ false)
       × (f.opened (next_context (world_of m) x.job) (Slot n) ≡ false)

@@ -1,10 +1,11 @@
 -- What has been read of a file, piece by piece.
-use Rattle.std.proofs.Common.{◌≡◌, ◌≤◌, ◌<◌, ℕ, ◌+◌, List, [], ◌∷◌, ◌++◌, Option, None, Some, IfSome, All, take, drop, length, refl, ap, sym, subst, ◌∙◌, append_assoc, arith, length-append, length-take}
+use Rattle.std.proofs.Common.{◌≡◌, ◌≤◌, ◌<◌, ℕ, ◌+◌, ◌-◌, min, List, [], ◌∷◌, ◌++◌, Option, None, Some, IfSome, All, take, drop, length, refl, ap, sym, subst, ◌∙◌, append_assoc, arith, length-append, length-take}
 use Rattle.std.proofs.Math.Seq.{take-add}
 use Rattle.std.proofs.lemmas.List.{append-nil}
 use Rattle.std.proofs.lemmas.List.Elements.{All-get_or, All-nil, All-push, All-weaker}
 use Rattle.std.proofs.lemmas.List.Quantifiers.{all_pairs_push}
 use Rattle.lwc_io.specs.Outside.{CountsOneFault, Fetch, FilesView, IsPiece}
+use Rattle.lwcrun_modes.specs.declared.reading.TheConstants.{CHUNK}
 use Rattle.lwcrun_modes.specs.Reading.{Fetched, GaveBefore, MayBeginWith, MayExceed, ReadsOnward, ReadsToTheEnd}
 
 length-taken : (n : ℕ) (xs : List ℕ) → n ≤ length xs → length (take n xs) ≡ n
@@ -41,7 +42,7 @@ pub record ReadsBefore (name : List ℕ) (limit n : ℕ) (fetches : List Fetch) 
 pub none_onward : (name : List ℕ) (limit : ℕ) → ReadsOnward name limit []
 none_onward name limit = record {
   named = All-nil (λ f. f.name ≡ name);
-  within = All-nil (λ f. (0 < f.most) × (f.at + f.most ≤ limit + 1));
+  within = All-nil (λ f. (f.at ≤ limit) × (f.most ≡ min (limit + 1 - f.at) CHUNK));
   onward = λ i j d earlier inside. absurd (omega (arith, inside));
 }
 
@@ -49,18 +50,18 @@ none_onward name limit = record {
 abbrev from_byte : List ℕ → ℕ → ℕ → Option ℕ → Fetch
 from_byte name n most given = record { name = name; at = n; most = most; given = given }
 
-one_more : (name : List ℕ) (limit n most : ℕ) (given : Option ℕ) (fetches : List Fetch) → ReadsBefore name limit n fetches → 0 < most → n + most ≤ limit + 1 → ReadsOnward name limit (fetches ++ from_byte name n most given ∷ [])
-one_more name limit n most given fetches h some fits = record {
+one_more : (name : List ℕ) (limit n most : ℕ) (given : Option ℕ) (fetches : List Fetch) → ReadsBefore name limit n fetches → n ≤ limit → most ≡ min (limit + 1 - n) CHUNK → ReadsOnward name limit (fetches ++ from_byte name n most given ∷ [])
+one_more name limit n most given fetches h left exact = record {
   named = All-push (λ f. f.name ≡ name) fetches (from_byte name n most given) h.onward.named refl;
-  within = All-push (λ f. (0 < f.most) × (f.at + f.most ≤ limit + 1)) fetches (from_byte name n most given) h.onward.within (some, fits);
+  within = All-push (λ f. (f.at ≤ limit) × (f.most ≡ min (limit + 1 - f.at) CHUNK)) fetches (from_byte name n most given) h.onward.within (left, exact);
   onward = all_pairs_push (λ f g. GaveBefore g.at f) fetches (from_byte name n most given) h.onward.onward
       (λ k d inside. All-get_or (GaveBefore n) fetches k d inside h.before);
 }
 
-one_before : (name : List ℕ) (limit n most gave : ℕ) (fetches : List Fetch) → ReadsBefore name limit n fetches → 0 < most → n + most ≤ limit + 1 → 0 < gave →
+one_before : (name : List ℕ) (limit n most gave : ℕ) (fetches : List Fetch) → ReadsBefore name limit n fetches → n ≤ limit → most ≡ min (limit + 1 - n) CHUNK → 0 < gave →
     ReadsBefore name limit (n + gave) (fetches ++ from_byte name n most (Some gave) ∷ [])
-one_before name limit n most gave fetches h some fits any = record {
-  onward = one_more name limit n most (Some gave) fetches h some fits;
+one_before name limit n most gave fetches h left exact any = record {
+  onward = one_more name limit n most (Some gave) fetches h left exact;
   before = All-push (GaveBefore (n + gave)) fetches (from_byte name n most (Some gave))
       (All-weaker (GaveBefore n) (GaveBefore (n + gave)) (λ f earlier. (earlier.0, earlier.1, earlier.2, omega (arith, earlier.3))) fetches h.before)
       (gave, refl, any, omega arith);
@@ -102,22 +103,28 @@ nothing_read files name limit bytes buffer none chunk = record {
 pub fetched_so_far : (files after : FilesView) (name : List ℕ) (limit : ℕ) (bytes : List ℕ) (buffer : ℕ) → ReadSoFar files after name limit bytes buffer → Fetched (ReadsOnward name limit) files.fetches after.fetches
 fetched_so_far files after name limit bytes buffer so_far = (so_far.fetched.0, so_far.fetched.1, so_far.fetched.2.onward)
 
-module _ (files mid after : FilesView) (name : List ℕ) (limit : ℕ) (bytes : List ℕ) (buffer at most : ℕ) (given : Option ℕ) (so_far : ReadSoFar files mid name limit bytes buffer) (is_at : at ≡ length bytes) (logged : after.fetches ≡ mid.fetches ++ from_byte name at most given ∷ []) (some : 0 < most) (fits : at + most ≤ limit + 1) where
+module _ (files mid after : FilesView) (name : List ℕ) (limit : ℕ) (bytes : List ℕ) (buffer at most : ℕ) (given : Option ℕ) (so_far : ReadSoFar files mid name limit bytes buffer) (is_at : at ≡ length bytes) (logged : after.fetches ≡ mid.fetches ++ from_byte name at most given ∷ []) (left : at ≤ limit) (exact : most ≡ min (limit + 1 - at) CHUNK) where
   is_logged : after.fetches ≡ mid.fetches ++ from_byte name (length bytes) most given ∷ []
   is_logged = logged ∙ ap (λ n. mid.fetches ++ from_byte name n most given ∷ []) is_at
+
+  left-here : length bytes ≤ limit
+  left-here = subst (λ n. n ≤ limit) is_at left
+
+  exact-here : most ≡ min (limit + 1 - length bytes) CHUNK
+  exact-here = exact ∙ ap (λ n. min (limit + 1 - n) CHUNK) is_at
 
   -- what was fetched with one more piece
   pub fetched_next : Fetched (ReadsOnward name limit) files.fetches after.fetches
   fetched_next =
       fetched_more {P = ReadsOnward name limit} files.fetches mid.fetches after.fetches name limit (length bytes) _ so_far.fetched is_logged
-      (one_more name limit (length bytes) most given so_far.fetched.0 so_far.fetched.2 some (omega (arith, fits, is_at)))
+      (one_more name limit (length bytes) most given so_far.fetched.0 so_far.fetched.2 left-here exact-here)
 
   -- what was fetched with one that was at the file's end
   pub fetched_to_the_end : given ≡ Some 0 → Fetched (ReadsToTheEnd name limit) files.fetches after.fetches
   fetched_to_the_end end =
       fetched_more {P = ReadsToTheEnd name limit} files.fetches mid.fetches after.fetches name limit (length bytes) _ so_far.fetched is_logged
       (record {
-        onward = one_more name limit (length bytes) most given so_far.fetched.0 so_far.fetched.2 some (omega (arith, fits, is_at));
+        onward = one_more name limit (length bytes) most given so_far.fetched.0 so_far.fetched.2 left-here exact-here;
         front = so_far.fetched.0;
         last = from_byte name (length bytes) most given;
         is = refl;
@@ -134,7 +141,7 @@ module _ (files mid after : FilesView) (name : List ℕ) (limit : ℕ) (bytes : 
     fetched = subst (λ n. Fetched (ReadsBefore name limit n) files.fetches after.fetches) (sym grows)
         (fetched_more {P = ReadsBefore name limit (length bytes + n)} files.fetches mid.fetches after.fetches name limit (length bytes) _ so_far.fetched
         (is_logged ∙ ap (λ o. mid.fetches ++ from_byte name (length bytes) most o ∷ []) gave)
-        (one_before name limit (length bytes) most n so_far.fetched.0 so_far.fetched.2 some (omega (arith, fits, is_at)) any));
+        (one_before name limit (length bytes) most n so_far.fetched.0 so_far.fetched.2 left-here exact-here any));
     chunk = chunk ∙ so_far.chunk;
   }
 

@@ -1,7 +1,9 @@
 -- Whole files.
-use Rattle.std.specs.Prelude.{◌≡◌, ◌<◌, ◌≤◌, ◌+◌, ◌++◌, ℕ, List, [], ◌∷◌, Option, Some, IfSome, All, length, take}
+use Rattle.std.specs.Prelude.{◌≡◌, ◌<◌, ◌≤◌, ◌+◌, ◌-◌, ◌++◌, ℕ, List, [], ◌∷◌, Option, Some, IfSome, All}
+use Rattle.std.specs.Prelude.{length, min, take}
 use Rattle.std.specs.List.{AllPairs}
 use Rattle.lwc_io.specs.Outside.{Fetch, MayBeContents}
+use Rattle.lwcrun_modes.specs.declared.reading.TheConstants.{CHUNK}
 
 -- the contents may begin with these bytes: where they are known, they do
 abbrev pub MayBeginWith : Option (List ℕ) → List ℕ → Type 0
@@ -15,11 +17,11 @@ MayExceed limit contents = (bytes : List ℕ) × MayBeContents contents bytes ×
 abbrev pub GaveBefore : ℕ → Fetch → Type 0
 GaveBefore at f = (n : ℕ) × (f.given ≡ Some n) × (0 < n) × (f.at + n ≤ at)
 
--- these fetches read one file onward: each asks for a byte or more, none for more than one byte past the
--- limit, and each before the last one gave some bytes, all of them before the fetches after it
+-- these fetches read one file onward: each asks for what is left up to one byte past the limit, and at most
+-- for a chunk, and each before the last one gave some bytes, all of them before the fetches after it
 pub record ReadsOnward (name : List ℕ) (limit : ℕ) (fetches : List Fetch) : Type 0 where
   pub named : All (λ f. f.name ≡ name) fetches
-  pub within : All (λ f. (0 < f.most) × (f.at + f.most ≤ limit + 1)) fetches
+  pub within : All (λ f. (f.at ≤ limit) × (f.most ≡ min (limit + 1 - f.at) CHUNK)) fetches
   pub onward : AllPairs (λ f g. GaveBefore g.at f) fetches
 
 -- besides, the last one was at the end of the file

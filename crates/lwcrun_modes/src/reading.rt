@@ -1,5 +1,6 @@
 ghost use Rattle.std.specs.Prelude.{◌≡◌, ◌≢◌, ◌<◌, ◌≤◌, ◌^◌, ◌+◌, ◌++◌, ◌∷◌, [], ℕ, Option, Some, All};
-ghost use Rattle.std.specs.Prelude.{length, IfOk, IfErr, OnOk, vec_len};
+ghost use Rattle.std.specs.Prelude.{◌-◌, length, min, IfOk, IfErr, OnOk, vec_len};
+ghost use Rattle.lwcrun_modes.specs.declared.reading.TheConstants.{CHUNK};
 ghost use Rattle.lwc_io.specs.Outside.{CountsOneFault, MayBeContents};
 ghost use Rattle.lwcrun_modes.specs.Reading.{Fetched, MayBeginWith, MayExceed, ReadsOnward, ReadsToTheEnd};
 
@@ -20,8 +21,8 @@ pub enum FetchError {
 }
 
 /// Reads a file of at most `limit` bytes whole; of a longer one, at most one byte past the limit. Each fetch
-/// asks for a byte or more behind those that were given, so there are at most `limit + 1` of them. After one
-/// that fails, or that is at the end of the file, there is no other.
+/// asks for what is left up to there behind those that were given, and at most for a chunk. After one that
+/// fails, or that is at the end of the file, there is no other.
 ///
 /// # Errors
 ///
@@ -72,13 +73,14 @@ fn buffer_of(alloc: Global, count: usize) -> Result<Vec<u8>, FetchError>
 }
 
 /// The number of bytes to ask for next, after `read` bytes of at most `limit`: one more than the limit
-/// leaves, or a chunk.
+/// leaves, and at most a chunk.
 fn next_count(limit: usize, read: usize) -> usize
     requires within { read ≤ limit }
     requires bounded { limit < 2 ^ 32 }
     ensures some { 0 < result }
     ensures chunk { result ≤ CHUNK }
     ensures within { read + result ≤ limit + 1 }
+    ensures exact { result ≡ min (limit + 1 - read) CHUNK }
 {
     (limit + 1 - read).min(CHUNK)
 }

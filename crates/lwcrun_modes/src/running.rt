@@ -226,6 +226,8 @@ pub fn open_process(
     requires requests { MayHave settings.now.job requests }
     requires few { work (start (inputs_of image.now requests settings.now)) ≤ MOST_STEPS }
     ensures inputs { IfOk result (λ p. p.0.name.inputs ≡ inputs_of image.now requests settings.now) }
+    ensures room { IfOk result (λ p.
+        p.0.name.room ≡ work (start (inputs_of image.now requests settings.now))) }
     ensures all { IfOk result (λ p. AreAllOf p.0 p.1.items) }
     ensures new { IfOk result (λ p. (i : ℕ) (q : Carried) →
         slice_get p.1.items i ≡ Some q → IsNewPass p.0 i q) }

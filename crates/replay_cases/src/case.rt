@@ -69,6 +69,7 @@ impl Case {
         match word {
             "line" => self.lines.push(String::from_str(alloc, rest)?)?,
             "schedule" => append_text(&mut self.schedule, rest)?,
+            "zeros" => append_zeros(&mut self.schedule, number_in(rest))?,
             "requests" => append_parts(&mut self.requests, rest, " ")?,
             "vault" => self.vault = vault_bytes(alloc, rest)?,
             "script" => append_parts(&mut self.script, rest, ", ")?,
@@ -131,6 +132,14 @@ fn append_text(lines: &mut String, text: &str) -> io::Result<()> {
         }
         lines.push_str(part)?;
         is_first = false;
+    }
+    Ok(())
+}
+
+/// Appends this many steps of thread 0.
+fn append_zeros(schedule: &mut String, count: u64) -> io::Result<()> {
+    for _step in 0..count {
+        schedule.push_str("0")?;
     }
     Ok(())
 }

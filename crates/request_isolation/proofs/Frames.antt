@@ -308,7 +308,7 @@ module _ (t : ℕ) (e : Environment) (x : Thread) (live : is_live e.world x.cont
   next-tags (next.Shared i) never = shared-tags i i.op never
 
 -- the world that a step leaves before what is not reached is dropped
-settled-world : (t : ℕ) (serve : Option Serve) (o : StepOutcome) → (settled t serve o).environment ≡ o.environment
+pub settled-world : (t : ℕ) (serve : Option Serve) (o : StepOutcome) → (settled t serve o).environment ≡ o.environment
 settled-world t None o = refl
 settled-world t (Some s) o = by (has_ended o.thread.status)
   where

@@ -1,5 +1,5 @@
 -- Serves from their starts: each reply is that of its request by itself.
-use Rattle.std.proofs.Common.{◌≡◌, ◌≢◌, inl, inr, ℕ, zero, suc, ◌+◌, ◌*◌, ◌≤◌, ◌<◌, refl, sym, ap, subst, ◌∙◌, Bool, true, false, cond, ltb, Option, Some, None, List, [], ◌∷◌, ◌++◌, length, map, get_or, arith}
+use Rattle.std.proofs.Common.{◌≡◌, ◌≢◌, inl, inr, ℕ, zero, suc, ◌+◌, ◌*◌, ◌≤◌, ◌<◌, refl, sym, ap, subst, ◌∙◌, Bool, true, false, cond, leb, ltb, Option, Some, None, List, [], ◌∷◌, ◌++◌, length, map, get_or, arith}
 use Rattle.std.specs.Prelude.{IfSome, max, replicate, slice_get}
 use Rattle.std.specs.List.{range_with_len}
 use Rattle.std.proofs.lemmas.Bool.Decides.{nat_tests}
@@ -42,6 +42,8 @@ use Rattle.request_isolation.proofs.Recorded.{recorded_run, told_nobody, told_wr
 use Rattle.request_isolation.specs.Restored.{AllRest, IsRestored, KeepsHomes}
 use Rattle.request_isolation.proofs.Restored.{IsSilentNow, contexts_same, group_served, homes_same, other_served, rest_frames, rest_groups, silent_run}
 use Rattle.request_isolation.proofs.Roots.{Placed}
+use Rattle.request_isolation.proofs.Within.{max_least, pages_fit, peak_within}
+use Rattle.kernel_core.proofs.ReadyMachines.{ready_machine}
 use Rattle.request_isolation.proofs.Serves.{some_worker}
 use Rattle.request_isolation.proofs.Enough.{alike_bound, ample-rises, fits, least_ample, never_wants, not_here}
 use Rattle.request_isolation.proofs.Bounds.{used_by}
@@ -594,33 +596,10 @@ module _ (inputs : Inputs) (workers : ℕ) (can : CanOpen inputs) (serve : input
     };
   }
 
-  all_step_spared : (m : Machine) (t : ℕ) → Stands inputs.image inputs.settings.budget workers (length inputs.requests) AllStages m → (IsShort m t → ⊥) → Stands inputs.image inputs.settings.budget workers (length inputs.requests) AllStages (step m t)
-  all_step_spared m t stands spared =
-      stands_step inputs.image inputs.settings.budget workers (length inputs.requests) AllStages AllStages m t stands (λ fact. fact)
-      (λ made. record {
-        size = size_after m stands.serve stands.holds t stands.fact.size made;
-        stages = λ r low. stage_after r low m stands.serve stands.holds t (stands.fact.stages r low) (λ x found job short. spared short) made;
-      })
-
   -- what is in use while each request is as by itself
   all_fits : (m : Machine) → Stands inputs.image inputs.settings.budget workers (length inputs.requests) AllStages m → frames_of m ≤ length inputs.image.pages + workers * most
   all_fits m stands =
       fits inputs.image workers inputs.settings.budget (length inputs.requests) m stands.serve stands.holds most (others m stands.serve stands.holds stands.fact)
-
-  max_least : (a b c : ℕ) → a ≤ c → b ≤ c → max a b ≤ c
-  max_least a b c low also = grind arith
-
-  had_bound_from : (m : Machine) (steps : List ℕ) → Stands inputs.image inputs.settings.budget workers (length inputs.requests) AllStages m → peak m steps + 2 ≤ inputs.settings.frames → peak m steps ≤ length inputs.image.pages + workers * most
-  had_bound_from m [] stands spare = all_fits m stands
-  had_bound_from m (t ∷ ts) stands spare =
-      let here = max_first (frames_of m) (peak (step m t) ts) in
-      let later = max_second (frames_of m) (peak (step m t) ts) in
-      let sized : Stands inputs.image inputs.settings.budget workers (length inputs.requests) HasSize m = record { serve = stands.serve; holds = stands.holds; fact = stands.fact.size } in
-      let next = all_step_spared m t stands (not_short m t sized (omega (arith, here, spare))) in
-      max_least (frames_of m) (peak (step m t) ts) (length inputs.image.pages + workers * most) (all_fits m stands) (had_bound_from (step m t) ts next (omega (arith, later, spare)))
-
-  pub had_bound : (steps : List ℕ) → HadFrames inputs steps → peak (start inputs) steps ≤ length inputs.image.pages + workers * most
-  had_bound steps had = had_bound_from (start inputs) steps all_start had
 
   -- with the frames that the requests by themselves take
   module _ (enough : HasFrames inputs) where
@@ -684,7 +663,7 @@ module _ (inputs : Inputs) (workers : ℕ) (can : CanOpen inputs) (serve : input
     has_bound_from m [] stands = all_fits m stands
     has_bound_from m (t ∷ ts) stands = max_least (frames_of m) (peak (step m t) ts) (length inputs.image.pages + workers * most) (all_fits m stands) (has_bound_from (step m t) ts (all_step m t stands))
 
-    pub has_bound : (steps : List ℕ) → peak (start inputs) steps ≤ length inputs.image.pages + workers * most
+    has_bound : (steps : List ℕ) → peak (start inputs) steps ≤ length inputs.image.pages + workers * most
     has_bound steps = has_bound_from (start inputs) steps all_start
 
     -- each reply is that of its request by itself
@@ -722,6 +701,20 @@ module _ (inputs : Inputs) (workers : ℕ) (can : CanOpen inputs) (serve : input
             by_stage (Told told) = told.nobody t short.thread short.found short.runs job
             by_stage (Served k now none served) =
                 (has_enough (run (start inputs) steps) there.serve there.holds there.fact r low t short.thread short.found short.runs job k served).here short.wants
+
+  -- no more is in use at any moment, whatever the frames: where these are fewer, no step passes them
+  pub peak_bound : (steps : List ℕ) → peak (start inputs) steps ≤ length inputs.image.pages + workers * most
+  peak_bound steps = by_frames (leb (length inputs.image.pages + workers * most) inputs.settings.frames) refl
+    where
+      within : peak (start inputs) steps ≤ inputs.settings.frames
+      within =
+          let pages = pages_fit inputs can in
+          let first = (restored [] start_rests).frames in
+          peak_within inputs 0 (start inputs) steps (ready_machine inputs [] can) (omega (arith, pages, first))
+
+      by_frames : (b : Bool) → leb (length inputs.image.pages + workers * most) inputs.settings.frames ≡ b → peak (start inputs) steps ≤ length inputs.image.pages + workers * most
+      by_frames true enough = has_bound (subst (HasFramesFor inputs) (sym serve) (grind (arith, nat_tests))) steps
+      by_frames false few = (let low = within in grind (arith, nat_tests))
 
 -- a run that is no serve has no replies
 none_after : (m : Machine) (t : ℕ) (x : Thread) (st : ThreadStatus) (made : Option AfterStep) → m.serve ≡ None → thread_outcome guest_calls t m.environment None m.text x st ≡ made → (after_outcome m t made).serve ≡ None

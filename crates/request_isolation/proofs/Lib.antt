@@ -20,3 +20,4 @@ pub mod Silent
 pub mod Stages
 pub mod Tagged
 pub mod Taking
+pub mod Within

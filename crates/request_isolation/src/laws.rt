@@ -98,7 +98,7 @@ pub fn a_reply_is_that_of_its_request_alone_unless_frames_ran_short()
 
 /// At each moment of a serve its homes are as at the start, and what else lives is of a request that is served.
 /// While none is, contexts and groups are those of the start, and each frame in use is of a page of the image. So
-/// what was in use at most does not grow with the number of requests.
+/// what was in use at most does not grow with the number of requests, whatever the number of frames.
 pub fn a_request_leaves_nothing_behind()
     ensures always { (inputs : Inputs) (steps : List ℕ) (workers : ℕ) → CanOpen inputs →
         inputs.settings.job ≡ jobs.Serve workers → KeepsHomes inputs (run (start inputs) steps) }
@@ -109,8 +109,7 @@ pub fn a_request_leaves_nothing_behind()
         inputs.settings.job ≡ jobs.Serve workers → IsComplete (start inputs) steps →
         IsRestored inputs (run (start inputs) steps) }
     ensures bounded { (inputs : Inputs) (steps : List ℕ) (workers : ℕ) → CanOpen inputs →
-        inputs.settings.job ≡ jobs.Serve workers → HasFrames inputs ⊎ HadFrames inputs steps →
-        peak (start inputs) steps ≤ length inputs.image.pages
+        inputs.settings.job ≡ jobs.Serve workers → peak (start inputs) steps ≤ length inputs.image.pages
         + workers * greatest_extra inputs.image inputs.settings.budget 0 inputs.requests }
 {}
 

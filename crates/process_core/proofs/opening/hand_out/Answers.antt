@@ -21,7 +21,7 @@ held-preserved g c =
     let first = first_of hs pass c.remove-pass.new.self.items some c.remove-pass.ensures.value c.remove-pass.ensures.by_index.2 in
     let all = c.args.held.items in
     let rest = c.remove-pass.new.self.items in
-    let now = c.push_reserved.ensures.items ∙ ap (λ (r : Carried). ps ++ r ∷ []) c.new-in-held.ensures in
+    let now = c.push_reserved.ensures.items ∙ ap (λ (r : Carried). ps ++ r ∷ []) c.new-in-held-2.ensures in
     let name = c.args.gate.now.name.inputs in
     let found : last ≡ get_or c.args.turns.now.items c.len.result last = subst (λ (x : Turn). x ≡ get_or c.args.turns.now.items c.len.result x) (sym (ap (λ (s : Slip). s.last) c.in_ok-slip.ensures.ok ∙ c.new.ensures ∙ c.same.ensures)) c.index.ensures in
     record {

@@ -1,7 +1,6 @@
-use Rattle.std.proofs.Common.{inl, inr}
 use Rattle.kernel_core.specs.Runs.{run}
 use Rattle.kernel_core.specs.Start.{start}
-use Rattle.request_isolation.proofs.Isolated.{had_bound, has_bound, keeps_homes, restored}
+use Rattle.request_isolation.proofs.Isolated.{keeps_homes, peak_bound, restored}
 use Rattle.request_isolation.proofs.Restored.{ended_rest}
 use Rattle.request_isolation.proofs.laws.a_request_leaves_nothing_behind.Goals as goal
 
@@ -15,8 +14,4 @@ pub returns-clause-finished : goal.returns-clause-finished
 returns-clause-finished c inputs steps workers can serve complete = restored inputs workers can serve steps (ended_rest (run (start inputs) steps) complete.ended)
 
 pub returns-clause-bounded : goal.returns-clause-bounded
-returns-clause-bounded c inputs steps workers can serve frames =
-    elim frames [
-      | inl has ↦ has_bound inputs workers can serve has steps
-      | inr had ↦ had_bound inputs workers can serve steps had
-    ]
+returns-clause-bounded c inputs steps workers can serve = peak_bound inputs workers can serve steps
