@@ -98,7 +98,7 @@ merges port v other u a b items views h at two at' =
     let theirs = (h.fits other u was).takes b in
     let Now : ℕ → Ends → Type 0 = λ j y. j ≢ other → Fits h.putter port h.put h.taken j y in
     let now : All Now vs = all_set Now views port both (λ _. record { puts = λ _. mine.puts a; takes = λ _. (refl, theirs.1) })
-        (λ j y _ e apart. record { puts = (h.fits j y e).puts; takes = λ p. absurd (apart (((h.fits j y e).takes p).0 ∙ sym theirs.0)) }) in
+    (λ j y _ e apart. record { puts = (h.fits j y e).puts; takes = λ p. absurd (apart (((h.fits j y e).takes p).0 ∙ sym theirs.0)) }) in
     record {
       putter = h.putter;
       taker = port;
