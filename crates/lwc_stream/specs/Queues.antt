@@ -1,4 +1,5 @@
--- What was taken out of a queue and then what it holds is what was put in. One pass at most puts replies in, and it has the list of them; one at most takes them out.
+-- A worker's queue: what was taken out, followed by what it holds, is what was put in. One pass at most puts replies
+-- in, and knows all that was put in; one at most takes them out, and knows all that was taken out.
 use Rattle.std.specs.Prelude.{◌≡◌, ℕ, Bool, true, false, List, [], ◌++◌}
 use mathlib.Core.Option.{some}
 use lib.ListN.{get_elem?}
@@ -11,12 +12,18 @@ abbrev pub ends : Bool → Bool → List Finished → List Finished → Ends
 ends puts takes put taken = record { puts = puts; takes = takes; put = put; taken = taken }
 
 -- what a pass knows is so: the one that may put has put these, the one that may take has taken those
-abbrev pub Fits : ℕ → ℕ → List Finished → List Finished → ℕ → Ends → Type 0
-Fits putter taker put taken port v = (v.puts ≡ true → (port ≡ putter) × (v.put ≡ put)) × (v.takes ≡ true → (port ≡ taker) × (v.taken ≡ taken))
+pub record Fits (putter taker : ℕ) (put taken : List Finished) (port : ℕ) (v : Ends) : Type 0 where
+  pub puts : v.puts ≡ true → (port ≡ putter) × (v.put ≡ put)
+  pub takes : v.takes ≡ true → (port ≡ taker) × (v.taken ≡ taken)
 
-abbrev pub IsInOrder : List Finished → List Ends → Type 0
-IsInOrder items views = (putter : ℕ) × (taker : ℕ) × (put : List Finished) × (taken : List Finished) × (put ≡ taken ++ items)
-    × ((port : ℕ) (v : Ends) → get_elem? views port ≡ some v → Fits putter taker put taken port v)
+-- the rule of the queue, of what it holds and of what each pass knows
+pub record IsInOrder (items : List Finished) (views : List Ends) : Type 0 where
+  pub putter : ℕ
+  pub taker : ℕ
+  pub put : List Finished
+  pub taken : List Finished
+  pub order : put ≡ taken ++ items
+  pub fits : (port : ℕ) (v : Ends) → get_elem? views port ≡ some v → Fits putter taker put taken port v
 
 -- an end of a queue: which queue, and the replies that went through the end, in order
 pub record End : Type 0 where

@@ -21,6 +21,7 @@ pub struct Ends {
     pub taken: LinkedList<Finished>,
 }
 
+/// The rule of a queue.
 pub struct InOrder;
 
 impl<'a> Protocol<StoredReply<'a>, Ends> for InOrder {
@@ -79,7 +80,7 @@ impl<'a> Lesson<StoredReply<'a>, Ends> for Taken {
     ghost fact = { λ v items. v.put ≡ v.taken ++ items };
 }
 
-type Ring<'a> = RuledArrayQueue<StoredReply<'a>, Ends, InOrder>;
+type Queue<'a> = RuledArrayQueue<StoredReply<'a>, Ends, InOrder>;
 
 type EndPass<'a> = Pass<StoredReply<'a>, Ends>;
 
@@ -92,13 +93,13 @@ pub(crate) fn open_queue<'a>(
     ensures unput { IfOk result (λ q. q.0.values ≡ []) }
     ensures untaken { IfOk result (λ q. q.1.values ≡ []) }
 {
-    let (ring, mut pass) = Ring::<'a>::ruled(alloc, replies.max(1))?;
-    let taking = ring.another::<Apart>(&mut pass);
-    let ring: Arc<Ring<'a>> = Arc::new(alloc, ring)?;
-    let theirs = Arc::try_clone(&ring)?;
-    let puts = Puts { ring, pass };
+    let (queue, mut pass) = Queue::<'a>::ruled(alloc, replies.max(1))?;
+    let taking = queue.another::<Apart>(&mut pass);
+    let queue: Arc<Queue<'a>> = Arc::new(alloc, queue)?;
+    let theirs = Arc::try_clone(&queue)?;
+    let puts = Puts { queue, pass };
     let takes = Takes {
-        ring: theirs,
+        queue: theirs,
         pass: taking,
     };
     Ok((puts, takes))
@@ -107,7 +108,7 @@ pub(crate) fn open_queue<'a>(
 /// The end at which replies are put in. Contracts see it as its queue and what was put in, in order.
 #[derive(Drop)]
 pub struct Puts<'a> {
-    ring: Arc<Ring<'a>>,
+    queue: Arc<Queue<'a>>,
     pass: EndPass<'a>,
 }
 
@@ -119,7 +120,7 @@ impl<'a> Model for Puts<'a> {
 
     ghost view = { λ p. puts_of p.pass };
 
-    ghost invariant = { λ p. IsPassOf p.ring.value p.pass × IsPutting p.pass };
+    ghost invariant = { λ p. IsPassOf p.queue.value p.pass × IsPutting p.pass };
 }
 
 impl<'a> Puts<'a> {
@@ -129,7 +130,7 @@ impl<'a> Puts<'a> {
     {
         let mut left = reply;
         for _ in rt.forever() {
-            match self.ring.try_push_as::<Put>(&mut self.pass, left) {
+            match self.queue.try_push_as::<Put>(&mut self.pass, left) {
                 Ok(()) => return,
                 Err(back) => left = back,
             }
@@ -142,7 +143,7 @@ impl<'a> Puts<'a> {
 /// The end at which replies are taken out. Contracts see it as its queue and what was taken out, in order.
 #[derive(Drop)]
 pub struct Takes<'a> {
-    ring: Arc<Ring<'a>>,
+    queue: Arc<Queue<'a>>,
     pass: EndPass<'a>,
 }
 
@@ -154,7 +155,7 @@ impl<'a> Model for Takes<'a> {
 
     ghost view = { λ p. takes_of p.pass };
 
-    ghost invariant = { λ p. IsPassOf p.ring.value p.pass × IsTaking p.pass };
+    ghost invariant = { λ p. IsPassOf p.queue.value p.pass × IsTaking p.pass };
 }
 
 impl<'a> Takes<'a> {
@@ -163,7 +164,7 @@ impl<'a> Takes<'a> {
         ensures { MatchOption result (self.new ≡ self.old)
             (λ x. self.new ≡ end_of self.old.queue (self.old.values ++ x ∷ [])) }
     {
-        self.ring.try_pop_as::<Taken>(&mut self.pass)
+        self.queue.try_pop_as::<Taken>(&mut self.pass)
     }
 
     /// Both ends in one hand.
@@ -171,18 +172,18 @@ impl<'a> Takes<'a> {
         requires { puts.queue ≡ self.queue }
         ensures { result ≡ joined_of self.entry.queue puts.entry.values self.entry.values }
     {
-        let Puts { ring: _, pass } = puts;
-        let Takes { ring, pass: other } = self;
+        let Puts { queue: _, pass } = puts;
+        let Takes { queue, pass: other } = self;
         let mut pass = pass;
-        ring.absorb::<Apart>(&mut pass, other);
-        Both { ring, pass }
+        queue.absorb::<Apart>(&mut pass, other);
+        Both { queue, pass }
     }
 }
 
 /// Both ends in one hand. Contracts see them as their queue, what was put in and what was taken out.
 #[derive(Drop)]
 pub(crate) struct Both<'a> {
-    ring: Arc<Ring<'a>>,
+    queue: Arc<Queue<'a>>,
     pass: EndPass<'a>,
 }
 
@@ -194,7 +195,7 @@ impl<'a> Model for Both<'a> {
 
     ghost view = { λ p. both_of p.pass };
 
-    ghost invariant = { λ p. IsPassOf p.ring.value p.pass × AreBoth p.pass };
+    ghost invariant = { λ p. IsPassOf p.queue.value p.pass × AreBoth p.pass };
 }
 
 impl<'a> Both<'a> {
@@ -204,6 +205,6 @@ impl<'a> Both<'a> {
             self.new ≡ joined_of self.old.queue self.old.put (self.old.taken ++ x ∷ [])) }
         ensures none { IsNone result → (self.new ≡ self.old) × (self.old.put ≡ self.old.taken) }
     {
-        self.ring.pop_as::<Taken, R>(rt, &mut self.pass)
+        self.queue.pop_as::<Taken, R>(rt, &mut self.pass)
     }
 }

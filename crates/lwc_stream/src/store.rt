@@ -11,8 +11,8 @@ use std::thread;
 /// How many blocks a worker has.
 pub(crate) const BLOCKS: usize = 5;
 
-/// Blocks for this many workers, one worker's after another's: a small one, larger ones, and one with room for the bytes
-/// of this many replies, however long each is. It touches no memory. The only error is out of memory.
+/// Blocks for this many workers, one worker's after another's: a small one, larger ones, and one with room for the
+/// bytes of this many replies, however long each is. It touches no memory. The only error is out of memory.
 pub(crate) fn open_blocks(
     alloc: Global,
     workers: usize,

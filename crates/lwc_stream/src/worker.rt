@@ -41,11 +41,7 @@ pub(crate) fn serve<R: Wait, W: World, G: Gate>(
     'turns: while !worker.pass.last().has_ended() {
         let is_proposed = process.propose(&worker.pass, &mut advance);
         gate.before(rt, worker.pass.thread(), turns);
-        let proposal = if is_proposed {
-            Some(&advance)
-        } else {
-            None
-        };
+        let proposal = if is_proposed { Some(&advance) } else { None };
         process.make_turn(rt, &mut worker.pass, proposal);
         hand_on(rt, signal, worker);
         turns += 1;

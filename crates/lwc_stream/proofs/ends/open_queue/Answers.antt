@@ -7,5 +7,5 @@ ruled-requires-clause-rule c = begins
 
 pub another-taking-requires-clause-rule : goal.another-taking-requires-clause-rule
 another-taking-requires-clause-rule c =
-    let first = c.in_ok-ring.ensures.3 in
+    let first = c.in_ok-queue.ensures.3 in
     forks _ _ (ap (λ v. v.puts) first) (ap (λ v. v.takes) first)
