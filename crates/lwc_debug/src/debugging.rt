@@ -163,7 +163,7 @@ fn kept_steps<W: World>(
     schedule: &Schedule,
 ) -> Result<Vec<u8>, OutOfMemory>
     requires fresh { kernel.old.steps ≡ [] }
-    requires room { length schedule.now ≤ kernel.old.room }
+    requires room { kernel.old.room ≡ length schedule.now }
     requires threads { All (λ t. t < thread_count kernel.old.inputs) schedule.now }
     ensures kept { IfOk result (λ steps. steps.items ≡ kept (start kernel.old.inputs) schedule.now) }
     ensures legal { IfOk result (λ steps. IsLegal (start kernel.old.inputs) steps.items) }

@@ -29,7 +29,8 @@ use Rattle.lwc_monitor.proofs.Guarding.{AreSafe, call-safe, kept-trap, kept-untr
 use Rattle.lwc_monitor.proofs.Tables.{acts_under}
 use Rattle.lwc_monitor.specs.Calls.{by_monitor, calls_under, trapped_outcome, traps_after_call}
 use Rattle.lwc_monitor.specs.Guards.{AreGuarded, HasOwnSlots, LeavesToMonitors, SameSlots}
-use Rattle.lwc_monitor.specs.Promises.{IsIn, LeavesEachTrapped}
+use Rattle.lwc_monitor.specs.Contexts.{IsIn}
+use Rattle.lwc_monitor.specs.Promises.{LeavesEachTrapped}
 use Rattle.lwc_monitor.specs.Steps.{Monitored, call_by, call_in, call_next, monitored_step, run_under, traps_after}
 use Rattle.lwc_monitor.specs.Traps.{Traps}
 use Rattle.lwc_monitor.specs.declared.numbers.TheConstants.{EXIT}

@@ -6,6 +6,7 @@ pub mod Guarding
 pub mod Keeping
 pub mod Leaving
 pub mod Names
+pub mod OwnPages
 pub mod Pairs
 pub mod Plain
 pub mod Promised

@@ -44,7 +44,8 @@ use Rattle.lwc_base.specs.declared.name.Name.{Name}
 use Rattle.lwc_base.specs.declared.size.WorldSize.{WorldSize}
 use Rattle.lwc_monitor.proofs.Few.{few_traps}
 use Rattle.lwc_monitor.proofs.Guarding.{all-kept, trapped-live}
-use Rattle.lwc_monitor.proofs.Keeping.{IsKept}
+use Rattle.lwc_monitor.proofs.Keeping.{IsKept, leaves-step}
+use Rattle.lwc_monitor.specs.Promises.{LeavesEachTrapped}
 use Rattle.lwc_monitor.proofs.Promised.{kept-after}
 use Rattle.lwc_monitor.proofs.Tables.{acts_under}
 use Rattle.lwc_monitor.specs.Calls.{calls_under, traps_after_call}
@@ -116,6 +117,10 @@ module _ (w : World) (io : Channels) (threads : List Thread) (text : List Instr)
         let there = kept-after h.inputs h.steps steady.inputs steady.run in
         subst (IsKept h.inputs (length h.steps)) (sym steady.state)
         (record { ready = ready_later h.inputs (0 + length h.steps) (length h.steps) _ (omega arith) there.ready; run = there.run; guarded = there.guarded })
+
+    pub leaves_trapped : (t : ℕ) → LeavesEachTrapped (state_of h) t
+    unfolding state_of
+    leaves_trapped t = leaves-step h.inputs (0 + length h.steps) (run_under (begun h.inputs) h.steps) t (kept-after h.inputs h.steps steady.inputs steady.run)
 
     pub within : (t : ℕ) → t < thread_count h.inputs → t < length threads
     within t few = omega (arith, few, kept.ready.count)

@@ -1,7 +1,6 @@
 -- What is promised of trapped contexts, of each step of a run.
 use Rattle.std.specs.Prelude.{◌≡◌, ◌≢◌, ◌⊎◌, ℕ, List, ◌∷◌, ◌++◌, Some, slice_get, true}
 use Rattle.std.specs.FinMap as fm
-use Rattle.kernel_core.specs.Machine.{Machine}
 use Rattle.kernel_core.specs.Refused.{advanced_thread}
 use Rattle.kernel_core.specs.Runs.{run}
 use Rattle.kernel_core.specs.Start.{Inputs, start}
@@ -9,16 +8,12 @@ use Rattle.kernel_core.specs.declared.thread.Thread.{Thread}
 use Rattle.lwc_base.specs.World.{is_live}
 use Rattle.lwc_base.specs.declared.name.Name.{Name}
 use Rattle.lwc_monitor.specs.Calls.{calls_under, trapped_outcome}
-use Rattle.lwc_monitor.specs.Contexts.{LeavesAllBut, LeavesContexts}
+use Rattle.lwc_monitor.specs.Contexts.{IsIn, LeavesAllBut, LeavesContexts}
 use Rattle.lwc_monitor.specs.Guards.{AreGuarded, HasOwnSlots, SameSlots}
 use Rattle.lwc_monitor.specs.Reports.{begun, monitored_text}
 use Rattle.lwc_monitor.specs.Steps.{Monitored, call_of, kept_under, monitored_step, run_under}
 use Rattle.lwc_monitor.specs.declared.numbers.TheConstants.{EXIT, LW_TRAP}
 use Rattle.lwc_text.specs.Report.{report_of_schedule}
-
--- the thread of a number is in a context
-abbrev pub IsIn : Machine → ℕ → Name → Type 0
-IsIn m t c = (x : Thread) × (slice_get m.threads t ≡ Some x) × (x.context ≡ c)
 
 -- a step leaves a context that is trapped by a monitor: its slots are its own before and after, and none has
 -- changed unless the thread was in the monitor; and a thread in the context makes no call but an exit: each
@@ -54,7 +49,7 @@ pub record AreMonitored (inputs : Inputs) (steps : List ℕ) : Type 0 where
   pub leaves : (before rest : List ℕ) (t : ℕ) → steps ≡ before ++ t ∷ rest →
       LeavesEachTrapped (run_under (begun inputs) before) t
   pub contexts : (before rest : List ℕ) (t : ℕ) → steps ≡ before ++ t ∷ rest →
-      let s = run_under (begun inputs) before in LeavesContexts s (monitored_step s t).machine t
+      let s = run_under (begun inputs) before in LeavesContexts s (monitored_step s t) t
   pub trapped : (before rest : List ℕ) (t : ℕ) (x : Thread) (m : Name) → steps ≡ before ++ t ∷ rest →
       let s = run_under (begun inputs) before in
       slice_get s.machine.threads t ≡ Some x → fm.get s.traps x.context ≡ Some m →

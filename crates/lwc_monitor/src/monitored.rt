@@ -9,6 +9,7 @@ ghost use Rattle.kernel_core.specs.Settings.{IsSettings};
 ghost use Rattle.kernel_core.specs.Start.{thread_count};
 ghost use Rattle.lwc_base.specs.World as worlds;
 ghost use Rattle.lwc_base.specs.declared.limits.TheConstants.{MOST_STEPS};
+ghost use Rattle.lwc_monitor.specs.Promises.{LeavesEachTrapped};
 ghost use Rattle.lwc_monitor.specs.Reports.{inputs_of, report_after_under, traps_text};
 ghost use Rattle.lwc_monitor.specs.Steady as spec;
 ghost use Rattle.lwc_monitor.specs.Steady.{state_of};
@@ -115,13 +116,16 @@ impl<W: World> Monitored<W> {
         })
     }
 
-    /// One step of thread `t`, which is kept unless the thread had ended. The only error is out of memory:
-    /// then nothing has changed, and the world has not taken all its memory at opening.
+    /// One step of thread `t`, which is kept unless the thread had ended. It leaves the slots of each trapped context
+    /// that lives on, unless the thread is in its monitor; and if the thread is trapped it makes no call but an exit.
+    /// The only error is out of memory: then nothing has changed, and the world has not taken all its memory at
+    /// opening.
     pub fn step(&mut self, t: u32) -> Result<Turn, OutOfMemory>
         requires within { t < thread_count self.old.inputs }
         requires room { is_ended (state_of self.old).machine t ≡ false → 0 < self.old.room }
         ensures step { OnOk result (self.new ≡ spec.stepped_under self.old t) }
         ensures turn { IfOk result (λ turn. spec.turn_under self.new t ≡ Some turn) }
+        ensures trapped { OnOk result (LeavesEachTrapped (state_of self.old) t) }
         ensures err { OnErr result (self.new ≡ self.old) }
         ensures ample { W.roomy ≡ true → IsOk result }
     {

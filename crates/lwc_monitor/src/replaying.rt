@@ -42,7 +42,7 @@ pub fn monitor_replay<W: World>(
 /// Makes the steps of the schedule, one after another.
 fn make_steps<W: World>(run: &mut Monitored<W>, schedule: &Schedule) -> Result<(), OutOfMemory>
     requires fresh { run.old.steps ≡ [] }
-    requires room { length schedule.now ≤ run.old.room }
+    requires room { run.old.room ≡ length schedule.now }
     requires threads { All (λ t. t < thread_count run.old.inputs) schedule.now }
     ensures inputs { OnOk result (run.new.inputs ≡ run.old.inputs) }
     ensures steps { OnOk result (run.new.steps ≡ kept_under (begun run.old.inputs) schedule.now) }

@@ -1,4 +1,4 @@
-ghost use Rattle.std.specs.Prelude.{◌≡◌, ◌≤◌, ◌<◌, ◌-◌, None, Some, IfOk, IfSome, IsOk, OnErr, OnOk, true};
+ghost use Rattle.std.specs.Prelude.{◌≡◌, ◌≢◌, ◌≤◌, ◌<◌, ◌-◌, None, Some, IfOk, IfSome, IsOk, OnErr, OnOk, true};
 ghost use Rattle.std.specs.FinMap as fm;
 ghost use Rattle.guest_isa.specs.Instructions.{IsText};
 ghost use Rattle.guest_machine.specs.Advances.{advanced};
@@ -109,7 +109,8 @@ fn run_under<W: World>(
     }
 }
 
-/// Carries out a ruling on the call of a number that thread `t` makes.
+/// Carries out a ruling on the call of a number that thread `t` makes. It cuts no link, so nothing is searched for
+/// what may be dropped.
 fn carry_out<W: World>(
     traps: &mut Traps,
     world: &mut W,
@@ -126,6 +127,7 @@ fn carry_out<W: World>(
         (W.seen world.old) thread.old (W.seen world.new) thread.new }
     ensures traps { traps.new ≡ spec.traps_by traps.old thread.old.context ruling }
     ensures kept { Keeps result (W.seen world.old) thread.old (W.seen world.new) thread.new }
+    ensures uncut { result ≢ Change.Links }
 {
     match ruling {
         Ruling::Answer(value) => {

@@ -1,15 +1,17 @@
 -- Two vaults that hand out the same are told apart by nothing.
-use Rattle.std.proofs.Common.{◌≡◌, ◌≢◌, All, ℕ, suc, ◌+◌, refl, sym, ap, subst, ◌∙◌, Bool, true, false, cond, ◌&&◌, Option, Some, None, List, [], ◌∷◌, ◌++◌, map}
+use Rattle.std.proofs.Common.{◌≡◌, ◌≢◌, inl, inr, All, ℕ, suc, ◌+◌, refl, sym, ap, subst, ◌∙◌, Bool, true, false, cond, ◌&&◌, Option, Some, None, List, [], ◌∷◌, ◌++◌, map}
 use Rattle.std.specs.Prelude.{max, not, slice_get}
 use Rattle.std.specs.FinMap as fm
-use Rattle.std.specs.Option.{option_map}
+use Rattle.std.specs.Option.{option_map, option_map_or}
 use Rattle.std.specs.Ordering.{eq_by_cmp}
 use Rattle.std.proofs.lemmas.List.Elements.{All-cons, All-head, All-nil, All-tail}
 use Rattle.std.proofs.lemmas.Option.{slice_get-map}
 use Rattle.guest_image.specs.declared.image.Vault.{Vault}
 use Rattle.guest_machine.specs.Advances.{advanced}
+use Rattle.confinement.proofs.Decide.{number_or_not}
 use Rattle.confinement.specs.May.{regs_at}
 use Rattle.kernel_core.proofs.HomeStart.{ready_start}
+use Rattle.kernel_core.proofs.Others.{step_leaves}
 use Rattle.kernel_core.proofs.Runs.{peak_kept, run_kept, step_of_ended}
 use Rattle.kernel_core.specs.Histories.{IsLegal}
 use Rattle.kernel_core.specs.Kernel.{CanOpen, view_of}
@@ -19,19 +21,19 @@ use Rattle.kernel_core.specs.Runs.{frames_of, kept, peak, run}
 use Rattle.kernel_core.specs.Start.{Inputs, start, vault_name, world_for}
 use Rattle.kernel_core.specs.Step.{step}
 use Rattle.kernel_core.specs.declared.thread.Thread.{Thread}
-use Rattle.lwc_base.proofs.Orders.{cases_name, name-itself, other_name}
+use Rattle.lwc_base.proofs.Orders.{cases_name, name-itself, other_name, same_name}
 use Rattle.lwc_base.specs.Names.{name_cmp}
 use Rattle.lwc_text.specs.Lines.{groups_line, tail_lines}
 use Rattle.lwc_text.specs.Report.{replies_text, report_after, report_of, report_of_schedule, threads_text}
 use Rattle.lwc_vault.proofs.Hiding.{cover-outside, ended-hide, frames-hide, hide}
-use Rattle.lwc_vault.proofs.Inside.{after_told, is_outside, step-hide, told-inside}
+use Rattle.lwc_vault.proofs.Inside.{after_told, ended_inside, is_outside, step-hide, told-inside}
 use Rattle.lwc_vault.proofs.Shapes.{world-shape}
 use Rattle.lwc_vault.proofs.Stepping.{cover}
 use Rattle.lwc_vault.proofs.Staying.{no_serve, outside-at, ready_next, start-shut, step-shut}
 use Rattle.lwc_vault.proofs.Telling.{contexts-blank, outside-back, outside-blank, stays_run}
 use Rattle.lwc_vault.specs.Blanks.{ActsOutside, IsShutWorld}
 use Rattle.lwc_vault.specs.Secrets.{HandOutTheSame, HaveOneShape, StandOutside, StandsOutside, beside}
-use Rattle.lwc_vault.specs.Told.{IsPlain, Other, Outside, Told, ended_inside, stands_inside, told, told_by, told_by_next, told_in}
+use Rattle.lwc_vault.specs.Told.{IsPlain, Outside, Told, stands_inside, told, told_by, told_by_next, told_in}
 use Rattle.world_views.specs.Blank.{blank}
 use Rattle.world_views.specs.Outside.{IsOutside}
 
@@ -63,10 +65,36 @@ record Beside (inputs : Inputs) (k : ℕ) (m n : Machine) : Type 0 where
   pub other : n.serve ≡ None
   pub hides : hide m ≡ hide n
 
--- both hand out the same in these steps, and nothing else is done
+-- both hand out the same in these steps, nothing else is done, and nobody is left inside
 record HandOut (m n : Machine) (steps : List ℕ) : Type 0 where
   pub same : told_in n steps ≡ told_in m steps
   pub plain : All IsPlain (told_in m steps)
+  pub left : (t : ℕ) → StandsOutside (run m steps) t
+  pub left_other : (t : ℕ) → StandsOutside (run n steps) t
+
+-- who has ended stays as it is
+stays_ended : (m : Machine) (ts : List ℕ) (t : ℕ) (x : Thread) → slice_get m.threads t ≡ Some x → has_ended x.status ≡ true → slice_get (run m ts).threads t ≡ Some x
+unfolding is_ended
+stays_ended m [] t x found ended = found
+stays_ended m (u ∷ us) t x found ended = stays_ended (step m u) us t x (elim (number_or_not u t) [
+  | inl same ↦
+      let rests : step m u ≡ m = step_of_ended m u (ap (λ k. option_map_or (λ (y : Thread). has_ended y.status) (slice_get m.threads k) true) same ∙ (ap (λ (o : Option Thread). option_map_or (λ (y : Thread). has_ended y.status) o true) found ∙ ended)) in
+      ap (λ (k : Machine). slice_get k.threads t) rests ∙ found
+  | inr other ↦ step_leaves m u t other ∙ found
+]) ended
+
+-- where nobody is left inside, none has ended there
+none_ended : (m : Machine) (ts : List ℕ) → ((t : ℕ) → StandsOutside (run m ts) t) → (t : ℕ) → ended_inside (slice_get m.threads t) ≡ false
+none_ended m ts left t = by_thread (slice_get m.threads t) refl
+  where
+    by_end : (x : Thread) → slice_get m.threads t ≡ Some x → (b c : Bool) → stands_inside x ≡ b → has_ended x.status ≡ c → b && c ≡ false
+    by_end x found true true inside ended = absurd (left t x (stays_ended m ts t x found ended) (same_name x.context vault_name inside))
+    by_end x found true false inside going = refl
+    by_end x found false c outside is = refl
+
+    by_thread : (o : Option Thread) → slice_get m.threads t ≡ o → ended_inside o ≡ false
+    by_thread None none = refl
+    by_thread (Some x) found = by_end x found (stands_inside x) (has_ended x.status) refl refl
 
 module _ (inputs : Inputs) where
   -- a step that hands out nothing of the vault is made outside, unless its thread has ended
@@ -74,17 +102,14 @@ module _ (inputs : Inputs) where
   unfolding told
   acts k t m ready shut is x found runs = cases_name x.context vault_name here there
     where
-      no : (b : Bool) → cond b Other (handed m x) ≡ Outside → ⊥
-      no true e = cc
-      no false e = let out : true ≡ false = sym (ap is_outside e) ∙ told-inside m.environment.world (regs_at m x) (advanced m.text x.regs).next in cc
+      no : handed m x ≡ Outside → ⊥
+      no e = let out : true ≡ false = sym (ap is_outside e) ∙ told-inside m.environment.world (regs_at m x) (advanced m.text x.regs).next in cc
 
       here : x.context ≡ vault_name → IsOutside vault_name x.context x.job m.environment.world
       here same =
           let inside : stands_inside x ≡ true = ap (λ c. eq_by_cmp name_cmp c vault_name) same ∙ name-itself vault_name in
           let all : told_by m t (Some x) ≡ Outside = sym (ap (told_by m t) found) ∙ is in
-          let it : cond (ended_inside (slice_get (step m t).threads t)) Other (handed m x) ≡ Outside =
-          sym (λ i. cond (inside i && not (has_ended (runs i))) (cond (ended_inside (slice_get (step m t).threads t)) Other (handed m x)) Outside) ∙ all in
-          absurd (no (ended_inside (slice_get (step m t).threads t)) it)
+          let it : handed m x ≡ Outside = sym (λ i. cond (inside i && not (has_ended (runs i))) (handed m x) Outside) ∙ all in absurd (no it)
 
       there : x.context ≢ vault_name → IsOutside vault_name x.context x.job m.environment.world
       there other = outside-at inputs k t m ready shut stands x found runs
@@ -92,7 +117,8 @@ module _ (inputs : Inputs) where
           stands : StandsOutside m t
           stands z at = let same : x ≡ z = let both : Some x ≡ Some z = sym found ∙ at in cc in subst (λ (u : Thread). u.context ≢ vault_name) same other
 
-  module _ (k t : ℕ) (m n : Machine) (is : Beside inputs k m n) (same : told n t ≡ told m t) (plain : IsPlain (told m t)) where
+  module _ (k t : ℕ) (m n : Machine) (is : Beside inputs k m n) (same : told n t ≡ told m t) (plain : IsPlain (told m t)) (lives : ended_inside (slice_get (step m t).threads t) ≡ false)
+      (lives_other : ended_inside (slice_get (step n t).threads t) ≡ false) where
     both_outside : told n t ≡ Outside → ActsOutside n t
     both_outside out = acts-unhide n t (subst (λ h. ActsOutside h t) is.hides (acts-hide m t (acts k t m is.ready is.shut (sym same ∙ out))))
 
@@ -104,9 +130,9 @@ module _ (inputs : Inputs) where
       run = stays_run m t is.run;
       other = stays_run n t is.other;
       hides =
-          step-hide m t is.run plain (acts k t m is.ready is.shut)
+          step-hide m t is.run lives plain (acts k t m is.ready is.shut)
           ∙ (λ i. after_told (sym same i) (is.hides i) t)
-          ∙ sym (step-hide n t is.other (subst IsPlain (sym same) plain) both_outside);
+          ∙ sym (step-hide n t is.other lives_other (subst IsPlain (sym same) plain) both_outside);
     }
 
   module _ (t : ℕ) (ts : List ℕ) (m n : Machine) (is : HandOut m n (t ∷ ts)) where
@@ -117,11 +143,11 @@ module _ (inputs : Inputs) where
     first_plain = All-head IsPlain (told m t) (told_in (step m t) ts) is.plain
 
     hand_rest : HandOut (step m t) (step n t) ts
-    hand_rest = record { same = let all = is.same in cc; plain = All-tail IsPlain (told m t) (told_in (step m t) ts) is.plain }
+    hand_rest = record { same = let all = is.same in cc; plain = All-tail IsPlain (told m t) (told_in (step m t) ts) is.plain; left = is.left; left_other = is.left_other }
 
   module _ (k t : ℕ) (ts : List ℕ) (m n : Machine) (is : Beside inputs k m n) (hand : HandOut m n (t ∷ ts)) where
     goes_on : Beside inputs (k + 1) (step m t) (step n t)
-    goes_on = beside_next k t m n is (first_same t ts m n hand) (first_plain t ts m n hand)
+    goes_on = beside_next k t m n is (first_same t ts m n hand) (first_plain t ts m n hand) (none_ended (step m t) ts hand.left t) (none_ended (step n t) ts hand.left_other t)
 
   -- and so after all of them
   run-hide : (k : ℕ) (m n : Machine) (ts : List ℕ) → Beside inputs k m n → HandOut m n ts → hide (run m ts) ≡ hide (run n ts)
@@ -213,7 +239,7 @@ module _ (a b : Vault) (shape : HaveOneShape a b) (inputs : Inputs) (can : CanOp
 
   module _ (steps : List ℕ) (hand : HandOutTheSame inputs a b steps) where
     hands : HandOut here other steps
-    hands = record { same = hand.same; plain = hand.plain }
+    hands = record { same = hand.same; plain = hand.plain; left = hand.left; left_other = hand.left_other }
 
     pub kept-told : kept other steps ≡ kept here steps
     kept-told = kept-same (beside inputs a) 0 here other steps begins hands
@@ -247,7 +273,7 @@ told-outside m t stands = by (slice_get m.threads t) refl
     by : (o : Option Thread) → slice_get m.threads t ≡ o → told_by m t o ≡ Outside
     by None is = refl
     by (Some x) is =
-        ap (λ b. cond (b && not (has_ended x.status)) (cond (ended_inside (slice_get (step m t).threads t)) Other (told_by_next m.environment.world (regs_at m x) (advanced m.text x.regs).next)) Outside)
+        ap (λ b. cond (b && not (has_ended x.status)) (told_by_next m.environment.world (regs_at m x) (advanced m.text x.regs).next) Outside)
         (other_name x.context vault_name (stands x is))
 
 pub nobody-tells : (m : Machine) (ts : List ℕ) → StandOutside m ts → All (λ o. o ≡ Outside) (told_in m ts)

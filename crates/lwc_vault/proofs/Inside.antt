@@ -58,7 +58,7 @@ use Rattle.lwc_vault.proofs.Hiding.{after-hide, cover-inside, hide, hide_threads
 use Rattle.lwc_vault.proofs.Stores.{parted, store-hide, stored_as}
 use Rattle.lwc_vault.proofs.Stepping.{blank_env, blank_out, cover}
 use Rattle.lwc_vault.specs.Blanks.{ActsOutside}
-use Rattle.lwc_vault.specs.Told.{Parts, Writes, Told, Outside, Nothing, Makes, Leaves, Other, IsPlain, ended_inside, stands_inside, told, told_by, told_by_call, told_by_cell, told_by_pages, told_by_next, told_by_op, told_by_plain}
+use Rattle.lwc_vault.specs.Told.{Parts, Writes, Told, Outside, Nothing, Makes, Leaves, Other, IsPlain, stands_inside, told, told_by, told_by_call, told_by_cell, told_by_pages, told_by_next, told_by_op, told_by_plain}
 use Rattle.world_views.proofs.BlankChanges.{blanks-alike}
 use Rattle.world_views.proofs.BlankPlainly.{becoming-blank, closing-blank, copying-blank, mapping-blank, opening-blank}
 use Rattle.world_views.specs.Outside.{blank_outcome}
@@ -444,6 +444,11 @@ told-inside u regs (next.Shared i) = by_op i.op
     by_op Ldw = refl
     by_op _ = refl
 
+-- whether a thread has ended in the vault
+abbrev pub ended_inside : Option Thread → Bool
+ended_inside None = false
+ended_inside (Some x) = stands_inside x && has_ended x.status
+
 -- the hidden machine after a step in the vault, by what that hands out
 abbrev pub after_inside : Told → Machine → ℕ → Option Thread → Machine
 after_inside k h t None = h
@@ -502,21 +507,16 @@ module _ (m : Machine) (t : ℕ) (run : m.serve ≡ None) (x : Thread) (found : 
 abbrev StepsAs : Machine → ℕ → Told → Type 0
 StepsAs m t k = hide (step m t) ≡ after_told k (hide m) t
 
--- a step is the same step where the vault is hidden, by what it hands out
-pub step-hide : (m : Machine) (t : ℕ) → m.serve ≡ None → IsPlain (told m t) → (told m t ≡ Outside → ActsOutside m t) → hide (step m t) ≡ after_told (told m t) (hide m) t
+-- a step is the same step where the vault is hidden, by what it hands out, unless its thread ends there
+pub step-hide : (m : Machine) (t : ℕ) → m.serve ≡ None → ended_inside (slice_get (step m t).threads t) ≡ false → IsPlain (told m t) → (told m t ≡ Outside → ActsOutside m t) → hide (step m t) ≡ after_told (told m t) (hide m) t
 unfolding told
-step-hide m t run some outside = by (slice_get m.threads t) refl some outside
+step-hide m t run lives some outside = by (slice_get m.threads t) refl some outside
   where
-    ends : (x : Thread) → slice_get m.threads t ≡ Some x → stands_inside x ≡ true → has_ended x.status ≡ false → (b : Bool) → ended_inside (slice_get (step m t).threads t) ≡ b →
-        IsPlain (cond b Other (told_by_next m.environment.world (regs_at m x) (advanced m.text x.regs).next)) → StepsAs m t (cond b Other (told_by_next m.environment.world (regs_at m x) (advanced m.text x.regs).next))
-    ends x found inside going true is some = absurd some
-    ends x found inside going false is some = steps_inside m t run x found inside going some is
-
     stands : (x : Thread) → slice_get m.threads t ≡ Some x → (b c : Bool) → stands_inside x ≡ b → has_ended x.status ≡ c →
-        IsPlain (cond (b && not c) (cond (ended_inside (slice_get (step m t).threads t)) Other (told_by_next m.environment.world (regs_at m x) (advanced m.text x.regs).next)) Outside) →
-        (cond (b && not c) (cond (ended_inside (slice_get (step m t).threads t)) Other (told_by_next m.environment.world (regs_at m x) (advanced m.text x.regs).next)) Outside ≡ Outside → ActsOutside m t) →
-        StepsAs m t (cond (b && not c) (cond (ended_inside (slice_get (step m t).threads t)) Other (told_by_next m.environment.world (regs_at m x) (advanced m.text x.regs).next)) Outside)
-    stands x found true false inside going some outside = ends x found inside going (ended_inside (slice_get (step m t).threads t)) refl some
+        IsPlain (cond (b && not c) (told_by_next m.environment.world (regs_at m x) (advanced m.text x.regs).next) Outside) →
+        (cond (b && not c) (told_by_next m.environment.world (regs_at m x) (advanced m.text x.regs).next) Outside ≡ Outside → ActsOutside m t) →
+        StepsAs m t (cond (b && not c) (told_by_next m.environment.world (regs_at m x) (advanced m.text x.regs).next) Outside)
+    stands x found true false inside going some outside = steps_inside m t run x found inside going some lives
     stands x found true true inside going some outside = step-outside m t run (outside refl)
     stands x found false c inside going some outside = step-outside m t run (outside refl)
 

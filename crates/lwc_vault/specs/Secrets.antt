@@ -49,11 +49,12 @@ TellsNothing inputs steps v =
     (other : Vault) → HaveOneShape v other → IsLegal (start (beside inputs other)) steps
     × (report_after (beside inputs other) steps ≡ report_after (beside inputs v) steps)
 
--- two vaults hand out the same in these steps, nothing else is done in them, and nobody stands in them at the end
+-- two vaults hand out the same in these steps, nothing else is done in them, and nobody stands in either at the end
 pub record HandOutTheSame (inputs : Inputs) (a b : Vault) (steps : List ℕ) : Type 0 where
   pub same : told_in (start (beside inputs b)) steps ≡ told_in (start (beside inputs a)) steps
   pub plain : All IsPlain (told_in (start (beside inputs a)) steps)
   pub left : (t : ℕ) → StandsOutside (run (start (beside inputs a)) steps) t
+  pub left_other : (t : ℕ) → StandsOutside (run (start (beside inputs b)) steps) t
 
 -- beside two vaults the same steps of a schedule are kept, and the whole text is the same
 pub record PrintTheSame (inputs : Inputs) (a b : Vault) (schedule : List ℕ) : Type 0 where

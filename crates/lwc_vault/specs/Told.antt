@@ -1,5 +1,5 @@
 -- What steps in the vault hand out.
-use Rattle.std.specs.Prelude.{◌==◌, ◌&&◌, if◌then◌else◌, ℕ, Bool, false, not, List, [], ◌∷◌, Option, None, Some}
+use Rattle.std.specs.Prelude.{◌==◌, ◌&&◌, if◌then◌else◌, ℕ, Bool, not, List, [], ◌∷◌, Option, None, Some}
 use Rattle.std.specs.Prelude.{slice_get, slice_index, take}
 use Rattle.std.specs.Ordering.{eq_by_cmp}
 use Rattle.confinement.specs.May.{regs_at}
@@ -30,7 +30,7 @@ use Rattle.lwc_syscall.specs.declared.plain_call.PlainCall.TheVariants as calls
 -- what one step hands out: it is not made in the vault; nothing; the number of a page of the vault that takes a frame
 -- of its own; a plain call that opens, closes or copies a descriptor, maps or unmaps pages or sets the uid, with its
 -- arguments; the number of a slot that it writes to, how many bytes, and these; the number of the slot by which it
--- leaves, and the argument; or it does something else, or ends its thread there
+-- leaves, and the argument; or it does something else
 pub data Told : Type 0 where
   Outside : Told
   Nothing : Told
@@ -95,18 +95,12 @@ told_by_next w regs (next.Shared i) = told_by_op w regs i i.op
 abbrev pub stands_inside : Thread → Bool
 stands_inside x = eq_by_cmp name_cmp x.context vault_name
 
--- whether a thread has ended there
-abbrev pub ended_inside : Option Thread → Bool
-ended_inside None = false
-ended_inside (Some x) = stands_inside x && has_ended x.status
-
 -- what the step of the thread that was found hands out, if one was
 abbrev pub told_by : Machine → ℕ → Option Thread → Told
 told_by m t None = Outside
 told_by m t (Some x) =
     if stands_inside x && not (has_ended x.status)
-    then (if ended_inside (slice_get (step m t).threads t) then Other
-    else told_by_next m.environment.world (regs_at m x) (advanced m.text x.regs).next)
+    then told_by_next m.environment.world (regs_at m x) (advanced m.text x.regs).next
     else Outside
 
 -- what the next step of the thread of a number hands out

@@ -3,7 +3,7 @@ use Rattle.std.proofs.lemmas.List.{length-set}
 use Rattle.guest_isa.specs.Instructions.{IsText}
 use Rattle.kernel_core.specs.Kernel.{History}
 use Rattle.kernel_core.specs.declared.thread.Thread.{Thread}
-use Rattle.lwc_monitor.proofs.Steadying.{acts, as_seen, few, few_trapped, going, has_steps, kept, live-as, one_longer, reaped-as, rested, steady_as, steady_next, stepped_to, traps_stay, turn_next, uncut-as, used_kept, within}
+use Rattle.lwc_monitor.proofs.Steadying.{acts, as_seen, few, few_trapped, going, has_steps, kept, leaves_trapped, live-as, one_longer, reaped-as, rested, steady_as, steady_next, stepped_to, traps_stay, turn_next, uncut-as, used_kept, within}
 use Rattle.lwc_monitor.specs.Steady.{turn_under}
 use Rattle.lwc_monitor.proofs.monitored.Monitored.step.Goals as goal
 
@@ -37,6 +37,9 @@ pub returns-in_default-clause-turn : goal.returns-in_default-clause-turn
 returns-in_default-clause-turn g c =
     let rest = rested _ _ _ _ _ _ _ (as_seen _ _ _ _ c.self.view_is c.self.invariant.1) c.args.t _ c.requires.within c.index.ensures _ _ _ _ _ c.in_ok-effect.ensures.outcome c.in_ok-effect.ensures.traps c.in_ok-effect.ensures.kept c.in_default.is in
     subst (λ (h : History). turn_under h c.args.t ≡ Some c.turn_of.result) (sym c.self.view_is) (rest.turn ∙ ap Some (sym c.turn_of.ensures))
+
+pub returns-in_default-clause-trapped : goal.returns-in_default-clause-trapped
+returns-in_default-clause-trapped g c = leaves_trapped _ _ _ _ _ _ _ (as_seen _ _ _ _ c.self.view_is c.self.invariant.1) c.args.t
 
 pub index_mut-requires : goal.index_mut-requires
 index_mut-requires g c = let inside = within _ _ _ _ _ _ _ (as_seen _ _ _ _ c.self.view_is c.self.invariant.1) c.args.t c.requires.within in omega arith
@@ -82,3 +85,6 @@ pub returns-clause-turn : goal.returns-clause-turn
 returns-clause-turn g c =
     subst (λ (h : History). turn_under h c.args.t ≡ Some c.turn_of-2.result) (sym (one_longer _ _ _ _ _ _ _ c.self.view_is c.push_reserved.ensures.items))
     (turn_next _ _ _ _ _ _ _ (as_seen _ _ _ _ c.self.view_is c.self.invariant.1) c.args.t _ c.requires.within c.index.ensures _ _ _ _ _ c.in_ok-effect.ensures.outcome c.in_ok-effect.ensures.traps c.in_ok-effect.ensures.kept c.in-Some.effect c.in-Some.is _ (reaped-as _ _ _ _ _ _ _ (as_seen _ _ _ _ c.self.view_is c.self.invariant.1) c.args.t _ c.requires.within c.index.ensures _ _ _ _ _ c.in_ok-effect.ensures.outcome c.in_ok-effect.ensures.traps c.in_ok-effect.ensures.kept c.in-Some.effect c.in-Some.is _ _ c.drop_unreached.ensures c.as_slice.ensures.value) _ c.keep_reached.ensures ∙ ap Some (sym c.turn_of-2.ensures))
+
+pub returns-clause-trapped : goal.returns-clause-trapped
+returns-clause-trapped g c = leaves_trapped _ _ _ _ _ _ _ (as_seen _ _ _ _ c.self.view_is c.self.invariant.1) c.args.t

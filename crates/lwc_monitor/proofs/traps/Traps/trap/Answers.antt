@@ -1,8 +1,5 @@
-use Rattle.std.proofs.Common.{◌≡◌, ◌<◌, ◌∙◌, ap, arith, length, List}
+use Rattle.std.proofs.Common.{◌≡◌, ap, arith, length, List}
 use Rattle.std.specs.FinMap as fm
-use Rattle.std.specs.Prelude.{is_ok}
-use Rattle.std.specs.Vec.{vec_capacity, vec_len}
-use Rattle.lwc_base.specs.declared.limits.TheConstants.{MOST_CONTEXTS}
 use Rattle.lwc_base.specs.Names.{name_cmp}
 use Rattle.lwc_base.specs.declared.name.Name.{Name}
 use Rattle.lwc_monitor.proofs.Pairs.{entries-are, inserted, inserted-sorted, place-within}
