@@ -1,5 +1,5 @@
 -- What a caller hands over, as contracts see it.
-use Rattle.std.specs.Prelude.{ℕ, List, ◌∷◌, codes, map}
+use Rattle.std.specs.Prelude.{ℕ, List, ◌∷◌, All, IsUtf8, codes, map}
 use Rattle.lwc_io.specs.Memory.{Named}
 use Rattle.lwcrun_c.specs.declared.border.Bytes.{Bytes}
 use Rattle.lwcrun_c.specs.declared.border.FileBytes.{FileBytes}
@@ -13,6 +13,11 @@ line_of words = codes "lwcrun" ∷ map (λ word. word.bytes.now) words
 -- a file and its name
 abbrev pub named : FileBytes → Named
 named file = record { name = file.name.now; bytes = file.bytes.now }
+
+-- all words of a line, and all names of its files, are text in UTF-8
+abbrev pub AreText : List Bytes → List FileBytes → Type 0
+AreText words files =
+    All (λ word. IsUtf8 word.bytes.now) words × All (λ file. IsUtf8 file.name.now) files
 
 -- the number of an error, which is no other exit status but that of out of memory
 abbrev pub error_number : LineError → ℕ

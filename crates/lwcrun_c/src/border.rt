@@ -1,6 +1,6 @@
 //! What crosses to C and back: numbers, and slices of bytes.
 
-ghost use Rattle.std.specs.Prelude.{◌≡◌, ◌≢◌, Err, IfErr, IfOk, map, string_bytes};
+ghost use Rattle.std.specs.Prelude.{◌≡◌, ◌≢◌, All, Err, IfErr, IfOk, IsUtf8, map, string_bytes};
 ghost use Rattle.lwcrun_c.specs.Border.{error_number, line_of, named};
 ghost use Rattle.lwcrun_c.specs.declared.border.LineError.TheVariants.{OutOfMemory};
 
@@ -64,9 +64,14 @@ impl<T: Drop> From<AllocFailed<T>> for LineError {
 }
 
 /// The words of a line as texts, behind the program's name.
+///
+/// # Errors
+///
+/// `NotText` only where a word is not UTF-8; or out of memory.
 pub fn words_from(alloc: Global, words: &[Bytes<'_>]) -> Result<Vec<String>, LineError>
     ensures words { IfOk result (λ texts. map string_bytes texts.items ≡ line_of words.now) }
     ensures threads { result ≢ Err LineError.NeedsThreads }
+    ensures text { result ≡ Err LineError.NotText → All (λ word. IsUtf8 word.bytes.now) words.now → ⊥ }
 {
     let mut texts = Vec::new(alloc);
     texts.push(String::from_str(alloc, "lwcrun")?)?;
@@ -77,9 +82,14 @@ pub fn words_from(alloc: Global, words: &[Bytes<'_>]) -> Result<Vec<String>, Lin
 }
 
 /// The files, each with its name as a text.
+///
+/// # Errors
+///
+/// `NotText` only where a name is not UTF-8; or out of memory.
 pub fn files_from(alloc: Global, files: &[FileBytes<'_>]) -> Result<Vec<NamedFile>, LineError>
     ensures files { IfOk result (λ taken. taken.items ≡ map named files.now) }
     ensures threads { result ≢ Err LineError.NeedsThreads }
+    ensures text { result ≡ Err LineError.NotText → All (λ file. IsUtf8 file.name.now) files.now → ⊥ }
 {
     let mut taken = Vec::new(alloc);
     'files: for file in files {
@@ -89,9 +99,13 @@ pub fn files_from(alloc: Global, files: &[FileBytes<'_>]) -> Result<Vec<NamedFil
 }
 
 /// The bytes as a text.
+///
+/// # Errors
+///
+/// `NotText` where they are not UTF-8.
 fn text_in(bytes: &[u8]) -> Result<&str, LineError>
     ensures text { IfOk result (λ text. text.now ≡ bytes.entry.now) }
-    ensures error { IfErr result (λ error. error ≡ LineError.NotText) }
+    ensures error { IfErr result (λ error. (error ≡ LineError.NotText) × (IsUtf8 bytes.entry.now → ⊥)) }
 {
     match str::from_utf8(bytes) {
         Ok(text) => Ok(text),

@@ -1,11 +1,25 @@
 //! The functions that C calls. `include/lwcrun.h` says what each wants and answers; a caller that passes what no Rust
 //! reference may be, as a null pointer, breaks what every line here rests on.
 
-ghost use Rattle.std.specs.Prelude.{◌≡◌, ◌≢◌, ◌<◌, Err, IfOk, IfSome, None, Some, length, map, string_bytes};
+ghost use Rattle.std.specs.Prelude.{
+  ◌≡◌,
+  ◌≢◌,
+  ◌<◌,
+  ◌≤◌,
+  ◌⊎◌,
+  Err,
+  IfOk,
+  IfSome,
+  None,
+  Some,
+  length,
+  map,
+  string_bytes,
+};
 ghost use Rattle.std.specs.Option.{option_map};
 ghost use Rattle.kernel_core.specs.Kernel.{machine_of, view_of};
 ghost use Rattle.lwc_base.specs.declared.page.TheConstants.{PAGE_BYTES};
-ghost use Rattle.lwcrun_c.specs.Border.{line_of, named};
+ghost use Rattle.lwcrun_c.specs.Border.{AreText, line_of, named};
 ghost use Rattle.lwcrun_c.specs.Lines.{IsAnswer, IsOutcome};
 ghost use Rattle.lwcrun_c.specs.Runs.{
   MayRefuse,
@@ -19,6 +33,7 @@ ghost use Rattle.lwcrun_c.specs.Runs.{
   world_of,
 };
 ghost use Rattle.lwcrun_core.specs.Statuses.{exit_number};
+ghost use Rattle.lwcrun_core.specs.declared.status.ExitStatus.{ExitStatus};
 ghost use Rattle.lwcrun_line.specs.Lines.{RunsThreads, command_of};
 
 use crate::border::{Bytes, FileBytes, LineError, files_from, left_to_caller, words_from};
@@ -39,8 +54,8 @@ pub struct Answer<'a> {
 }
 
 /// Carries out a line, its words from the mode on, over files in memory. Answers its exit status, 0 to 7, and puts
-/// there what it wrote and its message; or 1 if memory ran out, 8 if the line runs threads, and 9 if a word or a name
-/// is not UTF-8, and then the answer is unchanged.
+/// there what it wrote and its message. At 1, where memory ran out, at 8, where the line runs threads, and at 9, where
+/// a word or a name is not UTF-8, the answer is unchanged.
 #[unsafe(no_mangle)]
 pub extern "C" fn lwcrun_c_line(
     alloc: Global,
@@ -50,7 +65,10 @@ pub extern "C" fn lwcrun_c_line(
 ) -> u32
     ensures answered { result < 8 → result ≢ 1
         → IsAnswer (line_of words.now) (map named files.now) result answer.new.output.now answer.new.message.now }
+    ensures statuses { result ≤ 9 }
     ensures threads { result ≡ 8 → IfSome (command_of (line_of words.now)) RunsThreads }
+    ensures text { result ≡ 9 → AreText words.now files.now → ⊥ }
+    ensures unchanged { (result ≡ 1) ⊎ (8 ≤ result) → answer.new ≡ answer.old }
 {
     match outcome(alloc, words, files) {
         Ok(outcome) => put_answer(outcome, answer),
@@ -66,8 +84,10 @@ fn outcome(
 ) -> Result<Outcome, LineError>
     ensures outcome { IfOk result (λ left. IsOutcome (line_of words.now) (map named files.now) left.status
         left.output.items (string_bytes left.message)) }
+    ensures memory { IfOk result (λ left. left.status ≢ ExitStatus.NoMemory) }
     ensures threads { result ≡ Err LineError.NeedsThreads
         → IfSome (command_of (line_of words.now)) RunsThreads }
+    ensures text { result ≡ Err LineError.NotText → AreText words.now files.now → ⊥ }
 {
     let files = files_from(alloc, files)?;
     let words = words_from(alloc, words)?;

@@ -1,6 +1,6 @@
 //! A line that is carried out over files in memory.
 
-ghost use Rattle.std.specs.Prelude.{◌≡◌, [], Err, IfErr, IfNone, IfOk, IfSome, map, string_bytes};
+ghost use Rattle.std.specs.Prelude.{◌≡◌, ◌≢◌, [], Err, IfErr, IfNone, IfOk, IfSome, map, string_bytes};
 ghost use Rattle.lwcrun_c.specs.Lines.{IsOutcome};
 ghost use Rattle.lwcrun_core.specs.Statuses.{message_of, status_of};
 ghost use Rattle.lwcrun_line.specs.Lines.{IsWithinLimits, RunsThreads, asked_by, command_of};
@@ -29,7 +29,7 @@ pub struct Outcome {
 /// # Errors
 ///
 /// `NeedsThreads` only where the line is one of `run`, `serve`, `gen` or `stream`, and nothing is done then; or out
-/// of memory.
+/// of memory, also where the line itself ended so.
 pub fn carry_out_line(
     alloc: Global,
     words: &[String],
@@ -37,8 +37,10 @@ pub fn carry_out_line(
 ) -> Result<Outcome, LineError>
     ensures outcome { IfOk result (λ left. IsOutcome (map string_bytes words.now) named.items left.status
         left.output.items (string_bytes left.message)) }
+    ensures memory { IfOk result (λ left. left.status ≢ ExitStatus.NoMemory) }
     ensures threads { result ≡ Err LineError.NeedsThreads
         → IfSome (command_of (map string_bytes words.now)) RunsThreads }
+    ensures text { result ≢ Err LineError.NotText }
 {
     let mut files = MemoryFiles::new(alloc, named, Vec::new(alloc))?;
     let mut out = MemorySink::new(alloc, usize::MAX, Vec::new(alloc));
@@ -112,17 +114,26 @@ fn carry_out<'a, F: Files, O: Sink>(
 }
 
 /// What came of a line that ended so, and wrote what this output has taken.
+///
+/// # Errors
+///
+/// Out of memory, also where the line ended so.
 fn outcome_of(alloc: Global, out: &MemorySink, ending: &Ending<'_>) -> Result<Outcome, LineError>
     ensures status { IfOk result (λ left. left.status ≡ status_of (end_of ending.now)) }
     ensures output { IfOk result (λ left. left.output.items ≡ out.now.bytes) }
     ensures message { IfOk result (λ left. string_bytes left.message ≡ message_of (end_of ending.now)) }
+    ensures memory { IfOk result (λ left. left.status ≢ ExitStatus.NoMemory) }
     ensures error { IfErr result (λ error. error ≡ LineError.OutOfMemory) }
 {
+    let status = status_of(ending);
+    if status == ExitStatus::NoMemory {
+        return Err(LineError::OutOfMemory);
+    }
     let Ok(message) = message_of(alloc, ending) else {
         return Err(LineError::OutOfMemory);
     };
     Ok(Outcome {
-        status: status_of(ending),
+        status,
         output: Vec::from_slice(alloc, out.bytes())?,
         message,
     })
