@@ -201,7 +201,8 @@ impl RangeMap {
 
 /// A segment for each range of the pages after the changes.
 fn segments_after(segments: &[Segment], changes: &[Change]) -> ArrayVec<Segment, 64>
-    requires { ranges MOST_PAGES (spec.state_after changes.now segments.now) ≤ MOST_RANGES }
+    requires canonical { IsCanonical segments.now }
+    requires few { ranges MOST_PAGES (spec.state_after changes.now segments.now) ≤ MOST_RANGES }
     ensures canonical { IsCanonical result.items }
     ensures states { (p : ℕ) → p < MOST_PAGES
         → spec.state_at result.items p ≡ spec.state_after changes.now segments.now p }

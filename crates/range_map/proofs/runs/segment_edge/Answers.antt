@@ -1,28 +1,37 @@
-use Rattle.std.proofs.Common.{◌≡◌, arith, subst, true}
-use Rattle.std.specs.Prelude.{All}
-use Rattle.std.proofs.lemmas.List.{take_all}
-use Rattle.lwc_base.specs.declared.limits.TheConstants.{MOST_PAGES}
-use Rattle.range_map.specs.Kinds.{is_edge}
-use Rattle.range_map.proofs.Alike.{HasNoEdge, edge_more, no_edge_more, segments_alike}
+use Rattle.std.proofs.Common.{ap, arith, sym, ◌∙◌}
+use Rattle.range_map.specs.declared.segment.Segment.{Segment}
+use Rattle.range_map.proofs.Built.{segments_inside}
+use Rattle.range_map.proofs.Edges.{none}
+use Rattle.range_map.proofs.Halved.{absent_after, absent_before, state_within}
 use Rattle.range_map.proofs.runs.segment_edge.Goals as goal
 
-pub loop-segment-preserved : goal.loop-segment-preserved
-loop-segment-preserved c =
-    let next = c.sooner_edge-edge.ensures in
-    let inv = c.loop-segment.invariant in
-    record {
-      past = next.past;
-      within = omega (arith, next.within, inv.within);
-      none = no_edge_more (λ s. s.from) (λ s. s.to) c.args.p c.loop-segment.edge c.sooner_edge-edge.result c.loop-segment.segment-index c.args.segments.now _
-          c.loop-segment-test.true next.within next.alike inv.none;
-      edge = edge_more (λ s. s.from) (λ s. s.to) c.args.segments.now c.loop-segment.segment-index _ c.loop-segment.edge c.sooner_edge-edge.result MOST_PAGES c.loop-segment-test.true inv.edge next.within next.one;
-    }
+pub returns-in-Some-clause-within : goal.returns-in-Some-clause-within
+returns-in-Some-clause-within c =
+    let at = c.in-Some.ensures.lookup.3 in
+    let here = segments_inside _ c.requires.canonical _ none at.0 in
+    let is = ap (λ (s : Segment). s.from) (at.1 none) in
+    omega (arith, here.some, here.inside, is)
 
-pub returns-clause-alike : goal.returns-clause-alike
-returns-clause-alike c q low high =
-    segments_alike c.args.segments.now c.args.p c.loop-segment.edge q
-    (subst (All (λ s. HasNoEdge c.args.p c.loop-segment.edge s.from s.to)) (take_all c.loop-segment.segment-index c.args.segments.now c.loop-segment-test.false) c.loop-segment.invariant.none) low high
+pub returns-in-Some-clause-alike : goal.returns-in-Some-clause-alike
+returns-in-Some-clause-alike c q low high =
+    let at = c.in-Some.ensures.lookup.3 in
+    let absent = absent_before _ c.requires.canonical _ _ c.ended_by.ensures.before _ at.0 (at.1 none) in
+    absent q low high ∙ sym (absent c.args.p (omega arith) c.if-p-segment.true)
 
-pub returns-clause-edge : goal.returns-clause-edge
-returns-clause-edge c early =
-    subst (λ ss. is_edge ss c.loop-segment.edge ≡ true) (take_all c.loop-segment.segment-index c.args.segments.now c.loop-segment-test.false) (c.loop-segment.invariant.edge early)
+pub returns-in-Some-2-clause-within : goal.returns-in-Some-2-clause-within
+returns-in-Some-2-clause-within c =
+    let at = c.in-Some.ensures.lookup.3 in
+    let here = segments_inside _ c.requires.canonical _ none at.0 in
+    let is = ap (λ (s : Segment). s.to) (at.1 none) in
+    omega (arith, here.inside, is)
+
+pub returns-in-Some-2-clause-alike : goal.returns-in-Some-2-clause-alike
+returns-in-Some-2-clause-alike c q low high =
+    let at = c.in-Some.ensures.lookup.3 in
+    let own = state_within _ c.requires.canonical _ _ c.ended_by.ensures.before _ at.0 (at.1 none) in
+    own q (omega (arith, low, c.if-p-segment.false)) high ∙ sym (own c.args.p c.if-p-segment.false (omega (arith, low, high)))
+
+pub returns-in-None-clause-alike : goal.returns-in-None-clause-alike
+returns-in-None-clause-alike c q low high =
+    let absent = absent_after _ c.requires.canonical _ _ c.ended_by.ensures.before in
+    absent q c.in-None.ensures.lookup.3 low ∙ sym (absent c.args.p c.in-None.ensures.lookup.3 (omega arith))
