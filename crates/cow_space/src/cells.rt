@@ -40,7 +40,7 @@ impl PageCells {
     ghost use Rattle.lwc_base.specs.declared.page.TheConstants.{PAGE_BYTES};
     ghost use Rattle.page_tree.specs.declared.store.TheConstants.{TREE_NODES};
     ghost use Rattle.cow_space.specs.declared.rows.TheConstants.{FREE_NODES};
-    ghost use Rattle.range_map.specs.Kinds.{IsSegment, ranges, state_at};
+    ghost use Rattle.range_map.specs.Kinds.{IsCanonical, IsSegment, ranges, state_at};
     ghost use Rattle.cow_space.specs.Maps.{data_of};
     ghost use Rattle.cow_space.specs.Cells.{
       IsOwnPage,
@@ -137,6 +137,7 @@ impl PageCells {
             ≡ ranges MOST_PAGES (states_of (place_of (cells self.now) i) (rights_of (rights self.now) i)) }
         ensures few { length result.now ≤ MOST_RANGES }
         ensures each { All IsSegment result.now }
+        ensures canonical { IsCanonical result.now }
     {
         self.kinds[i].segments()
     }

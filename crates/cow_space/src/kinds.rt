@@ -1,4 +1,4 @@
-ghost use Rattle.std.specs.Prelude.{◌≡◌, ◌<◌, ◌≤◌, if◌then◌else◌, ℕ, true, false, [], None, All, length};
+ghost use Rattle.std.specs.Prelude.{◌≡◌, ◌<◌, ◌≤◌, ◌⊎◌, if◌then◌else◌, ℕ, true, false, [], None, All, length};
 ghost use Rattle.std.specs.Prelude.{unwrap_or};
 ghost use Rattle.std.specs.Option.{option_copied};
 ghost use Rattle.lwc_base.specs.declared.limits.TheConstants.{MOST_PAGES, MOST_RANGES};
@@ -53,6 +53,7 @@ fn range_edge(ranges: &[Range], p: PageNumber, edge: PageNumber) -> PageNumber
     ensures within { result ≤ edge }
     ensures alike { (q : ℕ) → p ≤ q → q < result
         → spec.have_page ranges.now q ≡ spec.have_page ranges.now p }
+    ensures edge { result < edge → spec.is_range_edge ranges.now result ≡ true }
 {
     let mut next = edge;
     for range in ranges {
@@ -117,6 +118,7 @@ impl PageCells {
             (if read then Read
             else unwrap_or page_run.now.right (origin_right (rights self.now) page_run.now.origin q))
             ≡ given result }
+        ensures edge { result.to < edge → spec.TurnsAt (cells self.now) (rights self.now) p result.to }
     {
         let right = self.right_given(page_run, read, p);
         let (kind, to) = match page_run.origin {
@@ -146,6 +148,7 @@ impl PageCells {
             → state_of (kind_of (place_of (cells self.now) i q))
             (if read then Read else rights_of (rights self.now) i q)
             ≡ given result }
+        ensures edge { result.to < edge → spec.TurnsAt (cells self.now) (rights self.now) p result.to }
     {
         let right = if read { Right::Read } else { self.right(i, p) };
         Change {
@@ -157,7 +160,8 @@ impl PageCells {
     }
 
     /// The kind and the right that a page of a place, and all up to a later one, have after page runs and
-    /// ranges that may only be read.
+    /// ranges that may only be read. The later one is where a page run or a range begins or ends, or where the
+    /// state of the place, or of the one that is copied, changes.
     pub(crate) fn piece_at(
         &self,
         i: usize,
@@ -173,6 +177,9 @@ impl PageCells {
         ensures within { result.to ≤ MOST_PAGES }
         ensures state { (q : ℕ) → p ≤ q → q < result.to
             → changed_states (cells self.now) (rights self.now) i page_runs.now reads.now q ≡ given result }
+        ensures edge { result.to < MOST_PAGES → (is_edge page_runs.now result.to ≡ true)
+            ⊎ ((spec.is_range_edge reads.now result.to ≡ true)
+            ⊎ spec.TurnsAt (cells self.now) (rights self.now) p result.to) }
     {
         let edge = range_edge(reads, p, page_run_edge(page_runs, p));
         let read = have_page(reads, p);

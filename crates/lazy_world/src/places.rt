@@ -55,7 +55,7 @@ impl Places {
     ghost use Rattle.lwc_base.specs.Keys.{with_key};
     ghost use Rattle.lwc_base.specs.declared.cell.Cell.{Cell};
     ghost use Rattle.cow_space.specs.Maps.{data_of};
-    ghost use Rattle.range_map.specs.Kinds.{IsSegment, kind_of, ranges, state_at};
+    ghost use Rattle.range_map.specs.Kinds.{IsCanonical, IsSegment, kind_of, ranges, state_at};
     ghost use Rattle.cow_space.specs.Cells.{all_write};
     ghost use Rattle.lwc_base.specs.Capabilities.{has_bit};
     ghost use Rattle.fd_table.specs.declared.slots.TheConstants.{NUMBERS};
@@ -132,6 +132,7 @@ impl Places {
             ≡ ranges MOST_PAGES (states_of (rows self.now i) (rights self.now i)) }
         ensures few { length result.now ≤ MOST_RANGES }
         ensures each { All IsSegment result.now }
+        ensures canonical { IsCanonical result.now }
     {
         self.pages.segments(i)
     }
