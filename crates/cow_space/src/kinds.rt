@@ -1,6 +1,6 @@
 ghost use Rattle.std.specs.Prelude.{◌≡◌, ◌<◌, ◌≤◌, ◌⊎◌, if◌then◌else◌, ℕ, true, false, [], None, All, length};
 ghost use Rattle.std.specs.Prelude.{unwrap_or};
-ghost use Rattle.std.specs.Option.{option_copied};
+ghost use Rattle.std.specs.Option.{option_copied, option_map};
 ghost use Rattle.lwc_base.specs.declared.limits.TheConstants.{MOST_PAGES, MOST_RANGES};
 ghost use Rattle.lwc_base.specs.declared.right.Right.TheVariants.{Read};
 ghost use Rattle.range_map.specs.Kinds.{given, kind_of, ranges, state_at, state_of};
@@ -14,7 +14,7 @@ ghost use Rattle.cow_space.specs.Seen.{cells, rights};
 use crate::cells::PageCells;
 use crate::page_runs::{Origin, PageRun};
 use lwc_base::{MOST_PAGES, PageNumber, Range, Right};
-use range_map::{Change, RangeMap, Segment, SegmentKind, sooner_edge};
+use range_map::{Change, PageState, RangeMap, Segment, SegmentKind, sooner_edge};
 
 /// The first page run that has a page.
 pub(crate) fn page_run_at(page_runs: &[PageRun], p: PageNumber) -> Option<&PageRun>
@@ -37,6 +37,13 @@ pub(crate) fn page_run_edge(page_runs: &[PageRun], p: PageNumber) -> PageNumber
         edge = sooner_edge(page_run.range.from, page_run.range.to, p, edge);
     }
     edge
+}
+
+/// The kind in a state; `None` where there is no state.
+fn kind_of(state: Option<PageState>) -> Option<SegmentKind>
+    ensures { result ≡ option_map (λ s. s.kind) state }
+{
+    state.map(|state| state.kind)
 }
 
 /// Whether ranges have a page.
@@ -125,7 +132,10 @@ impl PageCells {
             Origin::Absent => (None, edge),
             Origin::Zeros => (Some(SegmentKind::Own), edge),
             Origin::Common(g) => (Some(SegmentKind::Common(g)), edge),
-            Origin::CopyOf(j) => (self.kind(j, p), self.next_edge(j, p).min(edge)),
+            Origin::CopyOf(j) => {
+                let (state, end) = self.run_at(j, p);
+                (kind_of(state), end.min(edge))
+            }
         };
         Change {
             from: p,
@@ -150,11 +160,15 @@ impl PageCells {
             ≡ given result }
         ensures edge { result.to < edge → spec.TurnsAt (cells self.now) (rights self.now) p result.to }
     {
-        let right = if read { Right::Read } else { self.right(i, p) };
+        let (state, end) = self.run_at(i, p);
+        let right = match state {
+            Some(state) if !read => state.right,
+            _ => Right::Read,
+        };
         Change {
             from: p,
-            to: self.next_edge(i, p).min(edge),
-            kind: self.kind(i, p),
+            to: end.min(edge),
+            kind: kind_of(state),
             right,
         }
     }

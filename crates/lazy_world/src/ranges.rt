@@ -145,8 +145,8 @@ impl PlacedWorld {
         ensures few { ranges MOST_PAGES (states_of (rows self.now.places i) (rights self.now.places i))
             ≤ MOST_RANGES }
     {
-        let found = self.found_state(self.places.state(i, p));
-        (found, self.places.next_edge(i, p))
+        let (state, edge) = self.places.run_at(i, p);
+        (self.found_state(state), edge)
     }
 
     /// The page run by a transfer of a page and of all up to a later one, where a range or an item begins or

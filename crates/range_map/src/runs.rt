@@ -94,27 +94,29 @@ fn next_edge(segments: &[Segment], changes: &[Change], p: PageNumber) -> PageNum
     ensures edge { result < MOST_PAGES → (is_edge segments.now result
         || list_any (λ c. (c.from == result) || (c.to == result)) changes.now) ≡ true }
 {
-    let mut edge = segment_edge(segments, p);
+    let mut edge = run_at(segments, p).1;
     for change in changes {
         edge = sooner_edge(change.from, change.to, p, edge);
     }
     edge
 }
 
-/// Where the first segment after a page begins or ends, or the end of all pages. It is searched by halving.
-pub(crate) fn segment_edge(segments: &[Segment], p: PageNumber) -> PageNumber
+/// The state of a page, and where the first segment after it begins or ends, or the end of all pages. The segment
+/// is searched by halving.
+pub(crate) fn run_at(segments: &[Segment], p: PageNumber) -> (Option<PageState>, PageNumber)
     requires canonical { IsCanonical segments.now }
     requires page { p < MOST_PAGES }
-    ensures past { p < result }
-    ensures within { result ≤ MOST_PAGES }
-    ensures alike { (q : ℕ) → p ≤ q → q < result
+    ensures state { result.0 ≡ spec.state_at segments.now p }
+    ensures past { p < result.1 }
+    ensures within { result.1 ≤ MOST_PAGES }
+    ensures alike { (q : ℕ) → p ≤ q → q < result.1
         → spec.state_at segments.now q ≡ spec.state_at segments.now p }
-    ensures edge { result < MOST_PAGES → is_edge segments.now result ≡ true }
+    ensures edge { result.1 < MOST_PAGES → is_edge segments.now result.1 ≡ true }
 {
     match segments.get(ended_by(segments, p)) {
-        Some(segment) if p < segment.from => segment.from,
-        Some(segment) => segment.to,
-        None => MOST_PAGES,
+        Some(segment) if p < segment.from => (None, segment.from),
+        Some(segment) => (Some(segment.state()), segment.to),
+        None => (None, MOST_PAGES),
     }
 }
 
