@@ -1,6 +1,7 @@
 -- Segments with and without pages that are common.
-use Rattle.std.proofs.Common.{◌≡◌, ℕ, get_or, ◌<◌, ◌≤◌, true, false, List, absurd, ap, arith, length, refl, subst, sym, ◌∙◌, Option, None, Some}
+use Rattle.std.proofs.Common.{◌≡◌, ℕ, get_or, true, false, List, ap, arith, refl, sym, ◌∙◌, Option, None, Some}
 use Rattle.std.specs.List.{list_any}
+use Rattle.std.specs.Option.{option_map}
 use Rattle.std.proofs.lemmas.List.Folds.{Any-from_list_any, list_any_at}
 use Rattle.lwc_base.specs.declared.cell.Cell.{Cell}
 use Rattle.lwc_base.specs.declared.cell.Cell.TheVariants.{Own, Common}
@@ -33,9 +34,9 @@ module _ (segments : List Segment) (canonical : IsCanonical segments) where
       let s = get_or segments any.0 any.1 in
       let long = canonical.some any.0 any.1 any.2 in
       let here = own segments canonical any.1 any.0 s.from any.2 (omega arith) long in
-      (s.from, by (cells s.from) (rights s.from) (sym (same s.from) ∙ here) (ap (λ (t : Segment). is_common t.kind) any.3 ∙ any.4))
+      (s.from, by (cells s.from) (rights s.from) s (sym (same s.from) ∙ here) (ap (λ (t : Segment). is_common t.kind) any.3 ∙ any.4))
     where
-      by : (cell : Cell (Option PageValue)) (right : Right) {s : Segment} → state_of (kind_of cell) right ≡ Some (state_in s) → is_common s.kind ≡ true → is_own cell ≡ false
-      by (Own None) right is common = absurd cc
-      by (Own (Some value)) right is common = absurd cc
-      by (Common g) right is common = refl
+      by : (cell : Cell (Option PageValue)) (right : Right) (s : Segment) → state_of (kind_of cell) right ≡ Some (state_in s) → is_common s.kind ≡ true → is_own cell ≡ false
+      by (Own None) right s is common = absurd cc
+      by (Own (Some value)) right s is common = let off : Some false ≡ Some (is_common s.kind) = ap (option_map (λ (state : PageState). is_common state.kind)) is in absurd cc
+      by (Common g) right s is common = refl

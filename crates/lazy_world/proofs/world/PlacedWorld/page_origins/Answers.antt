@@ -3,7 +3,7 @@ use Rattle.std.specs.Option.{option_map}
 use Rattle.lwc_base.specs.declared.key.Key.TheVariants.{Page}
 use Rattle.cow_space.specs.Changes.{have_page}
 use Rattle.lazy_world.specs.Transfers.{given_or}
-use Rattle.lazy_world.specs.Seen.{count, rights, rows}
+use Rattle.lazy_world.specs.Seen.{rights, rows}
 use Rattle.lazy_world.specs.Origins.{gift_at, gift_right, shown_right, with_rights}
 use Rattle.lazy_world.specs.declared.pieces.PageOrigins.TheVariants.{PageRuns}
 use Rattle.lazy_world.specs.States.{world_of}
