@@ -69,6 +69,16 @@ abbrev pub changed_states : List Place → List (ℕ → Right) → ℕ → List
 changed_states cells rights i page_runs reads =
     states_of (changed_place cells i page_runs) (changed_rights cells rights i page_runs reads)
 
+-- whether a range begins or ends at a page
+abbrev pub is_range_edge : List Range → ℕ → Bool
+is_range_edge ranges p = list_any (λ r. (r.from == p) || (r.to == p)) ranges
+
+-- in some place a page has another state than an earlier one
+abbrev pub TurnsAt : List Place → List (ℕ → Right) → ℕ → ℕ → Type 0
+TurnsAt cells rights p q =
+    (j : ℕ) × (states_of (place_of cells j) (rights_of rights j) q
+    ≢ states_of (place_of cells j) (rights_of rights j) p)
+
 -- an origin is another one of this number of places, or no place
 abbrev pub IsApart : ℕ → ℕ → Origin → Type 0
 IsApart count i Absent = Unit {0}

@@ -40,7 +40,7 @@ impl PageCells {
     ghost use Rattle.lwc_base.specs.declared.page.TheConstants.{PAGE_BYTES};
     ghost use Rattle.page_tree.specs.declared.store.TheConstants.{TREE_NODES};
     ghost use Rattle.cow_space.specs.declared.rows.TheConstants.{FREE_NODES};
-    ghost use Rattle.range_map.specs.Kinds.{IsSegment, ranges, state_at};
+    ghost use Rattle.range_map.specs.Kinds.{IsCanonical, IsSegment, ranges, state_at};
     ghost use Rattle.cow_space.specs.Maps.{data_of};
     ghost use Rattle.cow_space.specs.Cells.{
       IsOwnPage,
@@ -99,23 +99,25 @@ impl PageCells {
         self.kinds[i].state_at(p)
     }
 
-    /// The first page after one that has another kind or another right, or the end of all pages. There are
-    /// at most 64 ranges, so that a walk from edge to edge is short.
-    pub fn next_edge(&self, i: usize, p: PageNumber) -> PageNumber
+    /// The kind and the right of a page of a place, and the first page after it that has others, or the end of
+    /// all pages. There are at most 64 ranges, so that a walk from run to run is short.
+    pub fn run_at(&self, i: usize, p: PageNumber) -> (Option<PageState>, PageNumber)
         requires place { i < length (cells self.now) }
         requires page { p < MOST_PAGES }
-        ensures past { p < result }
-        ensures within { result ≤ MOST_PAGES }
-        ensures alike { (q : ℕ) → p ≤ q → q < result
+        ensures state { result.0
+            ≡ states_of (place_of (cells self.now) i) (rights_of (rights self.now) i) p }
+        ensures past { p < result.1 }
+        ensures within { result.1 ≤ MOST_PAGES }
+        ensures alike { (q : ℕ) → p ≤ q → q < result.1
             → states_of (place_of (cells self.now) i) (rights_of (rights self.now) i) q
             ≡ states_of (place_of (cells self.now) i) (rights_of (rights self.now) i) p }
-        ensures other { result < MOST_PAGES
-            → states_of (place_of (cells self.now) i) (rights_of (rights self.now) i) result
+        ensures other { result.1 < MOST_PAGES
+            → states_of (place_of (cells self.now) i) (rights_of (rights self.now) i) result.1
             ≢ states_of (place_of (cells self.now) i) (rights_of (rights self.now) i) p }
         ensures few { ranges MOST_PAGES
             (states_of (place_of (cells self.now) i) (rights_of (rights self.now) i)) ≤ MOST_RANGES }
     {
-        self.kinds[i].next_edge(p)
+        self.kinds[i].run_at(p)
     }
 
     /// The number of ranges of a place.
@@ -137,6 +139,7 @@ impl PageCells {
             ≡ ranges MOST_PAGES (states_of (place_of (cells self.now) i) (rights_of (rights self.now) i)) }
         ensures few { length result.now ≤ MOST_RANGES }
         ensures each { All IsSegment result.now }
+        ensures canonical { IsCanonical result.now }
     {
         self.kinds[i].segments()
     }

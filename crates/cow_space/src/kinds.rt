@@ -1,6 +1,6 @@
-ghost use Rattle.std.specs.Prelude.{◌≡◌, ◌<◌, ◌≤◌, if◌then◌else◌, ℕ, true, false, [], None, All, length};
+ghost use Rattle.std.specs.Prelude.{◌≡◌, ◌<◌, ◌≤◌, ◌⊎◌, if◌then◌else◌, ℕ, true, false, [], None, All, length};
 ghost use Rattle.std.specs.Prelude.{unwrap_or};
-ghost use Rattle.std.specs.Option.{option_copied};
+ghost use Rattle.std.specs.Option.{option_copied, option_map};
 ghost use Rattle.lwc_base.specs.declared.limits.TheConstants.{MOST_PAGES, MOST_RANGES};
 ghost use Rattle.lwc_base.specs.declared.right.Right.TheVariants.{Read};
 ghost use Rattle.range_map.specs.Kinds.{given, kind_of, ranges, state_at, state_of};
@@ -14,7 +14,7 @@ ghost use Rattle.cow_space.specs.Seen.{cells, rights};
 use crate::cells::PageCells;
 use crate::page_runs::{Origin, PageRun};
 use lwc_base::{MOST_PAGES, PageNumber, Range, Right};
-use range_map::{Change, RangeMap, Segment, SegmentKind, sooner_edge};
+use range_map::{Change, PageState, RangeMap, Segment, SegmentKind, sooner_edge};
 
 /// The first page run that has a page.
 pub(crate) fn page_run_at(page_runs: &[PageRun], p: PageNumber) -> Option<&PageRun>
@@ -39,6 +39,13 @@ pub(crate) fn page_run_edge(page_runs: &[PageRun], p: PageNumber) -> PageNumber
     edge
 }
 
+/// The kind in a state; `None` where there is no state.
+fn kind_of(state: Option<PageState>) -> Option<SegmentKind>
+    ensures { result ≡ option_map (λ s. s.kind) state }
+{
+    state.map(|state| state.kind)
+}
+
 /// Whether ranges have a page.
 fn have_page(ranges: &[Range], p: PageNumber) -> bool
     ensures { result ≡ spec.have_page ranges.now p }
@@ -53,6 +60,7 @@ fn range_edge(ranges: &[Range], p: PageNumber, edge: PageNumber) -> PageNumber
     ensures within { result ≤ edge }
     ensures alike { (q : ℕ) → p ≤ q → q < result
         → spec.have_page ranges.now q ≡ spec.have_page ranges.now p }
+    ensures edge { result < edge → spec.is_range_edge ranges.now result ≡ true }
 {
     let mut next = edge;
     for range in ranges {
@@ -117,13 +125,17 @@ impl PageCells {
             (if read then Read
             else unwrap_or page_run.now.right (origin_right (rights self.now) page_run.now.origin q))
             ≡ given result }
+        ensures edge { result.to < edge → spec.TurnsAt (cells self.now) (rights self.now) p result.to }
     {
         let right = self.right_given(page_run, read, p);
         let (kind, to) = match page_run.origin {
             Origin::Absent => (None, edge),
             Origin::Zeros => (Some(SegmentKind::Own), edge),
             Origin::Common(g) => (Some(SegmentKind::Common(g)), edge),
-            Origin::CopyOf(j) => (self.kind(j, p), self.next_edge(j, p).min(edge)),
+            Origin::CopyOf(j) => {
+                let (state, end) = self.run_at(j, p);
+                (kind_of(state), end.min(edge))
+            }
         };
         Change {
             from: p,
@@ -146,18 +158,24 @@ impl PageCells {
             → state_of (kind_of (place_of (cells self.now) i q))
             (if read then Read else rights_of (rights self.now) i q)
             ≡ given result }
+        ensures edge { result.to < edge → spec.TurnsAt (cells self.now) (rights self.now) p result.to }
     {
-        let right = if read { Right::Read } else { self.right(i, p) };
+        let (state, end) = self.run_at(i, p);
+        let right = match state {
+            Some(state) if !read => state.right,
+            _ => Right::Read,
+        };
         Change {
             from: p,
-            to: self.next_edge(i, p).min(edge),
-            kind: self.kind(i, p),
+            to: end.min(edge),
+            kind: kind_of(state),
             right,
         }
     }
 
     /// The kind and the right that a page of a place, and all up to a later one, have after page runs and
-    /// ranges that may only be read.
+    /// ranges that may only be read. The later one is where a page run or a range begins or ends, or where the
+    /// state of the place, or of the one that is copied, changes.
     pub(crate) fn piece_at(
         &self,
         i: usize,
@@ -173,6 +191,9 @@ impl PageCells {
         ensures within { result.to ≤ MOST_PAGES }
         ensures state { (q : ℕ) → p ≤ q → q < result.to
             → changed_states (cells self.now) (rights self.now) i page_runs.now reads.now q ≡ given result }
+        ensures edge { result.to < MOST_PAGES → (is_edge page_runs.now result.to ≡ true)
+            ⊎ ((spec.is_range_edge reads.now result.to ≡ true)
+            ⊎ spec.TurnsAt (cells self.now) (rights self.now) p result.to) }
     {
         let edge = range_edge(reads, p, page_run_edge(page_runs, p));
         let read = have_page(reads, p);

@@ -5,6 +5,7 @@ mod CachedRootLemmas
 mod ClearLemmas
 mod CloneLemmas
 mod CloneOrigins
+mod CommonPages
 mod CopyLemmas
 mod CostLemmas
 mod CountLemmas

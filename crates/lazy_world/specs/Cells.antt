@@ -14,6 +14,8 @@ use Rattle.lwc_base.specs.declared.right.Right.{Right}
 use Rattle.lwc_base.specs.Ranges.{is_page}
 use Rattle.range_map.specs.Kinds.{kind_of, state_of}
 use Rattle.range_map.specs.declared.segment.PageState.{PageState}
+use Rattle.range_map.specs.declared.segment.SegmentKind.{SegmentKind}
+use Rattle.range_map.specs.declared.segment.SegmentKind.TheVariants as kinds
 use Rattle.fd_table.specs.Slots as slots
 use Rattle.cow_space.specs.declared.page_runs.Origin.{Origin}
 use Rattle.cow_space.specs.declared.page_runs.Origin.TheVariants.{Absent, Zeros}
@@ -66,6 +68,11 @@ HasNoPages row = (p : ℕ) → row (Page p) ≡ Own None
 abbrev pub is_own : {T : Type 0} → Cell T → Bool
 is_own (Own value) = true
 is_own (Common g) = false
+
+-- whether pages of a kind are common
+abbrev pub is_common : SegmentKind → Bool
+is_common kinds.Own = false
+is_common (kinds.Common g) = true
 
 -- each page of a row is the place's own
 abbrev pub HasOwnPages : Row → Type 0

@@ -1,4 +1,5 @@
 ghost use Rattle.std.specs.Prelude.{◌≡◌, ◌≢◌, ◌<◌, ◌≤◌, ◌+◌, ℕ, false, min, true};
+ghost use Rattle.std.specs.List.{list_any};
 ghost use Rattle.lwc_base.specs.declared.cell.Cell.TheVariants.{Own};
 ghost use Rattle.lwc_base.specs.declared.descriptor.Descriptor.TheVariants.{Empty};
 ghost use Rattle.lwc_base.specs.declared.descriptor.TheConstants.{SLOTS};
@@ -7,7 +8,7 @@ ghost use Rattle.lwc_base.specs.declared.limits.TheConstants.{MOST_PAGES};
 ghost use Rattle.range_map.specs.Kinds.{ranges};
 ghost use Rattle.lwc_base.specs.declared.right.Right.{Right};
 ghost use Rattle.lazy_world.specs.Cells.{HasNoPages, HasOwnPages, Row, is_own, put_rights, put_row};
-ghost use Rattle.lazy_world.specs.Cells.{states_of};
+ghost use Rattle.lazy_world.specs.Cells.{is_common, states_of};
 ghost use Rattle.lazy_world.specs.Transfers.{transferred_rights, transferred_row};
 ghost use Rattle.lazy_world.specs.Seen.{count, frame_count, free_frames, free_nodes, pool, rights, rows};
 
@@ -15,10 +16,19 @@ use crate::places::Places;
 use crate::transfer::Transfer;
 use crate::world::PlacedWorld;
 use cow_space::Origin;
-use lwc_base::{Cell, MOST_PAGES, PageNumber, Spec};
+use lwc_base::{Cell, Spec};
 use pool_base::Steps;
-use range_map::SegmentKind;
+use range_map::{Segment, SegmentKind};
 use std::sync::ledger::Ledger;
+
+/// Whether a segment is of pages that are common.
+fn has_common(segments: &[Segment]) -> bool
+    ensures { result ≡ list_any (λ s. is_common s.kind) segments.now }
+{
+    segments
+        .iter()
+        .any(|segment| matches!(segment.kind, SegmentKind::Common(_)))
+}
 
 impl Places {
     /// Gives a place without slots all that another one has, by holds alone. Where it has no pages either,
@@ -67,14 +77,7 @@ impl Places {
         ensures own { result ≡ true → (p : ℕ) → p < MOST_PAGES → is_own (rows self.now i (Page p)) ≡ true }
         ensures all { HasOwnPages (rows self.now i) → result ≡ true }
     {
-        let mut p: PageNumber = 0;
-        'pages: while p < MOST_PAGES {
-            if let Some(SegmentKind::Common(_)) = self.kind(i, p) {
-                return false;
-            }
-            p = self.next_edge(i, p);
-        }
-        true
+        !has_common(self.segments(i))
     }
 
     /// Whether the credential of a place is its own.

@@ -118,7 +118,7 @@ impl PlacedWorld {
         let mut p: PageNumber = 0;
         'runs: while p < pages {
             self.mark_group(self.places.page_group(i, p), marks);
-            p = self.places.next_edge(i, p).min(pages);
+            p = self.places.run_at(i, p).1.min(pages);
         }
     }
 

@@ -55,7 +55,7 @@ impl Places {
     ghost use Rattle.lwc_base.specs.Keys.{with_key};
     ghost use Rattle.lwc_base.specs.declared.cell.Cell.{Cell};
     ghost use Rattle.cow_space.specs.Maps.{data_of};
-    ghost use Rattle.range_map.specs.Kinds.{IsSegment, kind_of, ranges, state_at};
+    ghost use Rattle.range_map.specs.Kinds.{IsCanonical, IsSegment, kind_of, ranges, state_at};
     ghost use Rattle.cow_space.specs.Cells.{all_write};
     ghost use Rattle.lwc_base.specs.Capabilities.{has_bit};
     ghost use Rattle.fd_table.specs.declared.slots.TheConstants.{NUMBERS};
@@ -106,22 +106,23 @@ impl Places {
         self.pages.state(i, p)
     }
 
-    /// The first page of a place after one that has another kind or another right, or the end of all pages.
-    /// There are at most 64 ranges, so that a walk from edge to edge is short.
-    pub fn next_edge(&self, i: usize, p: PageNumber) -> PageNumber
+    /// The kind and the right of a page of a place, and the first page after it that has others, or the end of
+    /// all pages. There are at most 64 ranges, so that a walk from run to run is short.
+    pub fn run_at(&self, i: usize, p: PageNumber) -> (Option<PageState>, PageNumber)
         requires place { i < count self.now }
         requires page { p < MOST_PAGES }
-        ensures past { p < result }
-        ensures within { result ≤ MOST_PAGES }
-        ensures alike { (q : ℕ) → p ≤ q → q < result
+        ensures state { result.0 ≡ states_of (rows self.now i) (rights self.now i) p }
+        ensures past { p < result.1 }
+        ensures within { result.1 ≤ MOST_PAGES }
+        ensures alike { (q : ℕ) → p ≤ q → q < result.1
             → states_of (rows self.now i) (rights self.now i) q
             ≡ states_of (rows self.now i) (rights self.now i) p }
-        ensures other { result < MOST_PAGES
-            → states_of (rows self.now i) (rights self.now i) result
+        ensures other { result.1 < MOST_PAGES
+            → states_of (rows self.now i) (rights self.now i) result.1
             ≢ states_of (rows self.now i) (rights self.now i) p }
         ensures few { ranges MOST_PAGES (states_of (rows self.now i) (rights self.now i)) ≤ MOST_RANGES }
     {
-        self.pages.next_edge(i, p)
+        self.pages.run_at(i, p)
     }
 
     /// The segments of a place, one for each range.
@@ -132,6 +133,7 @@ impl Places {
             ≡ ranges MOST_PAGES (states_of (rows self.now i) (rights self.now i)) }
         ensures few { length result.now ≤ MOST_RANGES }
         ensures each { All IsSegment result.now }
+        ensures canonical { IsCanonical result.now }
     {
         self.pages.segments(i)
     }

@@ -85,7 +85,8 @@ impl PlacedWorld {
     ghost use Rattle.lazy_world.specs.Cells.{states_of};
     ghost use Rattle.lazy_world.specs.Transfers.{CanGet, Gives, IsFor, IsFound, given_or, reads};
     ghost use Rattle.lazy_world.specs.Seen.{count, rights, rows};
-    ghost use Rattle.lazy_world.specs.Origins.{AreGiven, gift_at, gift_of, gift_right, origin_at, origin_row};
+    ghost use Rattle.lazy_world.specs.Origins.{AreGiven, ArePagesGiven, gift_at, gift_of, gift_right, origin_at};
+    ghost use Rattle.lazy_world.specs.Origins.{origin_row, page_origin};
     ghost use Rattle.lazy_world.specs.Origins.{any_nodes, any_steps, shown_right, slot_origin, with_rights};
     ghost use Rattle.lazy_world.specs.Clones.{change_nodes, change_steps};
     ghost use Rattle.lazy_world.specs.Worlds.{parts, right_transferred, transferred, seen};
@@ -144,8 +145,8 @@ impl PlacedWorld {
         ensures few { ranges MOST_PAGES (states_of (rows self.now.places i) (rights self.now.places i))
             ≤ MOST_RANGES }
     {
-        let found = self.found_state(self.places.state(i, p));
-        (found, self.places.next_edge(i, p))
+        let (state, edge) = self.places.run_at(i, p);
+        (self.found_state(state), edge)
     }
 
     /// The page run by a transfer of a page and of all up to a later one, where a range or an item begins or
@@ -305,6 +306,37 @@ impl PlacedWorld {
         transfer.origin(mode_of(spec, Key::Cred), found, from, to)
     }
 
+    /// Where the place `to` gets its pages and their rights by a transfer from what the place `from` has.
+    pub(crate) fn page_origins(
+        &self,
+        transfer: Transfer,
+        spec: &Spec,
+        from: usize,
+        to: usize,
+    ) -> PageOrigins
+        requires from { from < count self.now.places }
+        requires transfer { IsFor (parts self.now).size.contexts from to transfer }
+        requires within { IsSpec (seen self.now).size.pages spec.now }
+        ensures gives { (q : ℕ) → q < MOST_PAGES
+            → given_or (rows self.now.places) (Page q) (rows self.now.places to (Page q))
+            (page_origin result q) ≡ transferred self.now transfer spec.now from to (Page q) }
+        ensures past { (q : ℕ) → MOST_PAGES ≤ q → page_origin result q ≡ None }
+        ensures rights { with_rights (rows self.now.places) (rights self.now.places) to result
+            ≡ right_transferred self.now transfer spec.now from to }
+        ensures given { ArePagesGiven (count self.now.places) to result }
+        ensures nodes { any_nodes result ≤ change_nodes
+            (ranges MOST_PAGES (states_of (rows self.now.places from) (rights self.now.places from))
+            + length spec.now) }
+        ensures steps { any_steps result ≤ change_steps
+            (ranges MOST_PAGES (states_of (rows self.now.places from) (rights self.now.places from))
+            + length spec.now) }
+    {
+        PageOrigins::PageRuns(
+            self.runs_of_pages(transfer, spec, from, to),
+            transfer.reads(spec),
+        )
+    }
+
     /// Where the place `to` gets its cells and rights by a transfer from what the place `from` has.
     pub(crate) fn origins(&self, transfer: Transfer, spec: &Spec, from: usize, to: usize) -> Origins
         requires from { from < count self.now.places }
@@ -323,10 +355,7 @@ impl PlacedWorld {
             + length spec.now) }
     {
         Origins {
-            pages: PageOrigins::PageRuns(
-                self.runs_of_pages(transfer, spec, from, to),
-                transfer.reads(spec),
-            ),
+            pages: self.page_origins(transfer, spec, from, to),
             slots: self.slot_origins(transfer, spec, from, to),
             uid: self.uid_origin(transfer, spec, from, to),
         }

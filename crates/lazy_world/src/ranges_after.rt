@@ -90,8 +90,8 @@ impl PlacedWorld {
             (states_of (transferred self.now transfer spec.now from to)
             (right_transferred self.now transfer spec.now from to)) }
     {
-        let origins = self.origins(transfer, spec, from, to);
-        self.places.count_with(to, &origins.pages)
+        let pages = self.page_origins(transfer, spec, from, to);
+        self.places.count_with(to, &pages)
     }
 
     /// The number of ranges of a context once it got the cells that a transfer gives it of another one.

@@ -1,13 +1,12 @@
 -- The pages of a run have one state.
-use Rattle.std.proofs.Common.{◌≡◌, ℕ, suc, ◌+◌, get_or, length, take, ◌<◌, ◌≤◌, Bool, List, [], ◌∷◌, ◌&&◌, arith, cond, leb, ltb, refl, subst, sym, ◌∙◌, ⊎_elim, ◌⊎◌, ◌||◌, ap, true, Some}
+use Rattle.std.proofs.Common.{◌≡◌, ℕ, suc, ◌+◌, get_or, length, take, ◌<◌, ◌≤◌, Bool, List, [], ◌∷◌, ◌&&◌, arith, cond, leb, ltb, refl, subst, sym, ◌∙◌, ⊎_elim, ◌⊎◌, ◌||◌, ap, true, false, Some}
 use Rattle.std.specs.Prelude.{All, ◌==◌}
 use Rattle.std.specs.List.{find, list_any}
 use Rattle.std.proofs.lemmas.Bool.{cases_lt, lt-ltb, le-ltb, le-leb, lt-leb}
 use Rattle.std.proofs.Math.Bool.{or-true}
 use Rattle.std.proofs.lemmas.Bool.Decides.{nat_tests}
-use Rattle.std.proofs.lemmas.List.{take_more}
 use Rattle.std.proofs.lemmas.List.Elements.{All-more}
-use Rattle.std.proofs.lemmas.List.Folds.{list_any-append}
+use Rattle.std.proofs.lemmas.List.Folds.{list_any_more}
 use Rattle.range_map.specs.Kinds.{is_between, state_at, state_after}
 use Rattle.range_map.specs.declared.segment.Change.{Change}
 use Rattle.range_map.specs.declared.segment.Segment.{Segment}
@@ -72,17 +71,27 @@ run_alike changes segments p edge q same clear low high =
     let of_changes = find_alike (λ c. c.from) (λ c. c.to) p edge q changes clear low high in
     rw (same, of_changes) refl
 
--- a nearer edge than the one before is one of a further element
-pub edge_more : {X : Type 0} (from to : X → ℕ) (xs : List X) (i : ℕ) (d : X) (edge next end : ℕ) → i < length xs →
-    (edge < end → list_any (λ x. (from x == edge) || (to x == edge)) (take i xs) ≡ true) → next ≤ edge →
-    (next < edge → (next ≡ from (get_or xs i d)) ⊎ (next ≡ to (get_or xs i d))) → next < end → list_any (λ x. (from x == next) || (to x == next)) (take (i + 1) xs) ≡ true
-edge_more from to xs i d edge next end inside before nearer one early =
-    ap (list_any (λ x. (from x == next) || (to x == next))) (take_more xs i d inside)
-    ∙ list_any-append (λ x. (from x == next) || (to x == next)) (take i xs) (get_or xs i d ∷ [])
+-- what settled an answer settles it with a further test
+or_more : (a b more : Bool) → (a || b) ≡ true → (a || (b || more)) ≡ true
+or_more true b more is = refl
+or_more false true more is = refl
+or_more false false more is = absurd cc
+
+-- an edge elsewhere or of an element; a nearer one than the one before is of a further element
+pub edge_more : {X : Type 0} (from to : X → ℕ) (elsewhere : ℕ → Bool) (xs : List X) (i : ℕ) (d : X) (edge next end : ℕ) → i < length xs →
+    (edge < end → (elsewhere edge || list_any (λ x. (from x == edge) || (to x == edge)) (take i xs)) ≡ true) → next ≤ edge →
+    (next < edge → (next ≡ from (get_or xs i d)) ⊎ (next ≡ to (get_or xs i d))) → next < end →
+    (elsewhere next || list_any (λ x. (from x == next) || (to x == next)) (take (i + 1) xs)) ≡ true
+edge_more {X = X} from to elsewhere xs i d edge next end inside before nearer one early =
+    ap (λ b. elsewhere next || b) (list_any_more test xs i d inside)
     ∙ ⊎_elim
-    (λ low. ap (λ b. list_any (λ x. (from x == next) || (to x == next)) (take i xs) || b) (here (one low)) ∙ or-true (list_any (λ x. (from x == next) || (to x == next)) (take i xs)))
-    (λ high. let same : edge ≡ next = omega (arith, high, nearer) in ap (λ b. b || list_any (λ x. (from x == next) || (to x == next)) (get_or xs i d ∷ [])) (subst (λ e. list_any (λ x. (from x == e) || (to x == e)) (take i xs) ≡ true) same (before (omega (arith, same, early)))))
+    (λ low. ap (λ b. elsewhere next || (list_any test (take i xs) || b)) (here (one low)) ∙ ap (λ b. elsewhere next || b) (or-true (list_any test (take i xs))) ∙ or-true (elsewhere next))
+    (λ high. let same : edge ≡ next = omega (arith, high, nearer) in
+    or_more (elsewhere next) (list_any test (take i xs)) _ (subst (λ e. (elsewhere e || list_any (λ x. (from x == e) || (to x == e)) (take i xs)) ≡ true) same (before (omega (arith, same, early)))))
     (cases_lt next edge)
   where
-    here : (next ≡ from (get_or xs i d)) ⊎ (next ≡ to (get_or xs i d)) → list_any (λ x. (from x == next) || (to x == next)) (get_or xs i d ∷ []) ≡ true
+    test : X → Bool
+    test x = (from x == next) || (to x == next)
+
+    here : (next ≡ from (get_or xs i d)) ⊎ (next ≡ to (get_or xs i d)) → test (get_or xs i d) ≡ true
     here at = grind (arith, nat_tests, at)

@@ -45,7 +45,7 @@ module _ (segments : List Segment) (canonical : IsCanonical segments) (d : Segme
       cc
 
   -- the pages of a segment have its state, and what has a state is a page of a segment
-  own : (k q : ℕ) → k < length segments → (at k).from ≤ q → q < (at k).to → state_at segments q ≡ Some (state_in (at k))
+  pub own : (k q : ℕ) → k < length segments → (at k).from ≤ q → q < (at k).to → state_at segments q ≡ Some (state_in (at k))
   unfolding state_at
   own k q inside low high = by (find (λ t. is_between t.from t.to q) segments) refl
     where
@@ -67,7 +67,7 @@ module _ (segments : List Segment) (canonical : IsCanonical segments) (d : Segme
           (cases_lt k f.0))
           (cases_lt f.0 k)
 
-  owned : (q : ℕ) (state : PageState) → state_at segments q ≡ Some state → (k : ℕ) × ((k < length segments) × (((at k).from ≤ q) × ((q < (at k).to) × (state_in (at k) ≡ state))))
+  pub owned : (q : ℕ) (state : PageState) → state_at segments q ≡ Some state → (k : ℕ) × ((k < length segments) × (((at k).from ≤ q) × ((q < (at k).to) × (state_in (at k) ≡ state))))
   unfolding state_at
   owned q state is = by (find (λ t. is_between t.from t.to q) segments) refl is
     where

@@ -95,17 +95,18 @@ impl RangeMap {
         self.state_at(p).map(|state| state.right)
     }
 
-    /// The first page after one that has another state, or the end of all pages. There are at most 64
-    /// ranges, so that a walk from edge to edge is short.
-    pub fn next_edge(&self, p: PageNumber) -> PageNumber
+    /// The state of a page, and the first page after it that has another one, or the end of all pages. There
+    /// are at most 64 ranges, so that a walk from run to run is short.
+    pub fn run_at(&self, p: PageNumber) -> (Option<PageState>, PageNumber)
         requires { p < MOST_PAGES }
-        ensures past { p < result }
-        ensures within { result ≤ MOST_PAGES }
-        ensures alike { (q : ℕ) → p ≤ q → q < result → spec.state_at self.now q ≡ spec.state_at self.now p }
-        ensures other { result < MOST_PAGES → spec.state_at self.now result ≢ spec.state_at self.now p }
+        ensures state { result.0 ≡ spec.state_at self.now p }
+        ensures past { p < result.1 }
+        ensures within { result.1 ≤ MOST_PAGES }
+        ensures alike { (q : ℕ) → p ≤ q → q < result.1 → spec.state_at self.now q ≡ spec.state_at self.now p }
+        ensures other { result.1 < MOST_PAGES → spec.state_at self.now result.1 ≢ spec.state_at self.now p }
         ensures few { ranges MOST_PAGES (spec.state_at self.now) ≤ MOST_RANGES }
     {
-        runs::segment_edge(self.segments.as_slice(), p)
+        runs::run_at(self.segments.as_slice(), p)
     }
 
     /// Gives a state to the pages from `from` up to and without `to`, where no page from `from` on is
@@ -201,7 +202,8 @@ impl RangeMap {
 
 /// A segment for each range of the pages after the changes.
 fn segments_after(segments: &[Segment], changes: &[Change]) -> ArrayVec<Segment, 64>
-    requires { ranges MOST_PAGES (spec.state_after changes.now segments.now) ≤ MOST_RANGES }
+    requires canonical { IsCanonical segments.now }
+    requires few { ranges MOST_PAGES (spec.state_after changes.now segments.now) ≤ MOST_RANGES }
     ensures canonical { IsCanonical result.items }
     ensures states { (p : ℕ) → p < MOST_PAGES
         → spec.state_at result.items p ≡ spec.state_after changes.now segments.now p }

@@ -1,22 +1,41 @@
-ghost use Rattle.std.specs.Prelude.{◌≡◌, ◌<◌, ◌≤◌, ◌⊎◌, ℕ, is_some, true};
-ghost use Rattle.std.specs.List.{find};
+ghost use Rattle.std.specs.Prelude.{◌≡◌, ◌<◌, ◌≤◌, ◌⊎◌, ◌||◌, ◌==◌, ℕ, is_some, length, nat_le, slice_index_or, true};
+ghost use Rattle.std.specs.List.{find, list_any};
 ghost use Rattle.std.specs.Option.{option_copied};
 ghost use Rattle.lwc_base.specs.declared.limits.TheConstants.{MOST_PAGES};
 ghost use Rattle.range_map.specs.Kinds as spec;
-ghost use Rattle.range_map.specs.Kinds.{begins_range, is_between, is_edge};
+ghost use Rattle.range_map.specs.Kinds.{IsCanonical, begins_range, is_between, is_edge};
+ghost use Rattle.range_map.specs.declared.segment.Segment.{Segment};
 
 use crate::segment::{Change, PageState, Segment};
 use lwc_base::{MOST_PAGES, PageNumber};
 
-/// The state of a page; `None` where it is absent.
-#[tactic(auto, unfolding(crate::specs::Kinds::state_at))]
+/// The state of a page; `None` where it is absent. Its segment is searched by halving.
 pub(crate) fn state_at(segments: &[Segment], p: PageNumber) -> Option<PageState>
+    requires { IsCanonical segments.now }
     ensures { result ≡ spec.state_at segments.now p }
 {
-    segments
-        .iter()
-        .find(|segment| segment.from <= p && p < segment.to)
-        .map(|segment| segment.state())
+    let segment = segments.get(ended_by(segments, p))?;
+    if segment.from <= p {
+        Some(segment.state())
+    } else {
+        None
+    }
+}
+
+/// The number of segments that end at a page or before it. The next one, if there is one, has the page or begins
+/// past it.
+fn ended_by(segments: &[Segment], p: PageNumber) -> usize
+    requires { IsCanonical segments.now }
+    ensures within { result ≤ length segments.now }
+    ensures before { (k : ℕ) (d : Segment) → k < result → (slice_index_or segments.now k d).to ≤ p }
+    ensures after { (d : Segment) → result < length segments.now
+        → p < (slice_index_or segments.now result d).to }
+{
+    segments.partition_point(
+        |segment: &Segment| -> bool
+            ensures { result ≡ nat_le segment.now.to p }
+        { segment.to <= p },
+    )
 }
 
 /// The state of a page after the changes: that of the first change that has it, or the state before.
@@ -26,6 +45,7 @@ pub(crate) fn state_after(
     changes: &[Change],
     p: PageNumber,
 ) -> Option<PageState>
+    requires { IsCanonical segments.now }
     ensures { result ≡ spec.state_after changes.now segments.now p }
 {
     match change_at(changes, p) {
@@ -46,7 +66,8 @@ fn change_at(changes: &[Change], p: PageNumber) -> Option<&Change>
 /// The first page past a page at which the state after the changes is another one; the end of all pages
 /// where there is none.
 pub(crate) fn run_end(segments: &[Segment], changes: &[Change], p: PageNumber) -> PageNumber
-    requires { p < MOST_PAGES }
+    requires canonical { IsCanonical segments.now }
+    requires page { p < MOST_PAGES }
     ensures past { p < result }
     ensures within { result ≤ MOST_PAGES }
     ensures alike { (q : ℕ) → p ≤ q → q < result
@@ -64,33 +85,39 @@ pub(crate) fn run_end(segments: &[Segment], changes: &[Change], p: PageNumber) -
 
 /// Where the first segment or change after a page begins or ends, or the end of all pages.
 fn next_edge(segments: &[Segment], changes: &[Change], p: PageNumber) -> PageNumber
-    requires { p < MOST_PAGES }
+    requires canonical { IsCanonical segments.now }
+    requires page { p < MOST_PAGES }
     ensures past { p < result }
     ensures within { result ≤ MOST_PAGES }
     ensures alike { (q : ℕ) → p ≤ q → q < result
         → spec.state_after changes.now segments.now q ≡ spec.state_after changes.now segments.now p }
+    ensures edge { result < MOST_PAGES → (is_edge segments.now result
+        || list_any (λ c. (c.from == result) || (c.to == result)) changes.now) ≡ true }
 {
-    let mut edge = segment_edge(segments, p);
+    let mut edge = run_at(segments, p).1;
     for change in changes {
         edge = sooner_edge(change.from, change.to, p, edge);
     }
     edge
 }
 
-/// Where the first segment after a page begins or ends, or the end of all pages.
-pub(crate) fn segment_edge(segments: &[Segment], p: PageNumber) -> PageNumber
-    requires { p < MOST_PAGES }
-    ensures past { p < result }
-    ensures within { result ≤ MOST_PAGES }
-    ensures alike { (q : ℕ) → p ≤ q → q < result
+/// The state of a page, and where the first segment after it begins or ends, or the end of all pages. The segment
+/// is searched by halving.
+pub(crate) fn run_at(segments: &[Segment], p: PageNumber) -> (Option<PageState>, PageNumber)
+    requires canonical { IsCanonical segments.now }
+    requires page { p < MOST_PAGES }
+    ensures state { result.0 ≡ spec.state_at segments.now p }
+    ensures past { p < result.1 }
+    ensures within { result.1 ≤ MOST_PAGES }
+    ensures alike { (q : ℕ) → p ≤ q → q < result.1
         → spec.state_at segments.now q ≡ spec.state_at segments.now p }
-    ensures edge { result < MOST_PAGES → is_edge segments.now result ≡ true }
+    ensures edge { result.1 < MOST_PAGES → is_edge segments.now result.1 ≡ true }
 {
-    let mut edge = MOST_PAGES;
-    for segment in segments {
-        edge = sooner_edge(segment.from, segment.to, p, edge);
+    match segments.get(ended_by(segments, p)) {
+        Some(segment) if p < segment.from => (None, segment.from),
+        Some(segment) => (Some(segment.state()), segment.to),
+        None => (None, MOST_PAGES),
     }
-    edge
 }
 
 /// Where the pages from one up to and without another first begin or end past a page, if that is before the

@@ -1,4 +1,4 @@
-use Rattle.std.proofs.Common.{◌≡◌, List, ap, arith, subst, sym, true, ◌∙◌}
+use Rattle.std.proofs.Common.{◌≡◌, List, ap, arith, subst, sym, true, false, ◌∙◌}
 use Rattle.std.proofs.lemmas.List.{take_all}
 use Rattle.lwc_base.specs.declared.limits.TheConstants.{MOST_PAGES}
 use Rattle.range_map.proofs.Alike.{edge_more}
@@ -15,7 +15,7 @@ loop-page_run-preserved c =
       past = next.past;
       within = omega (arith, next.within, inv.within);
       alike = λ q low high. page_run_more c.args.page_runs.now c.loop-page_run.page_run-index _ q c.args.p c.loop-page_run-test.true (inv.alike q low (omega (arith, next.within, high))) (next.alike q low high);
-      edge = edge_more (λ s. s.range.from) (λ s. s.range.to) c.args.page_runs.now c.loop-page_run.page_run-index _ c.loop-page_run.edge c.sooner_edge-edge.result MOST_PAGES c.loop-page_run-test.true inv.edge next.within next.one;
+      edge = edge_more (λ s. s.range.from) (λ s. s.range.to) (λ _. false) c.args.page_runs.now c.loop-page_run.page_run-index _ c.loop-page_run.edge c.sooner_edge-edge.result MOST_PAGES c.loop-page_run-test.true inv.edge next.within next.one;
     }
 
 pub returns-clause-alike : goal.returns-clause-alike

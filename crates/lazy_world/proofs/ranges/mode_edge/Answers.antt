@@ -1,4 +1,4 @@
-use Rattle.std.proofs.Common.{◌≡◌, ◌||◌, arith, subst, true, ◌∙◌}
+use Rattle.std.proofs.Common.{◌≡◌, ◌||◌, arith, subst, true, false, ◌∙◌}
 use Rattle.std.specs.Prelude.{All, ◌==◌}
 use Rattle.std.specs.List.{list_any}
 use Rattle.lwc_base.specs.declared.item.Item.{Item}
@@ -14,7 +14,7 @@ loop-item-preserved c =
     record {
       past = end.past;
       within = omega (arith, end.within, inv.within);
-      edge = edge_at (λ item. item.from) (λ item. item.to) _ c.loop-item.item-index _ c.loop-item.next c.item_edge-next.result c.args.edge c.loop-item-test.true inv.edge end.within end.one;
+      edge = edge_at (λ item. item.from) (λ item. item.to) (λ _. false) _ c.loop-item.item-index _ c.loop-item.next c.item_edge-next.result c.args.edge c.loop-item-test.true inv.edge end.within end.one;
       alike = edge_more c.args.p c.loop-item.next c.item_edge-next.result c.loop-item.item-index _ _ c.loop-item-test.true end.within end.alike inv.alike;
     }
 

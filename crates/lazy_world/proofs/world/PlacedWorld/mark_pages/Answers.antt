@@ -25,8 +25,8 @@ runs-preserved c =
           (λ g.
           ap (λ b. list_any (λ k. is_in g (row (Page k))) (range_with_len 0 p) || b)
           (ap (λ o. is_name o g) c.page_group.ensures ∙ name_of_cell (row (Page p)) g)
-          ∙ any_run (λ k. is_in g (row (Page k))) p (e - suc p) e (omega (arith, c.min-p.ensures, c.next_edge.ensures.past, c.runs-test.true))
-          (λ k low high. in-alike g (row (Page k)) (row (Page p)) (right k) (right p) (c.next_edge.ensures.alike k low (omega (arith, c.min-p.ensures, high)))));
+          ∙ any_run (λ k. is_in g (row (Page k))) p (e - suc p) e (omega (arith, c.min-p.ensures, c.run_at.ensures.past, c.runs-test.true))
+          (λ k low high. in-alike g (row (Page k)) (row (Page p)) (right k) (right p) (c.run_at.ensures.alike k low (omega (arith, c.min-p.ensures, high)))));
     }
 
 pub returns : goal.returns

@@ -1,49 +1,21 @@
-use Rattle.std.proofs.Common.{arith, ap, ◌∙◌}
-use Rattle.std.specs.Option.{option_map}
+use Rattle.std.proofs.Common.{arith, ap}
 use Rattle.lwc_base.specs.declared.key.Key.TheVariants.{Page}
-use Rattle.cow_space.specs.Changes.{have_page}
 use Rattle.lazy_world.specs.Transfers.{given_or}
-use Rattle.lazy_world.specs.Seen.{count, rights, rows}
-use Rattle.lazy_world.specs.Origins.{gift_at, gift_right, shown_right, with_rights}
-use Rattle.lazy_world.specs.declared.pieces.PageOrigins.TheVariants.{PageRuns}
+use Rattle.lazy_world.specs.Seen.{count, rows}
 use Rattle.lazy_world.specs.States.{world_of}
 use Rattle.lazy_world.specs.Worlds.{parts, seen}
-use Rattle.lazy_world.proofs.AbsentLemmas.{no-right}
 use Rattle.lazy_world.proofs.PastLemmas.{origin-transferred}
-use Rattle.lazy_world.proofs.RightLemmas.{origin-rights}
 use Rattle.lazy_world.proofs.world.PlacedWorld.origins.Goals as goal
 
 pub returns-clause-row : goal.returns-clause-row
 unfolding seen world_of parts
 returns-clause-row c =
     let w = c.args.self.now in
+    let pages = c.page_origins.ensures in
     origin-transferred (seen w) w.size.pages (count w.places) c.args.spec.now c.args.transfer (rows w.places) c.args.from c.args.to
-    (record { pages = PageRuns c.runs_of_pages.result c.reads.result; slots = c.slot_origins.result; uid = c.uid_origin.result }) w.sound.sizes.size.pages.1 (omega arith)
-    c.requires.within (w.sound.past c.args.from) (w.sound.past c.args.to) c.runs_of_pages.ensures.gives
-    (λ q high. ap (λ gift. given_or (rows w.places) (Page q) (rows w.places c.args.to (Page q)) (option_map (λ g. g.0) gift)) (c.runs_of_pages.ensures.past q high)) c.slot_origins.ensures c.uid_origin.ensures
-
-pub returns-clause-rights : goal.returns-clause-rights
-unfolding seen world_of parts
-returns-clause-rights c =
-    let w = c.args.self.now in
-    let to = c.args.to in
-    let page_runs = c.runs_of_pages.result in
-    let reads = c.reads.result in
-    origin-rights (parts w) w.sound (no-right w.places) c.args.transfer c.args.spec.now c.requires.within c.args.from to
-    (with_rights (rows w.places) (rights w.places) to (PageRuns page_runs reads))
-    (λ q low.
-    (λ e. shown_right (c.runs_of_pages.ensures.gives q low e) (c.reads.ensures q e) (gift_right (rights w.places) q (rights w.places to q) (gift_at page_runs.items q)))
-    ∙ c.runs_of_pages.ensures.rights q low)
-    (λ q none high.
-    ap (λ gift. shown_right (given_or (rows w.places) (Page q) (rows w.places to (Page q)) (option_map (λ g. g.0) gift)) (have_page reads.items q) (gift_right (rights w.places) q (rights w.places to q) gift))
-    (c.runs_of_pages.ensures.past q high)
-    ∙ ap (λ cell. shown_right cell (have_page reads.items q) (rights w.places to q)) none)
+    (record { pages = c.page_origins.result; slots = c.slot_origins.result; uid = c.uid_origin.result }) w.sound.sizes.size.pages.1 (omega arith)
+    c.requires.within (w.sound.past c.args.from) (w.sound.past c.args.to) pages.gives
+    (λ q high. ap (given_or (rows w.places) (Page q) (rows w.places c.args.to (Page q))) (pages.past q high)) c.slot_origins.ensures c.uid_origin.ensures
 
 pub returns-clause-given : goal.returns-clause-given
-returns-clause-given c = record { pages = c.runs_of_pages.ensures.given; slots = λ n low. (c.slot_origins.ensures n low).can; uid = c.uid_origin.ensures.can }
-
-pub returns-clause-nodes : goal.returns-clause-nodes
-returns-clause-nodes c = omega (arith, c.runs_of_pages.ensures.few)
-
-pub returns-clause-steps : goal.returns-clause-steps
-returns-clause-steps c = omega (arith, c.runs_of_pages.ensures.few)
+returns-clause-given c = record { pages = c.page_origins.ensures.given; slots = λ n low. (c.slot_origins.ensures n low).can; uid = c.uid_origin.ensures.can }
