@@ -23,6 +23,7 @@ ghost use Rattle.lwc_debug.specs.declared.debugging.TheConstants.{MOST_DEBUGGED_
 ghost use Rattle.lwc_debug.specs.declared.script.TheConstants.{MOST_SCRIPT_BYTES};
 ghost use Rattle.lwc_monitor.specs.declared.numbers.TheConstants.{EXIT, LW_TRAP, NOT_FRESH, TRAPPED};
 ghost use Rattle.lwc_text.specs.declared.vault.TheConstants.{MOST_VAULT_BYTES};
+ghost use Rattle.res_spec.specs.declared.items.TheConstants.{ITEM_BYTES};
 ghost use Rattle.lwc_gen.specs.declared.generating.TheConstants.{PAGES, REQUESTS_FOR_EACH, SETTINGS};
 
 /// A law: the numbers behind the names that definitions use for limits, and for a generated serve. A
@@ -37,6 +38,7 @@ pub fn limits_are_as_documented()
     ensures nobody { NOBODY ≡ 65534 }
     ensures ranges { MOST_RANGES ≡ 64 }
     ensures items { MOST_ITEMS ≡ 32 }
+    ensures item_bytes { ITEM_BYTES ≡ 16 }
     ensures contexts_of_job { MOST_CONTEXTS_OF_JOB ≡ 32 }
     ensures groups_of_job { MOST_GROUPS_OF_JOB ≡ 64 }
     ensures contexts { MOST_CONTEXTS ≡ 529 }
