@@ -5,7 +5,6 @@
 mod border;
 mod exports;
 mod lines;
-mod messages;
 mod runs;
 mod shapes;
 mod views;

@@ -9,9 +9,8 @@ ghost use Rattle.lwcrun_modes.specs.Views.{end_of, outside};
 ghost use Rattle.lwcrun_modes.specs.Works.{IsText, plan_of};
 
 use crate::border::LineError;
-use crate::messages::{message_of, status_of};
 use lwc_io::{Files, MemoryFiles, MemorySink, NamedFile, Sink};
-use lwcrun_core::{Ending, ExitStatus, Line, LineFault, read_line};
+use lwcrun_core::{Ending, ExitStatus, Line, LineFault, message_of, read_line, status_of};
 use lwcrun_modes::{asm, debug_run, dis, lift, monitor, replay, replay_with_vault};
 use std::alloc::Global;
 

@@ -8,8 +8,8 @@ use std::alloc::{AllocError, Global};
 use std::sync::Wait;
 use std::thread::Threads;
 
-/// What a call has left: its status, what it wrote, its message, who came to the gate, and whether a thread that was held
-/// looked until its looks ran out.
+/// What a call has left: its status, what it wrote, its message, who came to the gate, and whether a thread that was
+/// held looked until its looks ran out.
 #[derive(Drop)]
 pub struct Left {
     pub status: ExitStatus,
