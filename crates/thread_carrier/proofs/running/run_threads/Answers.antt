@@ -8,7 +8,7 @@ use Rattle.thread_carrier.proofs.running.run_threads.Goals as goal
 pub carry_all-requires-clause-ours : goal.carry_all-requires-clause-ours
 carry_all-requires-clause-ours g c κs within =
     let process = c.args.process in
-    let ours : All (IsPassOf process) (map (λ x. x.pass) c.in_ok-carriers.carriers.items) = subst (All (IsPassOf process)) (sym c.in_ok-carriers.ensures.passes) c.requires.ours in
+    let ours : All (IsPassOf process) (map (λ x. x.pass) c.in_ok-carriers.carriers.items) = subst (All (IsPassOf process)) (sym c.in_ok-carriers.ensures.passes) c.requires.all.ours in
     subst (λ l. All (λ x. IsPassOf process x.pass) l) (sym c.as_mut_slice.ensures.value) (all_made (IsPassOf process) (λ x. x.pass) c.in_ok-carriers.carriers.items ours)
 
 pub carry_all-requires-clause-turns : goal.carry_all-requires-clause-turns
@@ -24,7 +24,7 @@ close-requires-after_bounds g c κs within =
     let numbers : map (λ x. x.pass.held.number) after ≡ map (λ x. x.pass.held.number) before = c.carry_all.ensures.numbers ∙ ap (map (λ x. x.pass.held.number)) c.as_mut_slice.ensures.value in
     let back = written_back (λ x. x.pass.held.number) c.in_ok-carriers.carriers.len after before (omega (arith, c.in_ok-carriers.carriers.ok.0)) numbers in
     subst (AreAllOf process) (sym (c.passes_of.ensures ∙ ap (map (λ x. x.pass)) back))
-    (still_all (λ x. x.pass) process c.args.passes.items before after c.requires c.in_ok-carriers.ensures.passes c.carry_all.ensures.ours numbers)
+    (still_all (λ x. x.pass) process c.args.passes.items before after c.requires.all c.in_ok-carriers.ensures.passes c.carry_all.ensures.ours numbers)
 
 pub returns-clause-complete : goal.returns-clause-complete
 returns-clause-complete g c =
