@@ -4,7 +4,7 @@ use Rattle.lwc_stream.proofs.Sent.{signal_sync, worker_send}
 use Rattle.process_core.proofs.Sends.{process_sync}
 use Rattle.std.proofs.Common.{subst}
 use Rattle.lwc_stream.specs.Workers.{HaveServed}
-use Rattle.lwc_stream.proofs.beside.go_in.Goals as goal
+use Rattle.lwc_stream.proofs.beside.serve_in_scope.Goals as goal
 
 pub spawn_with-started-requires-send-F : goal.spawn_with-started-requires-send-F
 spawn_with-started-requires-send-F g c κs within =

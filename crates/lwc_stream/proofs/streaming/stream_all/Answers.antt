@@ -1,4 +1,4 @@
-use Rattle.std.proofs.Common.{◌≡◌, ◌∙◌, [], All, None, length, map, sym, ap, subst, true, arith, length-append}
+use Rattle.std.proofs.Common.{◌≡◌, ◌∙◌, [], All, None, length, map, sym, ap, subst, true, arith}
 use Rattle.std.proofs.Math.ListN.{length-map}
 use Rattle.std.proofs.lemmas.List.{length-replicate}
 use Rattle.std.proofs.lemmas.List.Elements.{All-map}
