@@ -137,6 +137,7 @@ fn written_while_held<R: AllocGlobal + Abort + Threads + Wait + Sync>(
 #[test]
 fn a_line_is_written_while_workers_are_held(rt: HostRuntime) -> Result<(), Fail> {
     for (workers, free) in HELD {
+        assert!(rt; 1 <= workers && workers <= 16);
         let left = written_while_held(&rt, workers, free)?;
         assert!(rt;
             left == (WHOLE, false),
