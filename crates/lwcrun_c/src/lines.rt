@@ -1,9 +1,9 @@
 //! A line that is carried out over files in memory.
 
 ghost use Rattle.std.specs.Prelude.{◌≡◌, ◌≢◌, [], Err, IfErr, IfNone, IfOk, IfSome, map, string_bytes};
-ghost use Rattle.lwcrun_c.specs.Lines.{IsOutcome};
+ghost use Rattle.lwcrun_c.specs.Lines.{IsOutcome, RunsThreads};
 ghost use Rattle.lwcrun_core.specs.Statuses.{message_of, status_of};
-ghost use Rattle.lwcrun_line.specs.Lines.{IsWithinLimits, RunsThreads, asked_by, command_of};
+ghost use Rattle.lwcrun_line.specs.Lines.{IsWithinLimits, asked_by, command_of};
 ghost use Rattle.lwcrun_modes.specs.Ends.{Ended};
 ghost use Rattle.lwcrun_modes.specs.Views.{end_of, outside};
 ghost use Rattle.lwcrun_modes.specs.Works.{IsText, plan_of};
