@@ -25,7 +25,7 @@ const BUFFER_BYTES: usize = MOST_ITEMS * ITEM_BYTES;
 /// `TooManyItems`, `BadAddress`, `BadMode`, `BadRange`, `Overlap`: the first that holds (`item_refusals`).
 /// Rows that follow these five in a call's table decide only where none of them holds.
 #[inline(always)]
-#[tactic(auto, unfolding(crate::specs::Asked::item_bytes, crate::specs::Asked::item_refusals, crate::specs::Asked::items_of, res_spec::specs::Items::read, res_spec::specs::Items::faults,),)]
+#[tactic(auto, unfolding(crate::specs::Asked::item_refusals, crate::specs::Asked::items_of))]
 pub fn items_for<W: World>(
     world: &W,
     c: Name,
@@ -56,7 +56,6 @@ pub fn items_for<W: World>(
 /// The items that a call asks for, which are not too many. It is apart from `items_for` so that a call that names
 /// no items does not pay for the buffer.
 #[inline(never)]
-#[tactic(auto, unfolding(crate::specs::Asked::item_bytes, crate::specs::Asked::item_refusals, crate::specs::Asked::items_of, res_spec::specs::Items::read, res_spec::specs::Items::faults,),)]
 fn some_items<W: World>(
     world: &W,
     c: Name,

@@ -2,6 +2,8 @@
 use Rattle.std.proofs.Common.{◌≡◌, inl, inr, ℕ, suc, ◌≤◌, Bool, true, false, cond, ltb, None, Some, List, [], ◌∷◌, refl, ap, sym, subst, ◌∙◌, length, arith}
 use Rattle.std.proofs.lemmas.Bool.{ltb-true}
 use Rattle.std.specs.Prelude.{All, slice_get}
+use Rattle.blank_steps.proofs.Running.{ActOutside, act-back, act-blank, kept-blank, run-blank, stays_run}
+use Rattle.blank_steps.specs.Blanks.{ActsOutside, blank_in}
 use Rattle.confinement.proofs.Fenced.{closed_fence, keeps_closed, outside_is, stays_closed}
 use Rattle.confinement.proofs.Fencing.{keeps_to}
 use Rattle.confinement.proofs.Snapshots.{IsReached, reached_next, ready_at}
@@ -30,9 +32,9 @@ use Rattle.lwc_base.specs.declared.descriptor.TheConstants.{SLOTS}
 use Rattle.lwc_base.specs.declared.key.Key.{Key}
 use Rattle.lwc_base.specs.declared.limits.TheConstants.{MOST_PAGES}
 use Rattle.lwc_base.specs.declared.name.Name.{Name}
-use Rattle.lwc_closed.proofs.Stepping.{ActsOutside}
-use Rattle.lwc_closed.proofs.Telling.{ActOutside, act-back, act-blank, kept-blank, run-blank, stays_run, text-blank}
-use Rattle.lwc_closed.specs.Bytes.{IsAnother, IsShutOff, LearnNothing, blank_in, text_of, without_bytes}
+use Rattle.lwc_closed.proofs.Telling.{text-blank}
+use Rattle.lwc_closed.specs.Bytes.{IsAnother, IsShutOff, LearnNothing, without_bytes}
+use Rattle.lwc_text.specs.Report.{text_of}
 use Rattle.world_views.specs.Outside.{IsShut, LacksKeys}
 
 some_page : (f : Form) → (1 ≤ pages_of f) × (pages_of f ≤ MOST_PAGES)

@@ -1,4 +1,3 @@
-pub mod Stepping
 pub mod Telling
 pub mod Learning
 pub mod Serving

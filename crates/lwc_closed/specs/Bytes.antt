@@ -1,18 +1,13 @@
 -- Machines in which other contexts' own pages have zero bytes, and what steps learn of those bytes.
 use Rattle.std.specs.Prelude.{◌≡◌, ◌≢◌, ℕ, List, [], ◌∷◌, false, true}
+use Rattle.blank_steps.specs.Blanks.{blank_in}
 use Rattle.confinement.specs.Fences.{Fence}
 use Rattle.kernel_core.specs.Machine.{Machine}
-use Rattle.kernel_core.specs.Runs.{kept, peak, run}
-use Rattle.kernel_core.specs.Step.{with_world}
+use Rattle.kernel_core.specs.Runs.{kept, run}
 use Rattle.lwc_base.specs.World.{is_live}
 use Rattle.lwc_base.specs.declared.key.Key.{Key}
 use Rattle.lwc_base.specs.declared.name.Name.{Name}
-use Rattle.lwc_text.specs.Report.{report_of}
-use Rattle.world_views.specs.Blank.{blank}
-
--- the machine with zero bytes in each page of a context's own, the tags kept
-abbrev pub blank_in : Name → Machine → Machine
-blank_in v m = record m { environment = with_world m.environment (blank true v m.environment.world) }
+use Rattle.lwc_text.specs.Report.{text_of}
 
 -- the machine with zero bytes in the own pages of these contexts
 abbrev pub without_bytes : List Name → Machine → Machine
@@ -28,10 +23,6 @@ pub record IsShutOff (f : Fence) (v : Name) : Type 0 where
 pub record IsAnother (m : Machine) (c v : Name) : Type 0 where
   pub other : v ≢ c
   pub live : is_live m.environment.world v ≡ true
-
--- the report of these steps from a machine
-abbrev pub text_of : Machine → List ℕ → List ℕ
-text_of m steps = report_of (run m steps) (peak m steps) steps
 
 -- these steps learn nothing of the bytes in these contexts' own pages: without those bytes they come to the
 -- same machine, but for the bytes, the same steps are legal, and the report is the same

@@ -34,6 +34,10 @@ report_of m most steps =
     threads_text m ++ contexts_text m.environment.world ++ groups_line (fm.len m.environment.world.groups)
     ++ replies_text m ++ tail_lines m.environment.channels.console (frames_of m) most steps
 
+-- the report of these steps from a machine
+abbrev pub text_of : Machine → List ℕ → List ℕ
+text_of m steps = report_of (run m steps) (peak m steps) steps
+
 -- the report of a machine without the lines of replies
 unfoldable pub rest_of : Machine → ℕ → List ℕ → List ℕ
 rest_of m most steps =
@@ -42,7 +46,7 @@ rest_of m most steps =
 
 -- the report of the run of these steps from the start
 abbrev pub report_after : Inputs → List ℕ → List ℕ
-report_after inputs steps = report_of (run (start inputs) steps) (peak (start inputs) steps) steps
+report_after inputs steps = text_of (start inputs) steps
 
 -- the same without the lines of replies
 abbrev pub rest_after : Inputs → List ℕ → List ℕ

@@ -15,12 +15,12 @@ use Rattle.kernel_core.specs.Step.{step}
 use Rattle.kernel_core.specs.declared.settings.Job.{Job}
 use Rattle.kernel_core.specs.declared.settings.Settings.{Settings}
 use Rattle.kernel_core.specs.declared.thread.Thread.{Thread}
-use Rattle.lwc_text.specs.Report.{report_of_schedule}
+use Rattle.lwc_text.specs.Report.{report_of_schedule, text_of}
 use Rattle.lwc_vault.proofs.Handing.{kept-told, schedule-handed}
 use Rattle.lwc_vault.proofs.Never.{outside_by_switches}
 use Rattle.lwc_vault.proofs.Shapes.{start-shape, text-shape}
 use Rattle.lwc_vault.proofs.Staying.{all-outside, no_serve}
-use Rattle.lwc_vault.proofs.Telling.{ActOutside, act-back, act-blank, kept-blank, text_of}
+use Rattle.lwc_vault.proofs.Telling.{ActOutside, act-back, act-blank, kept-blank}
 use Rattle.lwc_vault.specs.Blanks.{ActsOutside}
 use Rattle.lwc_vault.specs.Secrets.{HaveOneShape, KeepsSecret, StandOutside, beside}
 

@@ -22,9 +22,9 @@ use Rattle.lwc_base.specs.declared.key.Key.TheVariants.{Page, Slot, Cred}
 use Rattle.lwc_base.specs.declared.page.PageValue.{PageValue}
 use Rattle.lwc_base.specs.declared.page.PageValue.TheVariants.{Data}
 use Rattle.lwc_base.specs.declared.right.Right.TheVariants.{Write}
-use Rattle.lwc_text.specs.Report.{report_after}
+use Rattle.lwc_text.specs.Report.{report_after, text_of}
 use Rattle.lwc_vault.proofs.Staying.{all-outside, no_serve}
-use Rattle.lwc_vault.proofs.Telling.{ActOutside, act-back, act-blank, legal-back, legal-blank, text-blank, text_of}
+use Rattle.lwc_vault.proofs.Telling.{ActOutside, act-back, act-blank, legal-back, legal-blank, text-blank}
 use Rattle.lwc_vault.specs.Blanks.{blank_machine}
 use Rattle.lwc_vault.specs.Secrets.{HaveOneShape, StandOutside, TellsNothing, beside}
 use Rattle.world_views.proofs.BlankChanges.{blanks-alike}

@@ -1,12 +1,12 @@
 -- A step of a thread outside the vault is the same step where the vault is blank: what is so of each context.
 use Rattle.std.proofs.Common.{◌≡◌, ◌≢◌, ℕ, Bool, true, None}
+use Rattle.blank_steps.proofs.Stepping as each
 use Rattle.guest_machine.specs.declared.progress.Advance.{Advance}
 use Rattle.kernel_core.specs.Machine.{Environment, Machine}
 use Rattle.kernel_core.specs.Start.{vault_name}
 use Rattle.kernel_core.specs.Step.{Outcome, advance_outcome, guest_calls, step}
 use Rattle.kernel_core.specs.declared.thread.Thread.{Thread}
 use Rattle.lwc_base.specs.declared.name.Name.{Name}
-use Rattle.lwc_closed.proofs.Stepping as each
 use Rattle.lwc_vault.specs.Blanks.{ActsOutside, blank_machine}
 use Rattle.world_views.specs.Blank.{tells_registers}
 use Rattle.world_views.specs.Outside.{IsOutside}
@@ -34,4 +34,4 @@ pub advance-blank : (keep : Bool) (t : ℕ) (e : Environment) (x : Thread) → I
 advance-blank = each.advance-blank vault_name
 
 pub step-blank : (m : Machine) (t : ℕ) → m.serve ≡ None → ActsOutside m t → step (blank_machine m) t ≡ blank_machine (step m t)
-step-blank = each.step-blank vault_name
+step-blank = each.step_blank vault_name

@@ -25,17 +25,13 @@ use Rattle.lwc_base.specs.declared.fault.ThreadStatus.{ThreadStatus}
 use Rattle.lwc_base.specs.declared.fault.ThreadStatus.TheVariants as status
 use Rattle.lwc_base.specs.declared.name.Name.{Name}
 use Rattle.lwc_base.specs.declared.page.TheConstants.{PAGE_BYTES}
-use Rattle.lwc_closed.specs.Bytes.{blank_in}
+use Rattle.blank_steps.specs.Blanks.{ActsOutside, blank_in}
 use Rattle.world_views.specs.Outside.{CallsAlike, IsOutside, covered}
 use Rattle.world_views.proofs.BlankAlike.{calls-alike}
 use Rattle.world_views.proofs.BlankChanges.{asks-alike, blanks-alike, changes-alike}
 use Rattle.world_views.specs.Blank.{blank, blank_stored, tells_registers}
 use Rattle.world_views.specs.BlankFacts.{AsksAlike}
 use Rattle.lwc_syscall.specs.Plain.{plain_call}
-
--- the thread of a number, if it runs, is outside a context, and none of its descriptors opens that
-abbrev pub ActsOutside : Name → Machine → ℕ → Type 0
-ActsOutside v m t = (x : Thread) → slice_get m.threads t ≡ Some x → x.status ≡ status.Running → IsOutside v x.context x.job m.environment.world
 
 module _ (v : Name) where
   abbrev pub blank_env : Bool → Environment → Environment
@@ -144,9 +140,9 @@ module _ (v : Name) where
       ap (λ w. record m { threads = slice_set m.threads t a.thread; environment = with_world a.environment w; serve = a.serve })
       ((blanks-alike true v a.environment.world).reap (roots (slice_set m.threads t a.thread) a.serve))
 
-  pub step-blank : (m : Machine) (t : ℕ) → m.serve ≡ None → ActsOutside v m t → step (blank_in v m) t ≡ blank_in v (step m t)
+  pub step_blank : (m : Machine) (t : ℕ) → m.serve ≡ None → ActsOutside v m t → step (blank_in v m) t ≡ blank_in v (step m t)
   unfolding step_by
-  step-blank m t run outside = by (slice_get m.threads t) refl
+  step_blank m t run outside = by (slice_get m.threads t) refl
     where
       by : (o : Option Thread) → slice_get m.threads t ≡ o → after_thread guest_calls (blank_in v m) t o ≡ blank_in v (after_thread guest_calls m t o)
       by None is = refl

@@ -1,0 +1,2 @@
+pub use Rattle.kernel_core.specs.Step
+pub mod Blanks
