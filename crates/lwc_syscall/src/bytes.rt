@@ -108,7 +108,7 @@ fn read_on(value: Lent<'_>, count: usize) -> Lent<'static>
 ///
 /// `BadAddress` if one of them is past the last page or in an absent page; else `ReadOnly` if one is in a
 /// page that has the right Read; else `NoFrame` if too few frames are free; or `OutOfMemory`.
-#[tactic(auto, using(lwc_base::proofs::Facts::changes), unfolding(crate::specs::Plain::store_at, lwc_base::specs::Store::store),)]
+#[tactic(auto, unfolding(crate::specs::Plain::store_at, lwc_base::specs::Store::store))]
 fn store_at<W: World>(
     world: &mut W,
     c: Name,

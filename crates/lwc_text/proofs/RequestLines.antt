@@ -59,8 +59,8 @@ keeps_rules line request read small =
     let twice : length line ≡ 2 * length request = ok.2 in
     grind (arith, nat_tests)
 
-pub kept_line_is_digits : (line : List ℕ) (e : FromHexError) → decode_of line ≡ Err e → rule_in line ≡ None → ⊥
-kept_line_is_digits line e fails none = let good = is_good line none in let read = good.decoded in cc
+pub kept_is_digits : (line : List ℕ) (e : FromHexError) → decode_of line ≡ Err e → rule_in line ≡ None → ⊥
+kept_is_digits line e fails none = let good = is_good line none in let read = good.decoded in cc
 
 -- the requests so far are those of the lines so far, of which none is refused, and what is left has the other lines
 pub record IsSoFar (bytes rest : List ℕ) (n : ℕ) (requests : List (List ℕ)) : Type 0 where

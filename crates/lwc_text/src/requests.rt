@@ -69,7 +69,7 @@ fn read_lines(alloc: Global, bytes: &[u8]) -> Result<Vec<Sequence<u8>>, InputFau
 }
 
 /// Reads the line at an offset, after this number of others.
-#[tactic(auto, using(crate::proofs::RequestLines::kept_line_is_digits), unfolding(crate::specs::Requests::line_refusal),)]
+#[tactic(auto, using(crate::proofs::RequestLines::kept_is_digits), unfolding(crate::specs::Requests::line_refusal),)]
 fn read_line(
     alloc: Global,
     before: usize,
