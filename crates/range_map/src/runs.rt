@@ -23,7 +23,7 @@ pub(crate) fn state_at(segments: &[Segment], p: PageNumber) -> Option<PageState>
 }
 
 /// The number of segments that end at a page or before it. The next one, if there is one, has the page or begins
-/// past it.
+/// past it. Most spaces have one range, so the first segment is looked at before the rest are halved.
 fn ended_by(segments: &[Segment], p: PageNumber) -> usize
     requires { IsCanonical segments.now }
     ensures within { result ≤ length segments.now }
@@ -31,11 +31,14 @@ fn ended_by(segments: &[Segment], p: PageNumber) -> usize
     ensures after { (d : Segment) → result < length segments.now
         → p < (slice_index_or segments.now result d).to }
 {
-    segments.partition_point(
-        |segment: &Segment| -> bool
-            ensures { result ≡ nat_le segment.now.to p }
-        { segment.to <= p },
-    )
+    match segments.first() {
+        Some(first) if p < first.to => 0,
+        _ => segments.partition_point(
+            |segment: &Segment| -> bool
+                ensures { result ≡ nat_le segment.now.to p }
+            { segment.to <= p },
+        ),
+    }
 }
 
 /// The state of a page after the changes: that of the first change that has it, or the state before.
