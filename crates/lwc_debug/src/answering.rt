@@ -1,6 +1,6 @@
 //! The answers to commands.
 
-ghost use Rattle.std.specs.Prelude.{◌≡◌, ◌++◌, ◌*◌, ◌≤◌, if◌then◌else◌, IfOk, OnOk, codes};
+ghost use Rattle.std.specs.Prelude.{◌≡◌, ◌++◌, ◌*◌, ◌≤◌, if◌then◌else◌, IfOk, OnErr, OnOk, codes};
 ghost use Rattle.std.specs.Prelude.{nat_lt, string_bytes};
 ghost use Rattle.std.specs.Option.{option_map_or};
 ghost use Rattle.lwc_base.specs.declared.descriptor.TheConstants.{SLOTS};
@@ -23,7 +23,7 @@ use std::alloc::Global;
 use world_face::World;
 
 /// Appends the answer to a command that is given at this place, one of this number of steps and one more,
-/// where the kernel is (`answer`). The only error is out of memory.
+/// where the kernel is (`answer`). The only error is out of memory, and nothing is appended then.
 #[tactic(auto, unfolding(crate::specs::Transcript::answer))]
 pub fn answer<W: World>(
     out: &mut Vec<u8>,
@@ -33,8 +33,9 @@ pub fn answer<W: World>(
     command: Command,
 ) -> Result<(), OutOfMemory>
     requires { at ≤ count }
-    ensures { OnOk result (out.new.items
+    ensures ok { OnOk result (out.new.items
         ≡ out.old.items ++ spec.answer (machine_of kernel.now) count at command) }
+    ensures err { OnErr result (out.new.items ≡ out.old.items) }
 {
     let world = kernel.world();
     match command {
@@ -51,7 +52,8 @@ pub fn answer<W: World>(
 
 /// Appends the line of a move to this place, or that there is none.
 fn move_line(out: &mut Vec<u8>, place: Option<usize>) -> Result<(), OutOfMemory>
-    ensures { OnOk result (out.new.items ≡ out.old.items ++ spec.move_line place) }
+    ensures ok { OnOk result (out.new.items ≡ out.old.items ++ spec.move_line place) }
+    ensures err { OnErr result (out.new.items ≡ out.old.items) }
 {
     match place {
         None => append(out, "no step\n"),
@@ -65,9 +67,10 @@ fn move_line(out: &mut Vec<u8>, place: Option<usize>) -> Result<(), OutOfMemory>
 /// Appends the lines of a thread, or that there is no such thread.
 #[tactic(auto, using(crate::proofs::Living::no_view))]
 fn thread_answer<W: World>(out: &mut Vec<u8>, kernel: &Kernel<W>, t: u32) -> Result<(), OutOfMemory>
-    ensures { OnOk result (out.new.items ≡ out.old.items
+    ensures ok { OnOk result (out.new.items ≡ out.old.items
         ++ option_map_or (lines.thread_lines t) (view_of (machine_of kernel.now) t)
         (codes "no thread\n")) }
+    ensures err { OnErr result (out.new.items ≡ out.old.items) }
 {
     if t >= kernel.thread_count() {
         return append(out, "no thread\n");
@@ -77,9 +80,10 @@ fn thread_answer<W: World>(out: &mut Vec<u8>, kernel: &Kernel<W>, t: u32) -> Res
 
 /// Appends the line of a context, or that it is not live.
 fn context_answer<W: World>(out: &mut Vec<u8>, world: &W, name: Name) -> Result<(), OutOfMemory>
-    ensures { OnOk result (out.new.items ≡ out.old.items
+    ensures ok { OnOk result (out.new.items ≡ out.old.items
         ++ spec.of_live (W.seen world.now) name
         (lines.context_line name (summary_of (W.seen world.now) name))) }
+    ensures err { OnErr result (out.new.items ≡ out.old.items) }
 {
     if !is_live(world, name) {
         return append(out, "no context\n");
@@ -94,11 +98,12 @@ fn page_answer<W: World>(
     name: Name,
     p: u32,
 ) -> Result<(), OutOfMemory>
-    ensures { OnOk result (out.new.items ≡ out.old.items
+    ensures ok { OnOk result (out.new.items ≡ out.old.items
         ++ spec.of_live (W.seen world.now) name
         (if nat_lt p (W.seen world.now).size.pages
         then spec.page_line name p (load (W.seen world.now) name (p * PAGE_BYTES) PAGE_BYTES)
         else codes "no page\n")) }
+    ensures err { OnErr result (out.new.items ≡ out.old.items) }
 {
     if !is_live(world, name) {
         return append(out, "no context\n");
@@ -125,10 +130,11 @@ fn slot_answer<W: World>(
     name: Name,
     n: u32,
 ) -> Result<(), OutOfMemory>
-    ensures { OnOk result (out.new.items ≡ out.old.items
+    ensures ok { OnOk result (out.new.items ≡ out.old.items
         ++ spec.of_live (W.seen world.now) name
         (if nat_lt n SLOTS then spec.slot_line name n (slot_at (W.seen world.now) name n)
         else codes "no slot\n")) }
+    ensures err { OnErr result (out.new.items ≡ out.old.items) }
 {
     if !is_live(world, name) {
         return append(out, "no context\n");
@@ -179,7 +185,8 @@ fn slot_text(alloc: Global, value: Lent<'_>) -> Result<String, OutOfMemory>
 
 /// Appends a text.
 fn append(out: &mut Vec<u8>, text: &str) -> Result<(), OutOfMemory>
-    ensures { OnOk result (out.new.items ≡ out.old.items ++ text.now) }
+    ensures ok { OnOk result (out.new.items ≡ out.old.items ++ text.now) }
+    ensures err { OnErr result (out.new.items ≡ out.old.items) }
 {
     out.extend_from_slice(text.as_bytes())?;
     Ok(())

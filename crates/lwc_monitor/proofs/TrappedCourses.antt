@@ -20,6 +20,7 @@ use Rattle.lwc_base.specs.declared.page.TheConstants.{PAGE_BYTES}
 use Rattle.lwc_syscall.specs.Plain.{plain}
 use Rattle.lwc_base.specs.declared.name.Name.{Name}
 use Rattle.lwc_monitor.proofs.Guarding.{fresh-trap}
+use Rattle.lwc_overlay.specs.Named.{link}
 use Rattle.lwc_monitor.specs.Calls.{by_monitor, calls_under, is_forbidden, refused_by, trapped_by, trapped_outcome, trapped_to, trapping, traps_after_call}
 use Rattle.lwc_monitor.specs.Steps.{call_in, call_next}
 use Rattle.lwc_monitor.specs.Traps.{Traps, is_trapped, trap_rows}
@@ -31,7 +32,7 @@ use Rattle.lwc_switch.specs.Switch.{switched}
 pub data Course (traps : Traps) (t : ℕ) (e : Environment) (x : Thread) (call : Option ℕ) (o k : Outcome) (later : Traps) : Type 0 where
   Kernel : o ≡ k → later ≡ traps → Course traps t e x call o k later
   Stays : o.environment ≡ e → o.thread.context ≡ x.context → later ≡ traps → Course traps t e x call o k later
-  OneMore : (d : Name) → call ≡ Some LW_TRAP → o.environment ≡ e → o.thread.context ≡ x.context → is_trapped traps d ≡ false → later ≡ fm.insert traps d x.context → Course traps t e x call o k later
+  OneMore : (d : Name) → call ≡ Some LW_TRAP → first_refusal (trap_rows traps e.world x.context x.regs) ≡ None → d ≡ (link e.world x.context x.regs).0 → o.environment ≡ e → o.thread.context ≡ x.context → is_trapped traps d ≡ false → later ≡ fm.insert traps d x.context → Course traps t e x call o k later
   Goes : (m : Name) (slot : ℕ) → fm.get traps x.context ≡ Some m → is_live e.world m ≡ true → lowest_empty e.world m ≡ Some slot →
       o.environment ≡ with_world e (switched e.world x.context t x.regs m slot) → o.thread.context ≡ m → later ≡ traps → Course traps t e x call o k later
 
@@ -67,7 +68,7 @@ module _ (traps : Traps) (t : ℕ) (e : Environment) (x : Thread) where
   by_rows : (number : ℕ) (k : Outcome) → number ≡ LW_TRAP → (first : Option TrapRefusal) → first_refusal rows ≡ first →
       Runs (Some number) (unchanged e (trapping x first)) k (trapped_by traps e.world x.context x.regs first)
   by_rows number k same (Some refusal) is = Stays refl refl refl
-  by_rows number k same None is = OneMore _ (ap Some same) refl refl (fresh-trap traps e.world x.context x.regs is).new refl
+  by_rows number k same None is = OneMore _ (ap Some same) is refl refl refl (fresh-trap traps e.world x.context x.regs is).new refl
 
   by_free : (number : ℕ) (b : Bool) → eqb number LW_TRAP ≡ b → is_trapped traps x.context ≡ false →
       Runs (Some number) (cond b (unchanged e (trapping x (first_refusal rows))) (cond (is_forbidden traps number e.world x.context x.regs) (unchanged e (refused_by x TRAPPED)) (guest_calls number t e x))) (guest_calls number t e x)

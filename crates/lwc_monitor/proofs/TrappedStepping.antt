@@ -39,7 +39,7 @@ use Rattle.lwc_monitor.specs.Steps.{Monitored, call_by, call_next, call_of, moni
 use Rattle.lwc_switch.specs.Switch.{switched}
 use Rattle.lwc_monitor.proofs.TrappedArriving.{enters, registers}
 use Rattle.lwc_monitor.proofs.TrappedCourses.{Arrives, Course, Goes, Kernel, OneMore, Rests, Stays, Stores, TrappedCourse, next_course, trapped_course}
-use Rattle.lwc_monitor.specs.Contexts.{ChangesThread, GoesTo, GoesToIt, LeavesAllBut, LeavesButPages, LeavesContexts, LeavesThreads, OfATrap, OfTheKernel, OfTheThread, StaysThere, ToTheMonitor}
+use Rattle.lwc_monitor.specs.Contexts.{ChangesThread, GoesTo, GoesToIt, IsIn, LeavesAllBut, LeavesButPages, LeavesContexts, LeavesThreads, OfATrap, OfTheKernel, OfTheThread, StaysThere, ToTheMonitor}
 use Rattle.lwc_monitor.specs.Traps.{Traps}
 
 -- a thread of the same context leaves the contexts of threads
@@ -132,15 +132,18 @@ module _ (inputs : Inputs) (steps : ℕ) (s : Monitored) (t : ℕ) (kept : IsKep
           channels = ap (λ (e : Environment). e.channels) made;
         }
 
+    stays : (made : AfterStep) → made.thread.context ≡ x.context → (y : Thread) → slice_get m.threads t ≡ Some y → IsIn (after_outcome m t (Some made)) t y.context
+    stays made here y is = let same : x ≡ y = cc in (made.thread, found_set m.threads t x made.thread found, subst (λ (z : Thread). made.thread.context ≡ z.context) same here)
+
     changes_thread : (o : Outcome) → o.environment ≡ m.environment → o.thread.context ≡ x.context → ChangesThread m (left o) t
-    changes_thread o same here = record { others = others o; environment = stays_world o same here }
+    changes_thread o same here = record { others = others o; stays = stays (only None (counted (x.budget - 1) o)) here; environment = stays_world o same here }
 
     by_course : (o k : Outcome) (call : Option ℕ) → call_of m x ≡ call → Course s.traps t m.environment (advanced_thread m x) call o k (after_call call) → left k ≡ step m t →
         LeavesContexts s (trapped_in (after_call call) (left o)) t
     by_course o k call comes (Kernel same stay) is = subst (λ (traps : Traps). LeavesContexts s (trapped_in traps (left o)) t) (sym stay) (kernel (left o) (ap left same ∙ is))
     by_course o k call comes (Stays same here stay) is = OfTheThread (changes_thread o same here) (kept_traps call (left o) (stays_world o same here) ∙ stay)
-    by_course o k call comes (OneMore d traps same here new more) is =
-        OfATrap x d found (comes ∙ traps) (changes_thread o same here) new (kept_traps call (left o) (stays_world o same here) ∙ more)
+    by_course o k call comes (OneMore d traps accepted named same here new more) is =
+        OfATrap x d found (comes ∙ traps) (changes_thread o same here) (record { accepted = accepted; named = named }) new (kept_traps call (left o) (stays_world o same here) ∙ more)
     by_course o k call comes (Goes d slot trapped live lowest made arrived stay) is =
         ToTheMonitor x d found trapped (went o d slot live lowest made arrived) (ap (λ (traps : Traps). fm.retain_keys traps (is_live (world_of (left o)))) stay)
 
@@ -208,8 +211,8 @@ module _ (inputs : Inputs) (steps : ℕ) (s : Monitored) (t : ℕ) (kept : IsKep
           ∙ (ap (λ l. with_world m.environment (life.reap v l)) names ∙ ap (with_world m.environment) (reap-reaped v (roots m.threads m.serve) reaped))
 
       by_trapped : (o : Outcome) → TrappedCourse t m.environment (advanced_thread m x) d o → LeavesAllBut s (left o) t x d
-      by_trapped o (Rests same here) = StaysThere (others o) (stays_all (left o) (stays_world o same here))
-      by_trapped o (Stores piece v is made here) = StaysThere (others o) (stores_pages piece v is (left o) (stored_left o piece v is made here))
+      by_trapped o (Rests same here) = StaysThere (others o) (stays (only None (counted (x.budget - 1) o)) here x found) (stays_all (left o) (stays_world o same here))
+      by_trapped o (Stores piece v is made here) = StaysThere (others o) (stays (only None (counted (x.budget - 1) o)) here x found) (stores_pages piece v is (left o) (stored_left o piece v is made here))
       by_trapped o (Arrives slot live lowest made arrived) = GoesToIt (went o d slot live lowest made arrived)
 
       -- a thread that is idle ends, as a run serves nothing
@@ -224,9 +227,9 @@ module _ (inputs : Inputs) (steps : ℕ) (s : Monitored) (t : ℕ) (kept : IsKep
       trapped_status status.Running =
           subst (λ (k : Machine). LeavesAllBut s k t x d) (sym (is_left calls))
           (by_trapped (outcome calls) (trapped_course s.traps t m.environment (advanced_thread m x) d trapped (advanced m.text x.regs).next))
-      trapped_status status.Idle = StaysThere (left_others (thread_outcome calls t m.environment None m.text x status.Idle)) (stays_all _ (idle_rests _ refl))
-      trapped_status (status.Done code) = StaysThere (left_others None) (stays_all _ refl)
-      trapped_status (status.Faulted f) = StaysThere (left_others None) (stays_all _ refl)
+      trapped_status status.Idle = StaysThere (left_others (thread_outcome calls t m.environment None m.text x status.Idle)) (stays (only None (unchanged m.environment (with_status x (status.Done 0)))) refl x found) (stays_all _ (idle_rests _ refl))
+      trapped_status (status.Done code) = StaysThere (left_others None) (x, found, refl) (stays_all _ refl)
+      trapped_status (status.Faulted f) = StaysThere (left_others None) (x, found, refl) (stays_all _ refl)
 
       trapped_leaves : LeavesAllBut s (step_by calls m t) t x d
       trapped_leaves = subst (λ (k : Machine). LeavesAllBut s k t x d) (sym (with_serve calls)) (trapped_status x.status)

@@ -1,5 +1,5 @@
 -- What a step under traps leaves of each context.
-use Rattle.std.specs.Prelude.{◌≡◌, ◌≢◌, ◌⊎◌, ℕ, Option, Some, false, slice_get, true}
+use Rattle.std.specs.Prelude.{◌≡◌, ◌≢◌, ◌⊎◌, ℕ, None, Option, Some, false, slice_get, true}
 use Rattle.std.specs.FinMap as fm
 use Rattle.confinement.specs.Confined.{Enters, IsConfined, IsLiveInBoth}
 use Rattle.confinement.specs.May.{world_of}
@@ -10,6 +10,7 @@ use Rattle.kernel_core.specs.declared.thread.Thread.{Thread}
 use Rattle.lwc_base.specs.Cells.{value_at}
 use Rattle.lwc_base.specs.Keys.{ValueOf}
 use Rattle.lwc_base.specs.Modes.{IsKey}
+use Rattle.lwc_base.specs.Refusals.{first_refusal}
 use Rattle.lwc_base.specs.Rights.{right_at}
 use Rattle.lwc_base.specs.World.{context, is_live}
 use Rattle.lwc_base.specs.declared.cell.Cell.{Cell}
@@ -18,8 +19,9 @@ use Rattle.lwc_base.specs.declared.key.Key.{Key}
 use Rattle.lwc_base.specs.declared.key.Key.TheVariants.{Cred, Page, Slot}
 use Rattle.lwc_base.specs.declared.name.Name.{Name}
 use Rattle.lwc_base.specs.declared.page.PageValue.{PageValue}
-use Rattle.lwc_monitor.specs.Steps.{Monitored, call_of}
-use Rattle.lwc_monitor.specs.Traps.{is_trapped}
+use Rattle.lwc_monitor.specs.Steps.{Monitored, advanced_thread, call_of}
+use Rattle.lwc_monitor.specs.Traps.{is_trapped, trap_rows}
+use Rattle.lwc_overlay.specs.Named.{link}
 use Rattle.lwc_monitor.specs.declared.numbers.TheConstants.{LW_TRAP}
 
 -- each context begins with the same registers, and keeps the same, but for those of a thread in one
@@ -37,9 +39,10 @@ IsIn m t c = (x : Thread) × (slice_get m.threads t ≡ Some x) × (x.context �
 abbrev pub LeavesThreads : Machine → Machine → ℕ → Type 0
 LeavesThreads m after t = (u : ℕ) → t ≢ u → slice_get after.threads u ≡ slice_get m.threads u
 
--- a step changes its thread alone
+-- a step changes its thread alone, which stays in its context
 pub record ChangesThread (m after : Machine) (t : ℕ) : Type 0 where
   pub others : LeavesThreads m after t
+  pub stays : (x : Thread) → slice_get m.threads t ≡ Some x → IsIn after t x.context
   pub environment : after.environment ≡ m.environment
 
 -- a step takes its thread to a monitor, which gets one descriptor, of the context that the thread was in, without a key
@@ -54,6 +57,12 @@ pub record GoesTo (m after : Machine) (t : ℕ) (x : Thread) (d : Name) : Type 0
 abbrev pub KeepsTraps : Monitored → Monitored → Type 0
 KeepsTraps s after = after.traps ≡ fm.retain_keys s.traps (is_live (world_of after.machine))
 
+-- the call that traps is accepted: no row of its table holds, and the slot in r1 has a descriptor of the context
+pub record IsTaken (s : Monitored) (x : Thread) (d : Name) : Type 0 where
+  pub accepted :
+      first_refusal (trap_rows s.traps (world_of s.machine) x.context (advanced_thread s.machine x).regs) ≡ None
+  pub named : d ≡ (link (world_of s.machine) x.context (advanced_thread s.machine x).regs).0
+
 -- a step under traps is the kernel's, and confined; or it changes its thread alone; or, by the call that traps, its
 -- thread, and one context more is trapped by the thread's; or it takes a thread of a trapped context to its monitor
 pub data LeavesContexts (s after : Monitored) (t : ℕ) : Type 0 where
@@ -61,7 +70,7 @@ pub data LeavesContexts (s after : Monitored) (t : ℕ) : Type 0 where
       LeavesContexts s after t
   OfTheThread : ChangesThread s.machine after.machine t → after.traps ≡ s.traps → LeavesContexts s after t
   OfATrap : (x : Thread) (d : Name) → slice_get s.machine.threads t ≡ Some x → call_of s.machine x ≡ Some LW_TRAP →
-      ChangesThread s.machine after.machine t → is_trapped s.traps d ≡ false →
+      ChangesThread s.machine after.machine t → IsTaken s x d → is_trapped s.traps d ≡ false →
       after.traps ≡ fm.insert s.traps d x.context → LeavesContexts s after t
   ToTheMonitor : (x : Thread) (m : Name) → slice_get s.machine.threads t ≡ Some x → fm.get s.traps x.context ≡ Some m →
       GoesTo s.machine after.machine t x m → KeepsTraps s after → LeavesContexts s after t
@@ -94,8 +103,9 @@ pub record LeavesButPages (m after : Machine) (d : Name) : Type 0 where
       (context (world_of after) e).saved s ≡ (context (world_of m) e).saved s
   pub channels : after.environment.channels ≡ m.environment.channels
 
--- a step of a thread in a trapped context takes it to the monitor; or it leaves the other threads, and all but values
--- of the context's pages
+-- a step of a thread in a trapped context takes it to the monitor; or it leaves the thread there, the other threads, and
+-- all but values of the context's pages
 pub data LeavesAllBut (s : Monitored) (after : Machine) (t : ℕ) (x : Thread) (m : Name) : Type 0 where
   GoesToIt : GoesTo s.machine after t x m → LeavesAllBut s after t x m
-  StaysThere : LeavesThreads s.machine after t → LeavesButPages s.machine after x.context → LeavesAllBut s after t x m
+  StaysThere : LeavesThreads s.machine after t → IsIn after t x.context → LeavesButPages s.machine after x.context →
+      LeavesAllBut s after t x m

@@ -1,5 +1,5 @@
 -- The report of a run or a serve.
-use Rattle.std.specs.Prelude.{ℕ, List, [], ◌++◌, length}
+use Rattle.std.specs.Prelude.{◌≡◌, ◌≤◌, ℕ, List, [], ◌++◌, length, take}
 use Rattle.std.specs.FinMap as fm
 use Rattle.std.specs.List.{flat_map, range_with_len}
 use Rattle.std.specs.Option.{option_map_or}
@@ -59,3 +59,7 @@ stream_text inputs steps = replies_text (run (start inputs) steps) ++ rest_after
 -- the report of the steps of a schedule that are kept
 unfoldable pub report_of_schedule : Inputs → List ℕ → List ℕ
 report_of_schedule inputs schedule = report_after inputs (kept (start inputs) schedule)
+
+-- steps are those that are kept of some of a schedule's first steps
+abbrev pub IsOfSome : Machine → List ℕ → List ℕ → Type 0
+IsOfSome m schedule steps = (n : ℕ) × (n ≤ length schedule) × (steps ≡ kept m (take n schedule))

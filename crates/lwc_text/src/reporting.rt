@@ -1,6 +1,6 @@
 //! The report of a run.
 
-ghost use Rattle.std.specs.Prelude.{◌≡◌, ◌++◌, [], IfOk, OnOk};
+ghost use Rattle.std.specs.Prelude.{◌≡◌, ◌++◌, [], IfOk, OnErr, OnOk, length, take};
 ghost use Rattle.std.specs.FinMap as fm;
 ghost use Rattle.kernel_core.specs.Kernel.{machine_of};
 ghost use Rattle.kernel_core.specs.Runs.{frames_of, peak};
@@ -77,10 +77,25 @@ fn threads_text<W: World>(alloc: Global, k: &Kernel<W>) -> Result<Vec<u8>, OutOf
     Ok(text)
 }
 
-/// Appends the lines of all contexts, in the order of their names. The only error is out of memory.
-#[tactic(auto, using(crate::proofs::Machines::live_names), unfolding(crate::specs::Report::contexts_text))]
+/// Appends the lines of all contexts, in the order of their names. The only error is out of memory, and nothing is
+/// appended then.
 pub fn context_lines<W: World>(out: &mut Vec<u8>, world: &W) -> Result<(), OutOfMemory>
-    ensures { OnOk result (out.new.items ≡ out.old.items ++ contexts_text (W.seen world.now)) }
+    ensures ok { OnOk result (out.new.items ≡ out.old.items ++ contexts_text (W.seen world.now)) }
+    ensures err { OnErr result (out.new.items ≡ out.old.items) }
+{
+    let before = out.len();
+    let appended = each_context_line(out, world);
+    if appended.is_err() {
+        out.truncate(before);
+    }
+    appended
+}
+
+/// Appends the lines of all contexts. After an error there are some of them.
+#[tactic(auto, using(crate::proofs::Machines::live_names), unfolding(crate::specs::Report::contexts_text))]
+fn each_context_line<W: World>(out: &mut Vec<u8>, world: &W) -> Result<(), OutOfMemory>
+    ensures ok { OnOk result (out.new.items ≡ out.old.items ++ contexts_text (W.seen world.now)) }
+    ensures err { OnErr result (take (length out.old.items) out.new.items ≡ out.old.items) }
 {
     'contexts: for i in 0..world.context_count() {
         let Some(name) = world.nth_context(i) else {

@@ -16,7 +16,7 @@ answers-preserved g c =
           let second : get_or xs i w.index-answers-i-then-answers-i.result ≡ get_or xs i d = same_item xs i _ d inside in
           told_next _ _ _ _ _ _ c.answers.invariant inside d _ c.if-answers-i.answers w.answers-is
           (ap (λ a. a.place) (same_item xs i d c.index-answers-i.result inside) ∙ w.if-answers-i.true) refl refl
-          (w.in_ok-answer.ensures ∙ ap (λ a. (get_or xs i d).text.items ++ answer (machine_of c.args.kernel.now) c.args.count c.args.place a.command) second)
+          (w.in_ok-answer.ensures.ok ∙ ap (λ a. (get_or xs i d).text.items ++ answer (machine_of c.args.kernel.now) c.args.count c.args.place a.command) second)
       | else-answers-i w ↦
           let d = c.index-answers-i.result in
           rw w.answers-is (told_elsewhere _ _ _ _ _ _ c.answers.invariant inside d w.if-answers-i.false)

@@ -3,7 +3,7 @@ use Rattle.std.specs.FinMap as fm
 use Rattle.std.specs.List.{flat_map}
 use Rattle.lwc_base.specs.Summaries.{summary_of}
 use Rattle.lwc_text.specs.Lines.{context_line}
-use Rattle.lwc_text.proofs.reporting.context_lines.Given as goal
+use Rattle.lwc_text.proofs.reporting.each_context_line.Given as goal
 
 abbrev pub invariant-contexts : goal.invariant-contexts
 invariant-contexts g l =
