@@ -103,8 +103,8 @@ pub record LeavesButPages (m after : Machine) (d : Name) : Type 0 where
       (context (world_of after) e).saved s ≡ (context (world_of m) e).saved s
   pub channels : after.environment.channels ≡ m.environment.channels
 
--- a step of a thread in a trapped context takes it to the monitor; or it leaves the thread there, the other threads, and
--- all but values of the context's pages
+-- a step of a thread in a trapped context takes it to the monitor; or it leaves the thread there, the other threads,
+-- and all but values of the context's pages
 pub data LeavesAllBut (s : Monitored) (after : Machine) (t : ℕ) (x : Thread) (m : Name) : Type 0 where
   GoesToIt : GoesTo s.machine after t x m → LeavesAllBut s after t x m
   StaysThere : LeavesThreads s.machine after t → IsIn after t x.context → LeavesButPages s.machine after x.context →
