@@ -1,5 +1,5 @@
 -- A store in a context leaves each cell, or it is of a page of the context's own, with a value before and after.
-use Rattle.std.proofs.Common.{◌≡◌, ◌⊎◌, ◌∙◌, inl, inr, ℕ, Bool, true, Option, None, Some, List, [], ◌∷◌, length, ap, refl, subst, sym}
+use Rattle.std.proofs.Common.{◌≡◌, ◌⊎◌, ◌∙◌, inl, inr, ℕ, true, Option, None, Some, List, [], ◌∷◌, length, ap, refl, subst, sym}
 use Rattle.std.proofs.lemmas.Bool.{false≢true}
 use Rattle.confinement.proofs.Decide.{key_or_not, name_or_not}
 use Rattle.lwc_base.proofs.Common.{put-other_cell}

@@ -5,6 +5,7 @@ use Rattle.confinement.specs.Confined.{Enters, IsConfined, IsLiveInBoth}
 use Rattle.confinement.specs.May.{world_of}
 use Rattle.confinement.specs.One.{IsOneValue}
 use Rattle.kernel_core.specs.Machine.{Machine}
+use Rattle.kernel_core.specs.Refused.{advanced_thread}
 use Rattle.kernel_core.specs.Step.{step}
 use Rattle.kernel_core.specs.declared.thread.Thread.{Thread}
 use Rattle.lwc_base.specs.Cells.{value_at}
@@ -19,7 +20,7 @@ use Rattle.lwc_base.specs.declared.key.Key.{Key}
 use Rattle.lwc_base.specs.declared.key.Key.TheVariants.{Cred, Page, Slot}
 use Rattle.lwc_base.specs.declared.name.Name.{Name}
 use Rattle.lwc_base.specs.declared.page.PageValue.{PageValue}
-use Rattle.lwc_monitor.specs.Steps.{Monitored, advanced_thread, call_of}
+use Rattle.lwc_monitor.specs.Steps.{Monitored, call_of}
 use Rattle.lwc_monitor.specs.Traps.{is_trapped, trap_rows}
 use Rattle.lwc_overlay.specs.Named.{link}
 use Rattle.lwc_monitor.specs.declared.numbers.TheConstants.{LW_TRAP}

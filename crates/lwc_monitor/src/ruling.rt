@@ -62,7 +62,7 @@ pub fn rule_on_next<W: World>(
 }
 
 /// The ruling on a shared instruction, with the number of the call that it is.
-#[tactic(auto, using(crate::proofs::Rulings::no_call, crate::proofs::Rulings::none_called), unfolding(kernel_core::specs::Step::shared_outcome),)]
+#[tactic(auto, unfolding(kernel_core::specs::Step::shared_outcome))]
 fn rule_on_instr<W: World>(
     traps: &Traps,
     world: &W,

@@ -33,7 +33,6 @@ pub enum TrapRefusal {
 /// # Errors
 ///
 /// `BadFd`, `WrongKind` and `NotCovered`, then `Trapped` and `NotFresh`: the first that holds (`trap_rows`).
-#[tactic(auto, unfolding(crate::specs::Traps::trap_rows, lwc_overlay::specs::Named::link, guest_call::specs::Guest::slot_refusals,),)]
 pub fn trap_target<W: World>(
     traps: &Traps,
     world: &W,
