@@ -1,5 +1,5 @@
 mod Going
 mod Legal
-mod Living
+pub mod Living
 pub mod ScriptLines
 mod Telling

@@ -151,7 +151,7 @@ fn slot_answer<W: World>(
 
 /// Whether a context has the name.
 #[tactic(auto, using(crate::proofs::Living::living))]
-fn is_live<W: World>(world: &W, name: Name) -> bool
+pub fn is_live<W: World>(world: &W, name: Name) -> bool
     ensures { result ≡ is_live (W.seen world.now) name }
 {
     'contexts: for i in 0..world.context_count() {

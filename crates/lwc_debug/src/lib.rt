@@ -9,6 +9,7 @@ mod laws;
 mod moving;
 mod script;
 
+pub use answering::is_live;
 pub use command::{Command, MOST_COMMANDS, Script};
 pub use debugging::{MOST_DEBUGGED_STEPS, debug};
 pub use laws::{each_step_of_a_legal_history_is_made, scripts_are_read_as_spelled};

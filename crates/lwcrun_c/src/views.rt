@@ -3,7 +3,6 @@
 ghost use Rattle.std.specs.Prelude.{◌≡◌, ◌≢◌, Err, IfErr, IfOk, None, OnErr, OnOk, Some, length};
 ghost use Rattle.std.specs.Option.{option_map};
 ghost use Rattle.kernel_core.specs.Kernel.{machine_of, view_of};
-ghost use Rattle.lwc_base.specs.World.{is_live};
 ghost use Rattle.lwc_base.specs.declared.page.TheConstants.{PAGE_BYTES};
 ghost use Rattle.lwcrun_c.specs.Runs.{MayRefuse, Sees, page_at, slot_in, slot_of, state_of, totals_of, world_of};
 
@@ -11,6 +10,7 @@ use crate::runs::{Run, RunError};
 use crate::shapes::{SlotState, ThreadState, Totals};
 use kernel_core::Kernel;
 use lwc_base::{Name, PAGE_BYTES, SLOTS};
+use lwc_debug::is_live;
 use std::alloc::Global;
 use world_face::World;
 
@@ -105,7 +105,7 @@ fn totals<W: World>(kernel: &Kernel<W>) -> Totals
 /// # Errors
 ///
 /// `Missing` where there is none.
-#[tactic(auto, using(crate::proofs::Living::no_view))]
+#[tactic(auto, using(lwc_debug::proofs::Living::no_view))]
 fn thread<W: World>(kernel: &Kernel<W>, t: u32) -> Result<ThreadState, RunError>
     ensures state { IfOk result (λ state. option_map state_of (view_of (machine_of kernel.now) t) ≡ Some state) }
     ensures missing { IfErr result (λ error.
@@ -164,20 +164,4 @@ fn slot<W: World>(kernel: &Kernel<W>, name: Name, n: u32) -> Result<SlotState, R
         return Err(RunError::Missing);
     }
     Ok(SlotState::of(world.slot(name, n as u8)))
-}
-
-/// Whether a context has the name.
-#[tactic(auto, using(crate::proofs::Living::living))]
-fn is_live<W: World>(world: &W, name: Name) -> bool
-    ensures { result ≡ is_live (W.seen world.now) name }
-{
-    'contexts: for i in 0..world.context_count() {
-        let Some(found) = world.nth_context(i) else {
-            unreachable!();
-        };
-        if found == name {
-            return true;
-        }
-    }
-    false
 }
