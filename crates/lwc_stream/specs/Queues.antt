@@ -8,6 +8,7 @@ use Rattle.crossbeam_queue.specs.Passes.{Pass, view}
 use Rattle.lwc_stream.specs.declared.ends.Ends.{Ends}
 use Rattle.snapshot_host.specs.declared.finishing.Finished.{Finished}
 
+-- what a pass may do, and what it has put in and taken out
 abbrev pub ends : Bool → Bool → List Finished → List Finished → Ends
 ends puts takes put taken = record { puts = puts; takes = takes; put = put; taken = taken }
 
@@ -36,18 +37,23 @@ pub record Joined : Type 0 where
   pub put : List Finished
   pub taken : List Finished
 
+-- the end of this queue through which these replies went
 abbrev pub end_of : TableId → List Finished → End
 end_of queue values = record { queue = queue; values = values }
 
+-- both ends of this queue
 abbrev pub joined_of : TableId → List Finished → List Finished → Joined
 joined_of queue put taken = record { queue = queue; put = put; taken = taken }
 
+-- what contracts see of a pass at the end where replies are put in
 abbrev pub puts_of : Pass Finished Ends → End
 puts_of p = end_of p.table_id (view p).put
 
+-- what contracts see of a pass at the end where replies are taken out
 abbrev pub takes_of : Pass Finished Ends → End
 takes_of p = end_of p.table_id (view p).taken
 
+-- what contracts see of a pass at both ends
 abbrev pub both_of : Pass Finished Ends → Joined
 both_of p = joined_of p.table_id (view p).put (view p).taken
 
@@ -55,8 +61,10 @@ both_of p = joined_of p.table_id (view p).put (view p).taken
 abbrev pub IsPutting : Pass Finished Ends → Type 0
 IsPutting p = ((view p).puts ≡ true) × ((view p).takes ≡ false) × ((view p).taken ≡ [])
 
+-- the pass may take and not put
 abbrev pub IsTaking : Pass Finished Ends → Type 0
 IsTaking p = ((view p).puts ≡ false) × ((view p).takes ≡ true) × ((view p).put ≡ [])
 
+-- the pass may do both
 abbrev pub AreBoth : Pass Finished Ends → Type 0
 AreBoth p = ((view p).puts ≡ true) × ((view p).takes ≡ true)

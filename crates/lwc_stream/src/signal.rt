@@ -4,7 +4,7 @@ use std::hint::spin_loop;
 use std::sync::Wait;
 use std::sync::atomic::{AtomicBool, AtomicU64, Ordering};
 
-/// How often the caller looks for a notice before it sleeps. `docs/DECISIONS.md` has what other numbers cost.
+/// How often the caller looks for a notice before it sleeps.
 const LOOKS: u32 = 1000;
 
 /// How often the caller was notified, how many workers have ended, and whether the caller sleeps. No clause

@@ -7,9 +7,8 @@ ghost use Rattle.lwc_stream.specs.Workers.{HasServed, IsFresh};
 use crate::ends::Puts;
 use crate::signal::Signal;
 use crate::store::Store;
-use guest_machine::advance;
 use lwc_io::Gate;
-use process_core::{Process, ProcessPass};
+use process_core::{Process, ProcessPass, Proposal};
 use std::sync::Wait;
 use world_face::World;
 
@@ -36,13 +35,12 @@ pub(crate) fn serve<R: Wait, W: World, G: Gate>(
     ensures number { worker.new.pass.held.number ≡ worker.old.pass.held.number }
     ensures queue { worker.new.puts.queue ≡ worker.old.puts.queue }
 {
-    let mut advance = advance(process.text(), &worker.pass.last().regs);
+    let mut proposal = Proposal::none();
     let mut turns = 0u64;
     'turns: while !worker.pass.last().has_ended() {
-        let is_proposed = process.propose(&worker.pass, &mut advance);
+        process.propose(&worker.pass, &mut proposal);
         gate.before(rt, worker.pass.thread(), turns);
-        let proposal = if is_proposed { Some(&advance) } else { None };
-        process.make_turn(rt, &mut worker.pass, proposal);
+        process.make_turn(rt, &mut worker.pass, &proposal);
         hand_on(rt, signal, worker);
         turns += 1;
     }

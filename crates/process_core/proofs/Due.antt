@@ -1,5 +1,5 @@
 -- What a pass knows of a kernel that is due for it.
-use Rattle.std.proofs.Common.{◌≡◌, ◌+◌, ◌<◌, ◌≤◌, ◌==◌, ℕ, List, [], ◌∷◌, ◌++◌, length, Option, Some, false, cond, sym, ap, subst, ◌∙◌, arith, append_assoc}
+use Rattle.std.proofs.Common.{◌≡◌, ◌<◌, ◌≤◌, ◌==◌, ℕ, List, [], ◌∷◌, ◌++◌, length, Some, false, cond, sym, ap, subst, ◌∙◌, arith, append_assoc}
 use Rattle.std.proofs.lemmas.List.Sums.{sum_by-append}
 use Rattle.kernel_core.specs.Histories.{GoesOn, IsLegal, steps_by, turn_after}
 use Rattle.kernel_core.specs.Kernel.{History, machine_of, turn}

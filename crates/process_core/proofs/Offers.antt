@@ -1,6 +1,5 @@
 -- What a turn adds to a history, and lists that agree at each place.
 use Rattle.std.proofs.Common.{◌≡◌, ◌+◌, ◌<◌, ◌==◌, ℕ, suc, cond, List, [], ◌∷◌, ◌++◌, length, get_or, map, refl, ap, ◌∙◌, arith, length-append}
-use Rattle.std.proofs.lemmas.Bool.Decides.{nat_tests}
 use Rattle.std.proofs.lemmas.List.Sums.{sum_by-append}
 use Rattle.kernel_core.proofs.Others.{steps-one}
 use Rattle.kernel_core.specs.Histories.{GoesOn, steps_by}

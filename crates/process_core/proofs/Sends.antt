@@ -10,10 +10,10 @@ use Rattle.guest_isa.specs.contracts.text.Text as text
 use Rattle.guest_image.specs.contracts.image.Image as image
 use Rattle.guest_image.specs.contracts.image.Vault as vault
 use Rattle.kernel_core.specs.contracts.kernel.Kernel as kernel
+use Rattle.kernel_core.specs.contracts.thread.Turn as turn
 use Rattle.process_core.specs.contracts.guarded.Guarded as guarded
 use Rattle.process_core.specs.contracts.passes.ProcessPass as carried
 use Rattle.process_core.specs.contracts.process.Process as process
-use Rattle.process_core.specs.contracts.slip.Slip as slip
 use Rattle.atomic_table.proofs.send_lease.SendLease.TheSendSync as lease
 use Rattle.atomic_table.proofs.shared.Seat.TheSendSync as seat
 use Rattle.atomic_table.proofs.shared.Shared.TheSendSync as shared
@@ -51,11 +51,11 @@ lock_sync : (S N : RattleType) (g : Ghosts S.Denot N.Denot) → IsSend S → IsS
 lock_sync S N g s = search (sendable, crosses, shared.the_sync, lease.the_sync) depth 80 fits 20000
 
 -- of a process
-slip_send : IsSend slip.the_row
-slip_send = search (sendable, crosses) depth 80 fits 20000
+turn_send : IsSend turn.the_row
+turn_send = search (sendable, crosses) depth 80 fits 20000
 
 pub carried_send : (W : RattleType) (g : world.Ghosts W.Denot) → IsSend W → IsSend (carried.the_row W g)
-carried_send W g s = search (sendable, crosses, pass_send, guarded_send, slip_send) depth 80 fits 20000
+carried_send W g s = search (sendable, crosses, pass_send, guarded_send, turn_send) depth 80 fits 20000
 
 text_sync : IsSync text.the_row
 text_sync = search (sendable, crosses) depth 80 fits 20000

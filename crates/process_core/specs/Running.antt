@@ -1,5 +1,6 @@
 -- What contracts see of a process and of its passes.
-use Rattle.std.specs.Prelude.{◌≡◌, ◌<◌, ◌≤◌, ℕ, List, All, Contains, None, Some, length, map}
+use Rattle.std.specs.Prelude.{◌≡◌, ◌<◌, ◌≤◌, ℕ, Bool, false, true, List, All, Contains, Option, None, Some, length, map}
+use Rattle.guest_machine.specs.declared.progress.Advance.{Advance}
 use Rattle.kernel_core.specs.Histories.{IsLegal, turn_after}
 use Rattle.kernel_core.specs.Start.{Inputs, start, thread_count}
 use Rattle.kernel_core.specs.declared.thread.Turn.{Turn}
@@ -14,6 +15,11 @@ use Rattle.turnstile.specs.Passes.{Held, Lock}
 pub record Carried : Type 0 where
   pub held : Held Opened
   pub last : Turn
+
+-- what is proposed, where something is
+abbrev pub proposed : Bool → Advance → Option Advance
+proposed false a = None
+proposed true a = Some a
 
 -- a turn of a thread that has made no step and has no registers
 abbrev pub no_turn : Turn

@@ -1,5 +1,5 @@
 //! The kernel as the lock guards it.
-ghost use Rattle.std.specs.Prelude.{◌≡◌, ◌≤◌, ◌+◌, ◌<◌, ◌++◌, ◌∷◌, [], false, true, Some, length};
+ghost use Rattle.std.specs.Prelude.{◌≡◌, ◌≤◌, ◌+◌, ◌<◌, ◌++◌, ◌∷◌, [], false, true, IfSome, Some, length};
 ghost use Rattle.guest_machine.specs.Advances.{advanced};
 ghost use Rattle.kernel_core.specs.Histories.{IsLegal};
 ghost use Rattle.kernel_core.specs.Kernel.{machine_of, stepped, turn};
@@ -8,8 +8,8 @@ ghost use Rattle.kernel_core.specs.Start.{start, thread_count};
 ghost use Rattle.lwc_base.specs.declared.limits.TheConstants.{MOST_STEPS};
 
 use crate::opened::Opened;
-use crate::slip::Slip;
-use kernel_core::Kernel;
+use crate::proposal::Proposal;
+use kernel_core::{Kernel, Turn};
 use lwc_base::OutOfMemory;
 use turnstile::Turned;
 use world_face::World;
@@ -41,23 +41,22 @@ impl<W: World> Turned for Guarded<W> {
     ghost short = { λ g. omega (arith, g.whole, g.few) };
 }
 
-/// A step of a thread that has not ended, with room for it. Notes in the slip what it left.
-fn step_kernel<W: World>(kernel: &mut Kernel<W>, t: u32, slip: &mut Slip)
+/// A step of a thread that has not ended, with room for it. Notes in `last` what it left.
+fn step_kernel<W: World>(kernel: &mut Kernel<W>, t: u32, proposal: &Proposal, last: &mut Turn)
     requires roomy { W.roomy ≡ true }
     requires within { t < thread_count kernel.old.inputs }
     requires going { is_ended (machine_of kernel.old) t ≡ false }
     requires room { work (machine_of kernel.old) ≤ kernel.old.room }
-    requires proposal { slip.old.is_proposed ≡ true →
-        slip.old.proposal ≡ advanced kernel.old.inputs.image.text slip.old.proposal.before }
+    requires proposal { IfSome proposal.now (λ a. a ≡ advanced kernel.old.inputs.image.text a.before) }
     ensures step { kernel.new ≡ stepped kernel.old t }
-    ensures turn { turn kernel.new t ≡ Some slip.new.last }
+    ensures turn { turn kernel.new t ≡ Some last.new }
     ensures some { 0 < kernel.old.room }
     ensures room { kernel.new.room + 1 ≡ kernel.old.room }
     ensures work { work (machine_of kernel.new) < work (machine_of kernel.old) }
 {
     kernel.was_opened();
-    match kernel.make_step(t, slip.proposal()) {
-        Ok(finished) => kernel.note_turn(t, finished, &mut slip.last),
+    match kernel.make_step(t, proposal.get()) {
+        Ok(finished) => kernel.note_turn(t, finished, last),
         Err(OutOfMemory) => unreachable!(),
     }
 }
@@ -76,19 +75,24 @@ pub(crate) fn guard<W: World>(kernel: Box<Kernel<W>>) -> Guarded<W>
 }
 
 impl<W: World> Guarded<W> {
-    /// A step of a thread that has not ended. What it left is noted in the slip.
-    pub(crate) fn make_step(&mut self, t: u32, mut slip: Box<Slip>) -> Box<Slip>
+    /// A step of a thread that has not ended. What it left is noted in the box, which comes back.
+    pub(crate) fn make_step(
+        &mut self,
+        t: u32,
+        proposal: &Proposal,
+        mut last: Box<Turn>,
+    ) -> Box<Turn>
         requires within { t < thread_count self.old.kernel.value.inputs }
         requires going { is_ended (machine_of self.old.kernel.value) t ≡ false }
-        requires proposal { slip.value.is_proposed ≡ true → slip.value.proposal
-            ≡ advanced self.old.kernel.value.inputs.image.text slip.value.proposal.before }
+        requires proposal { IfSome proposal.now (λ a. a
+            ≡ advanced self.old.kernel.value.inputs.image.text a.before) }
         ensures inputs { self.new.kernel.value.inputs ≡ self.old.kernel.value.inputs }
         ensures room { self.new.first_room ≡ self.old.first_room }
         ensures steps { self.new.kernel.value.steps ≡ self.old.kernel.value.steps ++ t ∷ [] }
-        ensures turn { turn self.new.kernel.value t ≡ Some result.value.last }
+        ensures turn { turn self.new.kernel.value t ≡ Some result.value }
     {
-        step_kernel(&mut self.kernel, t, &mut slip);
-        slip
+        step_kernel(&mut self.kernel, t, proposal, &mut last);
+        last
     }
 
     /// The kernel.

@@ -12,8 +12,9 @@ mod opened;
 mod opening;
 mod passes;
 mod process;
-mod slip;
+mod proposal;
 
 pub use opened::Opened;
 pub use passes::{ProcessPass, ProcessPasses};
 pub use process::Process;
+pub use proposal::Proposal;

@@ -11,7 +11,6 @@ ghost use Rattle.turnstile.specs.Passes.{Held};
 
 use crate::guarded::Guarded;
 use crate::passes::{ProcessPass, ProcessPasses};
-use crate::slip::Slip;
 use kernel_core::{Kernel, Turn};
 use lwc_base::OutOfMemory;
 use std::alloc::Global;
@@ -57,8 +56,8 @@ pub(crate) fn hand_out<W: World>(
 {
     'held: while !held.is_empty() {
         let pass = held.remove(0);
-        let slip = Box::new(alloc, Slip::new(turns[passes.len()].same()))?;
-        passes.push_reserved(ProcessPass::new(pass, slip));
+        let last = Box::new(alloc, turns[passes.len()].same())?;
+        passes.push_reserved(ProcessPass::new(pass, last));
     }
     Ok(passes)
 }

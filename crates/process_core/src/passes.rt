@@ -2,7 +2,6 @@
 ghost use Rattle.std.specs.Prelude.{◌≡◌};
 
 use crate::guarded::Guarded;
-use crate::slip::Slip;
 use kernel_core::Turn;
 use std::marker::Model;
 use turnstile::{HoldsPass, Pass};
@@ -14,8 +13,8 @@ use world_face::World;
 #[derive(Drop)]
 pub struct ProcessPass<W: World> {
     pub(crate) pass: Pass<Guarded<W>>,
-    // The slip goes into each turn and comes back. It is away only while the turn is made.
-    pub(crate) slip: Option<Box<Slip>>,
+    // The box goes into each turn and comes back. It is away only while the turn is made.
+    pub(crate) last: Option<Box<Turn>>,
 }
 
 /// The passes of a process, at `open` in the order of their threads.
@@ -30,10 +29,10 @@ impl<W: World> Model for ProcessPass<W> {
 
     ghost view = { λ p. record {
       held = p.pass;
-      last = unwrap_or (option_map (λ b. b.value.last) p.slip) no_turn;
+      last = unwrap_or (option_map (λ b. b.value) p.last) no_turn;
     } };
 
-    ghost invariant = { λ p. is_some p.slip ≡ true };
+    ghost invariant = { λ p. is_some p.last ≡ true };
 }
 
 impl<W: World> HoldsPass<Guarded<W>> for ProcessPass<W> {
@@ -44,19 +43,19 @@ impl<W: World> HoldsPass<Guarded<W>> for ProcessPass<W> {
     }
 
     fn into_pass(self) -> Pass<Guarded<W>> {
-        let ProcessPass { pass, slip: _ } = self;
+        let ProcessPass { pass, last: _ } = self;
         pass
     }
 }
 
 impl<W: World> ProcessPass<W> {
-    /// The pass of the lock with the slip of its thread.
-    pub(crate) fn new(pass: Pass<Guarded<W>>, slip: Box<Slip>) -> ProcessPass<W>
-        ensures { result ≡ record { held = pass; last = slip.value.last } }
+    /// The pass of the lock with the last turn of its thread.
+    pub(crate) fn new(pass: Pass<Guarded<W>>, last: Box<Turn>) -> ProcessPass<W>
+        ensures { result ≡ record { held = pass; last = last.value } }
     {
         ProcessPass {
             pass,
-            slip: Some(slip),
+            last: Some(last),
         }
     }
 
@@ -71,8 +70,8 @@ impl<W: World> ProcessPass<W> {
     pub fn last(&self) -> &Turn
         ensures { result.now ≡ self.now.last }
     {
-        match &self.slip {
-            Some(slip) => &slip.last,
+        match &self.last {
+            Some(last) => last,
             None => unreachable!(),
         }
     }

@@ -1,6 +1,6 @@
 //! A process, as its callers see it.
 ghost use Rattle.std.specs.Prelude.{◌≡◌, ◌<◌, ◌≤◌, ◌+◌, ℕ, [], ◌∷◌, ◌++◌, false, true, length, All};
-ghost use Rattle.std.specs.Prelude.{IfOk, IfSome, Some, slice_get};
+ghost use Rattle.std.specs.Prelude.{IfOk, IfSome, None, Some, slice_get};
 ghost use Rattle.guest_machine.specs.Advances.{advanced};
 ghost use Rattle.kernel_core.specs.Histories.{GoesOn, IsComplete, IsLegal, turn_after};
 ghost use Rattle.kernel_core.specs.Kernel as kernels;
@@ -14,7 +14,7 @@ ghost use Rattle.turnstile.specs.Past.{Knows};
 use crate::guarded::{Guarded, guard};
 use crate::opening::{first_turns, hand_out};
 use crate::passes::{ProcessPass, ProcessPasses};
-use crate::slip::{Slip, advance_to};
+use crate::proposal::Proposal;
 use guest_isa::Text;
 use guest_machine::Advance;
 use kernel_core::{Kernel, Turn};
@@ -49,22 +49,22 @@ impl<W: World> Model for Process<W> {
         × (p.gate.seats ≡ thread_count p.gate.name.inputs) × (p.threads ≡ thread_count p.gate.name.inputs) };
 }
 
-/// One step of the pass's thread, which its last turn had not ended. What it left is noted in the slip.
+/// One step of the pass's thread, which its last turn had not ended. What it left is noted in the box.
 fn take_turn<R: Wait, W: World>(
     gate: &Turnstile<Guarded<W>>,
     rt: &R,
     pass: &mut Pass<Guarded<W>>,
-    slip: Box<Slip>,
-) -> Box<Slip>
+    proposal: &Proposal,
+    last: Box<Turn>,
+) -> Box<Turn>
     requires ours { gates.IsPassOf gate.now pass.old }
     requires within { pass.old.number < thread_count gate.now.name.inputs }
-    requires knows { Leaves gate.now.name.inputs pass.old.number pass.old.seen slip.value.last }
-    requires going { has_ended slip.value.last.status ≡ false }
-    requires proposal { slip.value.is_proposed ≡ true →
-        slip.value.proposal ≡ advanced gate.now.name.inputs.image.text slip.value.proposal.before }
+    requires knows { Leaves gate.now.name.inputs pass.old.number pass.old.seen last.value }
+    requires going { has_ended last.value.status ≡ false }
+    requires proposal { IfSome proposal.now (λ a. a ≡ advanced gate.now.name.inputs.image.text a.before) }
     ensures ours { gates.IsPassOf gate.now pass.new }
     ensures number { pass.new.number ≡ pass.old.number }
-    ensures leaves { Leaves gate.now.name.inputs pass.new.number pass.new.seen result.value.last }
+    ensures leaves { Leaves gate.now.name.inputs pass.new.number pass.new.seen result.value }
     ensures goes_on { GoesOn pass.old.number pass.old.seen pass.new.seen }
     ensures later { pass.old.noted < length pass.new.seen }
     ensures noted { pass.old.noted ≤ pass.new.noted }
@@ -73,16 +73,16 @@ fn take_turn<R: Wait, W: World>(
     gate.with_turn(
         rt,
         pass,
-        move |guarded: &mut Guarded<W>| -> Box<Slip>
+        move |guarded: &mut Guarded<W>| -> Box<Turn>
             requires { (t < thread_count guarded.now.kernel.value.inputs)
                 × (is_ended (machine_of guarded.now.kernel.value) t ≡ false)
-                × (slip.value.is_proposed ≡ true → slip.value.proposal
-                ≡ advanced guarded.now.kernel.value.inputs.image.text slip.value.proposal.before) }
+                × IfSome proposal.now (λ a. a
+                ≡ advanced guarded.now.kernel.value.inputs.image.text a.before) }
             ensures { (guarded.exit.now.kernel.value.inputs ≡ guarded.entry.now.kernel.value.inputs)
                 × (guarded.exit.now.first_room ≡ guarded.entry.now.first_room)
                 × (guarded.exit.now.kernel.value.steps ≡ guarded.entry.now.kernel.value.steps ++ t ∷ [])
-                × (kernels.turn guarded.exit.now.kernel.value t ≡ Some result.value.last) }
-        { guarded.make_step(t, slip) },
+                × (kernels.turn guarded.exit.now.kernel.value t ≡ Some result.value) }
+        { guarded.make_step(t, proposal, last) },
     )
 }
 
@@ -130,20 +130,20 @@ impl<W: World> Process<W> {
         &self.text
     }
 
-    /// Makes the proposal of the pass's next turn in the place of another one, and says so: the advance of the
-    /// registers that the last turn left. A thread that is alone proposes nothing, since nobody waits while it advances
-    /// in its turn. It waits for nobody, and takes no memory.
-    pub fn propose(&self, pass: &ProcessPass<W>, proposal: &mut Advance) -> bool
-        ensures others { 1 < thread_count self.now.name.inputs → (result ≡ true)
-            × (proposal.new ≡ advanced self.now.name.inputs.image.text pass.now.last.regs) }
-        ensures alone { thread_count self.now.name.inputs ≡ 1 → (result ≡ false) × (proposal.new ≡ proposal.old) }
-        ensures fits { result ≡ true → proposal.new ≡ advanced self.now.name.inputs.image.text proposal.new.before }
+    /// Makes the proposal of the pass's next turn: the advance of the registers that the last turn left. A thread that
+    /// is alone proposes nothing, since nobody waits while it advances in its turn. It waits for nobody, and takes no
+    /// memory.
+    pub fn propose(&self, pass: &ProcessPass<W>, proposal: &mut Proposal)
+        ensures others { 1 < thread_count self.now.name.inputs →
+            proposal.new ≡ Some (advanced self.now.name.inputs.image.text pass.now.last.regs) }
+        ensures alone { thread_count self.now.name.inputs ≡ 1 → proposal.new ≡ None }
+        ensures fits { IfSome proposal.new (λ a. a ≡ advanced self.now.name.inputs.image.text a.before) }
     {
         if self.threads == 1 {
-            return false;
+            proposal.clear();
+        } else {
+            proposal.make(&self.text, &pass.last().regs);
         }
-        advance_to(proposal, &self.text, &pass.last().regs);
-        true
     }
 
     /// One step of the pass's thread, or none where its last turn had ended the thread: then that turn is
@@ -173,14 +173,14 @@ impl<W: World> Process<W> {
             pass.old.held.noted < length pass.new.held.seen }
         ensures noted { pass.old.held.noted ≤ pass.new.held.noted }
     {
-        self.make_turn(rt, pass, proposal);
+        self.make_turn(rt, pass, &Proposal::of(proposal));
         pass.last().same()
     }
 
     /// Makes the same turn. It answers nothing, since the pass then has it as its last one.
-    pub fn make_turn<R: Wait>(&self, rt: &R, pass: &mut ProcessPass<W>, proposal: Option<&Advance>)
+    pub fn make_turn<R: Wait>(&self, rt: &R, pass: &mut ProcessPass<W>, proposal: &Proposal)
         requires ours { IsPassOf self.now pass.old }
-        requires proposal { IfSome proposal (λ a. a.now ≡ advanced self.now.name.inputs.image.text a.now.before) }
+        requires proposal { IfSome proposal.now (λ a. a ≡ advanced self.now.name.inputs.image.text a.before) }
         ensures ours { IsPassOf self.now pass.new }
         ensures number { pass.new.held.number ≡ pass.old.held.number }
         ensures legal { IsLegal (start self.now.name.inputs) pass.new.held.seen }
@@ -195,9 +195,8 @@ impl<W: World> Process<W> {
         if pass.last().has_ended() {
             return;
         }
-        if let Some(mut slip) = pass.slip.take() {
-            slip.take(&self.text, proposal);
-            pass.slip = Some(take_turn(&self.gate, rt, &mut pass.pass, slip));
+        if let Some(last) = pass.last.take() {
+            pass.last = Some(take_turn(&self.gate, rt, &mut pass.pass, proposal, last));
         }
     }
 

@@ -235,9 +235,9 @@ fn two_threads_have_their_turns(rt: HostRuntime) -> Result<(), Fail> {
     Ok(())
 }
 
-/// A turn takes longer than a waiting thread tries, so the other one sleeps, and has to be woken.
+/// A turn takes longer than a waiting thread tries, so the other one sleeps, and later asks for the door.
 #[test]
-fn a_thread_that_waits_long_is_woken(rt: HostRuntime) -> Result<(), Fail> {
+fn a_thread_that_waits_long_has_its_turns(rt: HostRuntime) -> Result<(), Fail> {
     assert_eq!(rt; counts_of_both(&rt, 20, 2000)?, [20, 20, 40]);
     Ok(())
 }

@@ -4,10 +4,9 @@ ghost use Rattle.kernel_core.specs.Machine.{has_ended};
 ghost use Rattle.process_core.specs.Running.{IsPassOf};
 ghost use Rattle.thread_carrier.specs.Turned.{HasTurned};
 
-use guest_machine::advance;
 use lwc_base::MOST_THREADS;
 use lwc_io::Gate;
-use process_core::{Process, ProcessPass};
+use process_core::{Process, ProcessPass, Proposal};
 use std::sync::Wait;
 use std::thread;
 use std::thread::Threads;
@@ -36,12 +35,11 @@ pub fn carry<R: Wait, W: World, G: Gate>(
     ensures ended { has_ended carrier.new.pass.last.status ≡ true }
     ensures turns { HasTurned carrier.old.pass carrier.old.turns carrier.new.pass carrier.new.turns }
 {
-    let mut advance = advance(process.text(), &carrier.pass.last().regs);
+    let mut proposal = Proposal::none();
     'turns: while !carrier.pass.last().has_ended() {
-        let is_proposed = process.propose(&carrier.pass, &mut advance);
+        process.propose(&carrier.pass, &mut proposal);
         gate.before(rt, carrier.pass.thread(), carrier.turns);
-        let proposal = if is_proposed { Some(&advance) } else { None };
-        process.make_turn(rt, &mut carrier.pass, proposal);
+        process.make_turn(rt, &mut carrier.pass, &proposal);
         carrier.turns += 1;
     }
 }

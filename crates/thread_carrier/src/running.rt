@@ -22,7 +22,8 @@ use world_face::World;
 ///
 /// # Errors
 ///
-/// The only error is out of memory. No thread has come to the gate then; the process is given up.
+/// The only error is out of memory. The process is then given up, before a thread has come to the gate; no clause says
+/// when.
 pub fn run_threads<R: Threads + Wait + Sync, W: World, G: Gate>(
     rt: &R,
     alloc: Global,

@@ -2,13 +2,13 @@
 //! has ended. So the ticket that it draws is served at once, and where several threads want a turn, the one
 //! that runs may go first. No thread waits for one that has the next turn and no processor.
 //!
-//! The door is an unfair mutex of one word, which is free, taken, or taken and perhaps waited for. All accesses
-//! are sequentially consistent.
+//! The door is a mutex of one word. All accesses are sequentially consistent.
 //!
-//! - A thread tries a few times to make a free word taken. Then it makes the word waited for, whatever it was. If
-//!   the word was free, the thread is through. Else it sleeps while the word is still waited for, and tries again.
-//! - A thread that leaves makes the word free. If it was waited for, it wakes one thread, which then makes the
-//!   word waited for again: others may still sleep there.
+//! - A thread tries a few times to take a free door, with a pause between that doubles, since each look at the word
+//!   takes it away from the processor of the thread that is through. Then it sleeps for a while, looks, and so on.
+//!   Each sleep ends by itself: nobody has to wake it, and no wake-up can be lost.
+//! - A thread that has slept often asks for the door. Whoever leaves it then hands it over: only a thread that has
+//!   slept may take it, and the one that leaves comes after it.
 //!
 //! No clause speaks of any of this: the door is no part of the rule, and the queue guards the state whatever
 //! the door does.
@@ -16,23 +16,45 @@
 use std::hint::spin_loop;
 use std::sync::Wait;
 use std::sync::atomic::{AtomicU64, Ordering};
+use std::time::Duration;
 
 /// Nobody is through the door.
 const FREE: u64 = 0;
 
-/// A thread is through the door, and none sleeps before it.
-const TAKEN: u64 = 1;
+/// Nobody is through the door, and one that has slept is to come next.
+const HANDED: u64 = 1;
 
-/// A thread is through the door, and others may sleep before it.
-const WAITED: u32 = 2;
+/// A thread is through the door.
+const TAKEN: u64 = 2;
+
+/// A thread is through the door, and another has slept often and asks for it.
+const ASKED: u64 = 3;
 
 /// How many times a thread tries before it sleeps.
-const TRIES: u32 = 20;
+const TRIES: u32 = 6;
+
+/// How long a thread sleeps between two looks, in microseconds.
+const NAP: u64 = 50;
+
+/// How often a thread sleeps before it asks for the door.
+const NAPS: u32 = 8;
 
 /// The word that threads come through one at a time.
 #[derive(Drop)]
 pub(crate) struct Door {
     word: AtomicU64,
+}
+
+/// Pauses this many times.
+fn pause(times: u32) {
+    for _ in 0..times {
+        spin_loop();
+    }
+}
+
+/// Sleeps for a while: nobody wakes who sleeps on this word. It may wait.
+fn nap<H: Wait>(rt: &H) {
+    AtomicU64::new(0).park_timeout(rt, 0, Duration::from_micros(NAP));
 }
 
 impl Door {
@@ -43,35 +65,69 @@ impl Door {
         }
     }
 
-    /// Takes the door if it is free.
-    fn try_enter(&self) -> bool {
-        self.word.load(Ordering::SeqCst) == FREE
+    /// Takes the door if it is free, or, where that is the most, handed over.
+    fn try_take(&self, most: u64) -> bool {
+        let found = self.word.load(Ordering::SeqCst);
+        found <= most
             && self
                 .word
-                .compare_exchange(FREE, TAKEN, Ordering::SeqCst, Ordering::SeqCst)
+                .compare_exchange(found, TAKEN, Ordering::SeqCst, Ordering::SeqCst)
                 .is_ok()
+    }
+
+    /// Takes the door by one of a few tries, with a pause after each that doubles.
+    fn try_often(&self, most: u64) -> bool {
+        let mut pauses = 1u32;
+        for _ in 0..TRIES {
+            if self.try_take(most) {
+                return true;
+            }
+            pause(pauses);
+            pauses = pauses.saturating_mul(2);
+        }
+        false
     }
 
     /// Comes through the door. It may wait.
     pub(crate) fn enter<H: Wait>(&self, rt: &H) {
-        for _ in 0..TRIES {
-            if self.try_enter() {
-                return;
-            }
-            spin_loop();
+        if !self.try_often(FREE) {
+            self.enter_late(rt);
         }
+    }
+
+    /// Comes through the door after some sleep. It may wait.
+    fn enter_late<H: Wait>(&self, rt: &H) {
+        let mut naps = 0;
         for _ in rt.forever() {
-            if self.word.swap(u64::from(WAITED), Ordering::SeqCst) == FREE {
+            nap(rt);
+            if self.try_take(HANDED) {
                 return;
             }
-            self.word.park(rt, WAITED);
+            if naps < NAPS {
+                naps += 1;
+                continue;
+            }
+            self.ask();
+            if self.try_often(HANDED) {
+                return;
+            }
         }
+    }
+
+    /// Asks for the door, if it is taken.
+    fn ask(&self) {
+        let _ = self
+            .word
+            .compare_exchange(TAKEN, ASKED, Ordering::SeqCst, Ordering::SeqCst);
     }
 
     /// Lets the next thread come.
     pub(crate) fn leave(&self) {
-        if self.word.swap(FREE, Ordering::SeqCst) == u64::from(WAITED) {
-            self.word.wake_one();
+        let left = self
+            .word
+            .compare_exchange(TAKEN, FREE, Ordering::SeqCst, Ordering::SeqCst);
+        if left.is_err() {
+            self.word.store(HANDED, Ordering::SeqCst);
         }
     }
 }

@@ -5,7 +5,6 @@ use Rattle.kernel_core.specs.Histories.{turn_after}
 use Rattle.kernel_core.specs.declared.thread.Turn.{Turn}
 use Rattle.process_core.specs.Running.{Carried}
 use Rattle.process_core.specs.declared.opened.Opened.{Opened}
-use Rattle.process_core.specs.declared.slip.Slip.{Slip}
 use Rattle.process_core.proofs.Handing.{each_push, held_few, first_of, handed, new_pass}
 use Rattle.turnstile.specs.Passes.{Held}
 use Rattle.process_core.proofs.opening.hand_out.Goals as goal
@@ -15,15 +14,15 @@ held-preserved g c =
     let ps = c.held.passes.items in
     let hs = c.held.held.items in
     let pass = c.remove-pass.result in
-    let last = c.in_ok-slip.slip.value.last in
+    let last = c.in_ok-last.last.value in
     let q : Carried = record { held = pass; last = last } in
     let some : 0 < length hs = grind (arith, nat_tests) in
     let first = first_of hs pass c.remove-pass.new.self.items some c.remove-pass.ensures.value c.remove-pass.ensures.by_index.2 in
     let all = c.args.held.items in
     let rest = c.remove-pass.new.self.items in
-    let now = c.push_reserved.ensures.items ∙ ap (λ (r : Carried). ps ++ r ∷ []) c.new-in-held-2.ensures in
+    let now = c.push_reserved.ensures.items ∙ ap (λ (r : Carried). ps ++ r ∷ []) c.new-in-held.ensures in
     let name = c.args.gate.now.name.inputs in
-    let found : last ≡ get_or c.args.turns.now.items c.len.result last = subst (λ (x : Turn). x ≡ get_or c.args.turns.now.items c.len.result x) (sym (ap (λ (s : Slip). s.last) c.in_ok-slip.ensures.ok ∙ c.new.ensures ∙ c.same.ensures)) c.index.ensures in
+    let found : last ≡ get_or c.args.turns.now.items c.len.result last = subst (λ (x : Turn). x ≡ get_or c.args.turns.now.items c.len.result x) (sym (c.in_ok-last.ensures.ok ∙ c.same.ensures)) c.index.ensures in
     record {
       all = subst (λ (l : List Carried). map (λ (p : Carried). p.held) l ++ rest ≡ all) (sym now)
           (handed ps pass last rest all (subst (λ (l : List (Held Opened)). map (λ (p : Carried). p.held) ps ++ l ≡ all) first c.held.invariant.all));

@@ -1,7 +1,7 @@
 use Rattle.process_core.proofs.Sends.{guarded_send, guarded_sync}
 use Rattle.std.proofs.Crossing.{crosses}
 use denote.Param.Send.{sendable}
-use Rattle.std.proofs.Common.{◌≡◌, ◌∙◌, ◌++◌, ◌∷◌, [], ap, sym, subst, arith, true, ℕ}
+use Rattle.std.proofs.Common.{◌≡◌, ◌∙◌, ◌++◌, ◌∷◌, [], ap, sym, subst, arith, IfSome, ℕ}
 use Rattle.guest_machine.specs.Advances.{advanced}
 use Rattle.kernel_core.specs.Kernel.{History}
 use Rattle.process_core.proofs.Due.{after_turn, named, ready}
@@ -27,7 +27,7 @@ with_turn-requires-clause-callable g c κs lives x due p is =
     let e : p.now.kernel.value ≡ x.kernel.value = cc in
     let s = c.type_bounds.send-W in
     let y = c.type_bounds.sync-W in (
-      ready p.now.kernel.value c.args.gate.now.name.inputs c.args.pass.now.seen c.args.pass.now.number c.number-t.result c.args.slip.value.last (λ i. c.args.slip.value.is_proposed ≡ true → c.args.slip.value.proposal ≡ advanced i.image.text c.args.slip.value.proposal.before)
+      ready p.now.kernel.value c.args.gate.now.name.inputs c.args.pass.now.seen c.args.pass.now.number c.number-t.result c.args.last.value (λ i. IfSome c.args.proposal.now (λ a. a ≡ advanced i.image.text a.before))
           (ap (λ (h : History). h.inputs) e ∙ ap (λ (o : Opened). o.inputs) due.0) (subst (λ (h : History). Knows h.steps c.args.pass.now.number c.args.pass.now.seen) (sym e) due.1)
           c.requires.knows c.requires.going c.requires.within c.requires.proposal c.number-t.ensures,
       (search (sendable, crosses, guarded_send, guarded_sync) depth 80 fits 20000, search (sendable, crosses, guarded_send, guarded_sync) depth 80 fits 20000),
@@ -50,10 +50,10 @@ returns-clause-leaves g c =
     let f = call.3 in
     let e : f.shown.now.kernel.value ≡ call.0.kernel.value = cc in
     let d : call.1.kernel.value ≡ f.left.now.kernel.value = cc in
-    let after = after_turn c.args.gate.now.name.inputs c.args.pass.now.number c.number-t.result c.args.pass.now.seen c.with_turn.new.pass.seen f.shown.now.kernel.value f.left.now.kernel.value c.with_turn.result.value.last
+    let after = after_turn c.args.gate.now.name.inputs c.args.pass.now.number c.number-t.result c.args.pass.now.seen c.with_turn.new.pass.seen f.shown.now.kernel.value f.left.now.kernel.value c.with_turn.result.value
     (ap (λ (h : History). h.inputs) e ∙ ap (λ (o : Opened). o.inputs) call.2.0) (subst (λ (h : History). Knows h.steps c.args.pass.now.number c.args.pass.now.seen) (sym e) call.2.1)
     f.met.0 f.met.2 f.met.3 c.number-t.ensures f.left.now.legal (omega (arith, f.left.now.whole, f.left.now.few)) (call.4 ∙ ap (λ (h : History). h.steps) d) in
-    subst (λ (n : ℕ). Leaves c.args.gate.now.name.inputs n c.with_turn.new.pass.seen c.with_turn.result.value.last) (sym c.with_turn.ensures.number) after.leaves
+    subst (λ (n : ℕ). Leaves c.args.gate.now.name.inputs n c.with_turn.new.pass.seen c.with_turn.result.value) (sym c.with_turn.ensures.number) after.leaves
 
 pub returns-clause-goes_on : goal.returns-clause-goes_on
 returns-clause-goes_on g c =
@@ -61,7 +61,7 @@ returns-clause-goes_on g c =
     let f = call.3 in
     let e : f.shown.now.kernel.value ≡ call.0.kernel.value = cc in
     let d : call.1.kernel.value ≡ f.left.now.kernel.value = cc in
-    let after = after_turn c.args.gate.now.name.inputs c.args.pass.now.number c.number-t.result c.args.pass.now.seen c.with_turn.new.pass.seen f.shown.now.kernel.value f.left.now.kernel.value c.with_turn.result.value.last
+    let after = after_turn c.args.gate.now.name.inputs c.args.pass.now.number c.number-t.result c.args.pass.now.seen c.with_turn.new.pass.seen f.shown.now.kernel.value f.left.now.kernel.value c.with_turn.result.value
     (ap (λ (h : History). h.inputs) e ∙ ap (λ (o : Opened). o.inputs) call.2.0) (subst (λ (h : History). Knows h.steps c.args.pass.now.number c.args.pass.now.seen) (sym e) call.2.1)
     f.met.0 f.met.2 f.met.3 c.number-t.ensures f.left.now.legal (omega (arith, f.left.now.whole, f.left.now.few)) (call.4 ∙ ap (λ (h : History). h.steps) d) in
     after.went
