@@ -40,25 +40,6 @@ fn an_element_is_put_over_another_and_after_it(rt: HostRuntime) -> Result<(), Fa
     Ok(())
 }
 
-/// Counts two steps.
-fn two_steps<L: Ledger>(blank: Blank) -> u64
-    requires name { blank.name ≡ L.name }
-    requires parts { blank.parts ≡ L.parts }
-    requires some { 0 < blank.parts }
-    ensures { result ≡ 2 }
-{
-    let mut steps = Steps::<L>::new(blank);
-    steps.tick();
-    steps.tick();
-    2
-}
-
-#[test]
-fn steps_take_no_bytes(rt: HostRuntime) {
-    let size = std::mem::size_of::<Steps<Brand>>();
-    check_equal(&rt, (size, two_steps::<Brand>(Blank::new(1))), (0, 2));
-}
-
 /// Writes the last byte of a frame, and copies the frame: the last byte and the stamp of the other one.
 fn copied(pool: &mut Pool, from: FrameNo, to: FrameNo) -> (u8, Tag)
     requires from { frame_count pool.old from.n ≡ 1 }
