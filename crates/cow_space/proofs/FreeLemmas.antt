@@ -27,16 +27,10 @@ free-kept (x ∷ xs) (y ∷ ys) size keeps =
 -- each frame is free, or that of one tag of the rows
 pub rows-free : (w : Rows) → rows.free_frames w + different (row_tags (rows.maps w)) ≡ rows.frames_of w
 unfolding rows.free_frames rows.maps rows.frames_of
-rows-free w = let used = used-is w.store.nodes w.store.frames w.trees.items w.kept in let all = free-used w.store.frames in omega (arith, used, all)
+rows-free w = let used = used-is w.store.nodes.all w.store.frames w.trees.items w.kept in let all = free-used w.store.frames in omega (arith, used, all)
 
 pub cells-free : (w : PageCells) → free_frames w + used (cells w) ≡ frames_of w
-unfolding free_frames frames_of
 cells-free w = let all = rows-free w.rows in let tags = used-rows w in omega (arith, all, tags)
-
--- the frames of places are those of their rows
-pub frames-same : (old new : PageCells) → rows.frames_of new.rows ≡ rows.frames_of old.rows → frames_of new ≡ frames_of old
-unfolding frames_of
-frames-same old new same = same
 
 -- as many frames are in use, so as many are free
 pub free-same : (old new : PageCells) → frames_of new ≡ frames_of old → used (cells new) ≡ used (cells old) → free_frames new ≡ free_frames old

@@ -18,41 +18,41 @@ use Rattle.page_tree.specs.declared.store.TheConstants.{PAGES}
 use Rattle.cow_space.specs.declared.rows.TheConstants.{FREE_NODES}
 
 module _ (w : Rows) where
-  pub nodes-left : FREE_NODES ≤ free_of w.store.nodes
-  nodes-left = kept-free w.store.nodes w.store.frames w.trees.items w.kept
+  pub nodes-left : FREE_NODES ≤ free_of w.store.nodes.all
+  nodes-left = kept-free w.store.nodes.all w.store.frames w.trees.items w.kept
 
   pub tree-in : (i : ℕ) → i < length (maps w) → i < length w.trees.items
   unfolding maps
-  tree-in i inside = rows-in w.store.frames w.store.nodes w.trees.items i inside
+  tree-in i inside = rows-in w.store.frames w.store.nodes.all w.trees.items i inside
 
   -- what is read is the tree of a row
   pub tree-read : (i tree : ℕ) → i < length (maps w) → tree ≡ get_or w.trees.items i tree → tree ≡ get_or w.trees.items i 0
   tree-read i tree inside is = get_or_read w.trees.items i tree (tree-in i inside) is 0
 
-  pub is-tree : (i tree : ℕ) → i < length (maps w) → tree ≡ get_or w.trees.items i tree → IsTree w.store.nodes tree
-  is-tree i tree inside is = kept-tree w.store.nodes w.store.frames w.trees.items i tree w.kept (tree-in i inside) (tree-read i tree inside is)
+  pub is-tree : (i tree : ℕ) → i < length (maps w) → tree ≡ get_or w.trees.items i tree → IsTree w.store.nodes.all tree
+  is-tree i tree inside is = kept-tree w.store.nodes.all w.store.frames w.trees.items i tree w.kept (tree-in i inside) (tree-read i tree inside is)
 
-  pub row-value : (i p : ℕ) → i < length (maps w) → p < PAGES → row_of (maps w) i p ≡ cell_value w.store.frames (page w.store.nodes (get_or w.trees.items i 0) p)
+  pub row-value : (i p : ℕ) → i < length (maps w) → p < PAGES → row_of (maps w) i p ≡ cell_value w.store.frames (page w.store.nodes.all (get_or w.trees.items i 0) p)
   unfolding maps
-  row-value i p inside below = row-page w.store.frames w.store.nodes w.trees.items i p (tree-in i inside) below
+  row-value i p inside below = row-page w.store.frames w.store.nodes.all w.trees.items i p (tree-in i inside) below
 
   -- a row without a tree is open at each page, and an open one at each later page
   pub row-bare : (i p : ℕ) → HasNoTree w i → IsOpen w i p
   unfolding HasNoTree IsOpen
-  row-bare i p none = subst (λ t. tree.IsOpen w.store.nodes t p) (sym none) (open-empty w.store.nodes p)
+  row-bare i p none = subst (λ t. tree.IsOpen w.store.nodes.all t p) (sym none) (open-empty w.store.nodes.all p)
 
   pub row-later : (i p q : ℕ) → p ≤ q → IsOpen w i p → IsOpen w i q
   unfolding IsOpen
-  row-later i p q le is_open = open-later w.store.nodes (get_or w.trees.items i 0) p q le is_open
+  row-later i p q le is_open = open-later w.store.nodes.all (get_or w.trees.items i 0) p q le is_open
 
   -- how many nodes a range takes where it begins
   pub row-first : (i : ℕ) → edge_short w i 0 ≤ 1
   unfolding edge_short short.edge_short
-  row-first i = link_short-le w.store.nodes (get_or w.trees.items i 0)
+  row-first i = link_short-le w.store.nodes.all (get_or w.trees.items i 0)
 
   pub row-edges : (i p q : ℕ) → edge_short w i q ≤ edge_short w i p + 2
   unfolding edge_short
-  row-edges i p q = edges-later w.store.nodes (get_or w.trees.items i 0) p q
+  row-edges i p q = edges-later w.store.nodes.all (get_or w.trees.items i 0) p q
 
 -- on the way to a page few entries are passed
 pub few-passed : (p : ℕ) → p ≤ PAGES → entries_passed p ≤ 47

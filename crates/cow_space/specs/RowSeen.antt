@@ -14,7 +14,7 @@ use Rattle.cow_space.specs.Trees.{tree_maps}
 
 -- the maps of the rows
 unfoldable pub maps : Rows → List (ℕ → Option PageValue)
-maps w = tree_maps w.store.frames w.store.nodes w.trees.items
+maps w = tree_maps w.store.frames w.store.nodes.all w.trees.items
 
 -- how many frames there are
 unfoldable pub frames_of : Rows → ℕ
@@ -30,11 +30,15 @@ free_frames w = frames.free_frames w.store.frames
 
 -- how many tree nodes are free
 unfoldable pub free_nodes : Rows → ℕ
-free_nodes w = free_of w.store.nodes
+free_nodes w = free_of w.store.nodes.all
+
+-- how many node steps were taken
+abbrev pub node_steps : Rows → ℕ
+node_steps w = w.store.nodes.steps
 
 -- a row shares the root of its tree with no other
 unfoldable pub HasOwnRoot : Rows → ℕ → Type 0
-HasOwnRoot w i = link_short w.store.nodes (slice_index w.trees.items i) ≡ 0
+HasOwnRoot w i = link_short w.store.nodes.all (slice_index w.trees.items i) ≡ 0
 
 -- a row has no tree: it holds no node
 unfoldable pub HasNoTree : Rows → ℕ → Type 0
@@ -42,11 +46,11 @@ HasNoTree w i = slice_index w.trees.items i ≡ 0
 
 -- a row has no page from one on, and shares no node on the way there with another
 unfoldable pub IsOpen : Rows → ℕ → ℕ → Type 0
-IsOpen w i p = tree.IsOpen w.store.nodes (slice_index w.trees.items i) p
+IsOpen w i p = tree.IsOpen w.store.nodes.all (slice_index w.trees.items i) p
 
 -- how many nodes a range of a row that begins or ends at a page takes there
 unfoldable pub edge_short : Rows → ℕ → ℕ → ℕ
-edge_short w i p = tree_short.edge_short w.store.nodes (slice_index w.trees.items i) p
+edge_short w i p = tree_short.edge_short w.store.nodes.all (slice_index w.trees.items i) p
 
 -- in at most one way
 pub no_tree-prop : (w : Rows) (i : ℕ) → IsProp (HasNoTree w i)

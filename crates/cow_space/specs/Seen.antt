@@ -15,20 +15,24 @@ unfoldable pub rights : PageCells → List (ℕ → Right)
 rights w = all_rights w.kinds.items
 
 -- how many frames there are
-unfoldable pub frames_of : PageCells → ℕ
+abbrev pub frames_of : PageCells → ℕ
 frames_of w = rows.frames_of w.rows
 
 -- the stamp and the bytes of each frame, in use or free
-unfoldable pub pool : PageCells → ℕ → Tag × List ℕ
+abbrev pub pool : PageCells → ℕ → Tag × List ℕ
 pool w = rows.pool w.rows
 
 -- how many frames are free
-unfoldable pub free_frames : PageCells → ℕ
+abbrev pub free_frames : PageCells → ℕ
 free_frames w = rows.free_frames w.rows
 
 -- how many tree nodes are free
-unfoldable pub free_nodes : PageCells → ℕ
+abbrev pub free_nodes : PageCells → ℕ
 free_nodes w = rows.free_nodes w.rows
+
+-- how many node steps were taken
+abbrev pub node_steps : PageCells → ℕ
+node_steps w = rows.node_steps w.rows
 
 -- a place holds no tree node
 unfoldable pub HoldsNoNode : PageCells → ℕ → Type 0

@@ -1,9 +1,7 @@
 use crate::rows::Rows;
 use lwc_base::{PageNumber, Range};
 use page_tree::{PAGES, PageTree};
-use pool_base::Steps;
 use std::mem::replace;
-use std::sync::ledger::Ledger;
 
 /// All pages of a row.
 const ALL_PAGES: Range = Range {
@@ -17,17 +15,11 @@ impl Rows {
     ghost use Rattle.page_tree.specs.Open.{entries_passed};
     ghost use Rattle.cow_space.specs.Maps.{no_pages, put_range, row_of, share_range};
     ghost use Rattle.cow_space.specs.RowSeen.{HasNoTree, HasOwnRoot, IsOpen, edge_short, frames_of, free_frames};
-    ghost use Rattle.cow_space.specs.RowSeen.{free_nodes, maps, pool};
+    ghost use Rattle.cow_space.specs.RowSeen.{free_nodes, maps, node_steps, pool};
 
     /// Makes the pages of a range of one row those of another. No frame is taken or written. A row that gets
     /// its pages in rising order takes few nodes and steps.
-    pub fn share_between<L: Ledger>(
-        &mut self,
-        to: usize,
-        from: usize,
-        range: Range,
-        steps: &mut Steps<L>,
-    )
+    pub fn share_between(&mut self, to: usize, from: usize, range: Range)
         requires to { to < length (maps self.old) }
         requires from { from < length (maps self.old) }
         requires apart { from ≢ to }
@@ -41,21 +33,22 @@ impl Rows {
         ensures own { HasOwnRoot self.new to }
         ensures nodes { free_nodes self.old ≤ free_nodes self.new + 5 }
         ensures nodes_own { HasOwnRoot self.old to → free_nodes self.old ≤ free_nodes self.new + 4 }
-        ensures cost { steps.new ≤ steps.old + 766 }
+        ensures cost { node_steps self.new ≤ node_steps self.old + 766 }
         ensures opened { IsOpen self.old to range.from → range.from < range.to → IsOpen self.new to range.to }
         ensures nodes_open { IsOpen self.old to range.from → range.from < range.to
             → free_nodes self.old + edge_short self.new to range.to
             ≤ free_nodes self.new + edge_short self.old to range.from + 2 }
         ensures cost_open { IsOpen self.old to range.from
-            → steps.new + entries_passed range.from ≤ steps.old + entries_passed range.to + 36 }
+            → node_steps self.new + entries_passed range.from
+            ≤ node_steps self.old + entries_passed range.to + 36 }
     {
         let mut tree = replace(&mut self.trees[to], PageTree::empty());
-        tree.share_range(&self.trees[from], &mut self.store, range, steps);
+        tree.share_range(&self.trees[from], &mut self.store, range);
         self.trees[to] = tree;
     }
 
     /// Takes the pages of a range from a row. No frame is written.
-    pub fn clear<L: Ledger>(&mut self, i: usize, range: Range, steps: &mut Steps<L>)
+    pub fn clear(&mut self, i: usize, range: Range)
         requires row { i < length (maps self.old) }
         requires order { range.from ≤ range.to }
         requires inside { range.to ≤ PAGES }
@@ -71,21 +64,23 @@ impl Rows {
         ensures nodes { free_nodes self.old ≤ free_nodes self.new + 5 }
         ensures nodes_own { HasOwnRoot self.old i → free_nodes self.old ≤ free_nodes self.new + 4 }
         ensures given_up { HasNoTree self.new i → free_nodes self.old ≤ free_nodes self.new }
-        ensures cost { steps.new ≤ steps.old + 766 }
+        ensures cost { node_steps self.new ≤ node_steps self.old + 766 }
         ensures opened { IsOpen self.old i range.from → range.from < range.to → IsOpen self.new i range.to }
         ensures nodes_open { IsOpen self.old i range.from → range.from < range.to
             → free_nodes self.old + edge_short self.new i range.to
             ≤ free_nodes self.new + edge_short self.old i range.from + 2 }
         ensures cost_open { IsOpen self.old i range.from
-            → steps.new + entries_passed range.from ≤ steps.old + entries_passed range.to + 36 }
-        ensures cost_all { range.from ≡ 0 → range.to ≡ PAGES → steps.new ≤ steps.old + TREE_NODES }
-        ensures cost_none { HasNoTree self.old i → steps.new ≡ steps.old }
+            → node_steps self.new + entries_passed range.from
+            ≤ node_steps self.old + entries_passed range.to + 36 }
+        ensures cost_all { range.from ≡ 0 → range.to ≡ PAGES
+            → node_steps self.new ≤ node_steps self.old + TREE_NODES }
+        ensures cost_none { HasNoTree self.old i → node_steps self.new ≡ node_steps self.old }
     {
-        self.trees[i].clear_range(&mut self.store, range, steps);
+        self.trees[i].clear_range(&mut self.store, range);
     }
 
     /// Takes all pages from a row, and gives back all that no other row holds.
-    pub fn drop_row<L: Ledger>(&mut self, i: usize, steps: &mut Steps<L>)
+    pub fn drop_row(&mut self, i: usize)
         requires row { i < length (maps self.old) }
         ensures maps { maps self.new ≡ slice_set (maps self.old) i no_pages }
         ensures frames { frames_of self.new ≡ frames_of self.old }
@@ -94,15 +89,15 @@ impl Rows {
         ensures others { (j : ℕ) → j ≢ i → HasNoTree self.old j → HasNoTree self.new j }
         ensures nodes { free_nodes self.old ≤ free_nodes self.new }
         ensures empty { HasNoTree self.new i }
-        ensures cost { steps.new ≤ steps.old + TREE_NODES }
-        ensures cost_empty { HasNoTree self.old i → steps.new ≡ steps.old }
+        ensures cost { node_steps self.new ≤ node_steps self.old + TREE_NODES }
+        ensures cost_empty { HasNoTree self.old i → node_steps self.new ≡ node_steps self.old }
     {
-        self.clear(i, ALL_PAGES, steps);
+        self.clear(i, ALL_PAGES);
     }
 
     /// Makes all pages of a row those of another, by one hold of its root. The row's own pages are given up
     /// first.
-    pub fn clone_row<L: Ledger>(&mut self, to: usize, from: usize, steps: &mut Steps<L>)
+    pub fn clone_row(&mut self, to: usize, from: usize)
         requires to { to < length (maps self.old) }
         requires from { from < length (maps self.old) }
         requires apart { from ≢ to }
@@ -112,11 +107,11 @@ impl Rows {
         ensures free { free_frames self.old ≤ free_frames self.new }
         ensures others { (j : ℕ) → j ≢ to → HasNoTree self.old j → HasNoTree self.new j }
         ensures nodes { free_nodes self.old ≤ free_nodes self.new }
-        ensures cost { steps.new ≤ steps.old + (1 + TREE_NODES) }
-        ensures cost_empty { HasNoTree self.old to → steps.new ≤ steps.old + 1 }
+        ensures cost { node_steps self.new ≤ node_steps self.old + (1 + TREE_NODES) }
+        ensures cost_empty { HasNoTree self.old to → node_steps self.new ≤ node_steps self.old + 1 }
     {
-        self.drop_row(to, steps);
-        let tree = self.trees[from].held_too(&mut self.store, steps);
+        self.drop_row(to);
+        let tree = self.trees[from].held_too(&mut self.store);
         self.trees[to] = tree;
     }
 }

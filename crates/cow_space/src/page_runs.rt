@@ -1,5 +1,3 @@
-#![tactic(auto, unfolding(crate::specs::Seen::frames_of, crate::specs::Seen::pool, crate::specs::Seen::free_frames, crate::specs::Seen::free_nodes,),)]
-
 ghost use Rattle.std.specs.Prelude.{◌≡◌, ◌≢◌, ◌<◌, ◌≤◌, ◌+◌, ◌*◌, ◌⊎◌, ℕ, All, length, min, slice_set};
 ghost use Rattle.page_tree.specs.declared.store.TheConstants.{PAGES, TREE_NODES};
 ghost use Rattle.page_tree.specs.Open.{entries_passed};
@@ -10,15 +8,13 @@ ghost use Rattle.cow_space.specs.Cells.{all_write, no_pages, place_of, rights_of
 ghost use Rattle.cow_space.specs.Changes.{IsApart, IsPageRun, changed_place, changed_rights, changed_states};
 ghost use Rattle.cow_space.specs.Maps.{put_range, row_of};
 ghost use Rattle.cow_space.specs.Rows.{changed_row, origin_value};
-ghost use Rattle.cow_space.specs.Seen.{cells, frames_of, free_frames, free_nodes, pool, rights};
+ghost use Rattle.cow_space.specs.Seen.{cells, frames_of, free_frames, free_nodes, node_steps, pool, rights};
 
 use crate::cells::PageCells;
 use crate::kinds::{has_own_page, page_run_at, page_run_edge};
 use crate::rows::Rows;
 use lwc_base::{MOST_PAGES, Name, PageNumber, Range, Right};
-use pool_base::Steps;
 use range_map::RangeMap;
-use std::sync::ledger::Ledger;
 
 /// What the pages of a page run get.
 #[derive(Clone, Copy, PartialEq, Eq)]
@@ -55,13 +51,7 @@ impl Default for PageRun {
 }
 
 /// Puts what an origin copies into a range of a row, and clears it if it copies nothing.
-fn fill_range<L: Ledger>(
-    rows: &mut Rows,
-    i: usize,
-    origin: Origin,
-    range: Range,
-    steps: &mut Steps<L>,
-)
+fn fill_range(rows: &mut Rows, i: usize, origin: Origin, range: Range)
     requires row { i < length (rows_seen.maps rows.old) }
     requires given { IsApart (length (rows_seen.maps rows.old)) i origin }
     requires order { range.from < range.to }
@@ -83,19 +73,20 @@ fn fill_range<L: Ledger>(
         → rows_seen.free_nodes rows.old + rows_seen.edge_short rows.new i range.to
         ≤ rows_seen.free_nodes rows.new + rows_seen.edge_short rows.old i range.from + 2 }
     ensures opened { rows_seen.IsOpen rows.old i range.from → rows_seen.IsOpen rows.new i range.to }
-    ensures cost { steps.new ≤ steps.old + 766 }
+    ensures cost { rows_seen.node_steps rows.new ≤ rows_seen.node_steps rows.old + 766 }
     ensures cost_open { rows_seen.IsOpen rows.old i range.from
-        → steps.new + entries_passed range.from ≤ steps.old + entries_passed range.to + 36 }
+        → rows_seen.node_steps rows.new + entries_passed range.from
+        ≤ rows_seen.node_steps rows.old + entries_passed range.to + 36 }
 {
     match origin {
-        Origin::CopyOf(j) => rows.share_between(i, j, range, steps),
-        _ => rows.clear(i, range, steps),
+        Origin::CopyOf(j) => rows.share_between(i, j, range),
+        _ => rows.clear(i, range),
     }
 }
 
 /// Puts what page runs copy into a row, and clears the other pages that they have: in rising order, and each
 /// page once, so that a row without a tree takes few nodes and steps.
-fn fill_row<L: Ledger>(rows: &mut Rows, i: usize, page_runs: &[PageRun], steps: &mut Steps<L>)
+fn fill_row(rows: &mut Rows, i: usize, page_runs: &[PageRun])
     requires row { i < length (rows_seen.maps rows.old) }
     requires page_runs { All (IsPageRun (length (rows_seen.maps rows.old)) i) page_runs.now }
     ensures maps { rows_seen.maps rows.new
@@ -109,15 +100,17 @@ fn fill_row<L: Ledger>(rows: &mut Rows, i: usize, page_runs: &[PageRun], steps: 
     ensures nodes_empty { rows_seen.HasNoTree rows.old i
         → rows_seen.free_nodes rows.old ≤ rows_seen.free_nodes rows.new
         + (min 1 (length page_runs.now) + 4 * length page_runs.now) }
-    ensures cost { steps.new ≤ steps.old + 1532 * length page_runs.now }
-    ensures cost_empty { rows_seen.HasNoTree rows.old i → steps.new ≤ steps.old + 128 * length page_runs.now }
+    ensures cost { rows_seen.node_steps rows.new
+        ≤ rows_seen.node_steps rows.old + 1532 * length page_runs.now }
+    ensures cost_empty { rows_seen.HasNoTree rows.old i
+        → rows_seen.node_steps rows.new ≤ rows_seen.node_steps rows.old + 128 * length page_runs.now }
 {
     let mut p: PageNumber = 0;
     'pieces: while p < MOST_PAGES {
         let edge = page_run_edge(page_runs, p);
         if let Some(page_run) = page_run_at(page_runs, p) {
             let range = Range { from: p, to: edge };
-            fill_range(rows, i, page_run.origin, range, steps);
+            fill_range(rows, i, page_run.origin, range);
         }
         p = edge;
     }
@@ -149,13 +142,7 @@ impl PageCells {
     /// Gives the pages of each page run of a place what its origin and its right say, and leaves all other
     /// pages. Of two page runs that have a page, the first counts. The pages of `reads` that are present then
     /// get the right `Read`, whether a page run has them or not. No frame is written.
-    pub fn change<L: Ledger>(
-        &mut self,
-        i: usize,
-        page_runs: &[PageRun],
-        reads: &[Range],
-        steps: &mut Steps<L>,
-    )
+    pub fn change(&mut self, i: usize, page_runs: &[PageRun], reads: &[Range])
         requires place { i < length (cells self.old) }
         requires page_runs { All (IsPageRun (length (cells self.old)) i) page_runs.now }
         requires ranges { ranges MOST_PAGES
@@ -175,23 +162,23 @@ impl PageCells {
         ensures nodes_empty { place_of (cells self.old) i ≡ no_pages
             → free_nodes self.old
             ≤ free_nodes self.new + (min 1 (length page_runs.now) + 4 * length page_runs.now) }
-        ensures cost { steps.new ≤ steps.old + 1532 * length page_runs.now }
+        ensures cost { node_steps self.new ≤ node_steps self.old + 1532 * length page_runs.now }
         ensures cost_empty { place_of (cells self.old) i ≡ no_pages
-            → steps.new ≤ steps.old + 128 * length page_runs.now }
+            → node_steps self.new ≤ node_steps self.old + 128 * length page_runs.now }
     {
         let kinds = self.kinds_after(i, page_runs, reads);
         let some = has_own_page(&kinds);
         self.kinds[i] = kinds;
         if some {
-            fill_row(&mut self.rows, i, page_runs, steps);
+            fill_row(&mut self.rows, i, page_runs);
         } else {
-            self.rows.drop_row(i, steps);
+            self.rows.drop_row(i);
         }
     }
 
     /// Makes all pages of a place those of another, and their rights, by one hold of the root of their tree.
     /// No frame is written.
-    pub fn clone_place<L: Ledger>(&mut self, to: usize, from: usize, steps: &mut Steps<L>)
+    pub fn clone_place(&mut self, to: usize, from: usize)
         requires to { to < length (cells self.old) }
         requires from { from < length (cells self.old) }
         requires apart { from ≢ to }
@@ -203,22 +190,23 @@ impl PageCells {
         ensures free_empty { place_of (cells self.old) to ≡ no_pages
             → free_frames self.new ≡ free_frames self.old }
         ensures nodes { free_nodes self.old ≤ free_nodes self.new }
-        ensures cost { steps.new ≤ steps.old + (1 + TREE_NODES) }
+        ensures cost { node_steps self.new ≤ node_steps self.old + (1 + TREE_NODES) }
         ensures cost_empty { place_of (cells self.old) to ≡ no_pages
-            → steps.new ≤ steps.old + min 1 (ranges MOST_PAGES
+            → node_steps self.new ≤ node_steps self.old
+            + min 1 (ranges MOST_PAGES
             (states_of (place_of (cells self.old) from) (rights_of (rights self.old) from))) }
     {
         let some = has_own_page(&self.kinds[from]);
         self.kinds[to] = self.kinds[from].copy();
         if some {
-            self.rows.clone_row(to, from, steps);
+            self.rows.clone_row(to, from);
         } else {
-            self.rows.drop_row(to, steps);
+            self.rows.drop_row(to);
         }
     }
 
     /// Takes all pages from a place, and gives back all that no other place holds.
-    pub fn clear_place<L: Ledger>(&mut self, i: usize, steps: &mut Steps<L>)
+    pub fn clear_place(&mut self, i: usize)
         requires place { i < length (cells self.old) }
         ensures cells { cells self.new ≡ slice_set (cells self.old) i no_pages }
         ensures rights { rights self.new ≡ slice_set (rights self.old) i all_write }
@@ -226,10 +214,11 @@ impl PageCells {
         ensures pool { pool self.new ≡ pool self.old }
         ensures free { free_frames self.old ≤ free_frames self.new }
         ensures nodes { free_nodes self.old ≤ free_nodes self.new }
-        ensures cost { steps.new ≤ steps.old + TREE_NODES }
-        ensures cost_empty { place_of (cells self.old) i ≡ no_pages → steps.new ≡ steps.old }
+        ensures cost { node_steps self.new ≤ node_steps self.old + TREE_NODES }
+        ensures cost_empty { place_of (cells self.old) i ≡ no_pages
+            → node_steps self.new ≡ node_steps self.old }
     {
         self.kinds[i].clear();
-        self.rows.drop_row(i, steps);
+        self.rows.drop_row(i);
     }
 }

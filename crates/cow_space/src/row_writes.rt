@@ -8,8 +8,6 @@ use crate::rows::Rows;
 use frame_pool::{FrameNo, Pool};
 use lwc_base::{PAGE_BYTES, PageNumber, Tag};
 use page_tree::{PAGES, PageCell};
-use pool_base::Steps;
-use std::sync::ledger::Ledger;
 
 /// Puts what a piece at an address has of page p into the page's bytes.
 fn put_piece(page: &mut [u8; PAGE_BYTES], p: PageNumber, at: u32, piece: &[u8])
@@ -71,19 +69,11 @@ impl Rows {
     ghost use Rattle.page_tree.specs.declared.store.TheConstants.{PAGES};
     ghost use Rattle.cow_space.specs.Maps.{row_of};
     ghost use Rattle.cow_space.specs.RowWrites.{write_page};
-    ghost use Rattle.cow_space.specs.RowSeen.{frames_of, free_nodes, maps, HasNoTree};
+    ghost use Rattle.cow_space.specs.RowSeen.{frames_of, free_nodes, maps, node_steps, HasNoTree};
     ghost use Rattle.cow_space.specs.Tags.{different, parts, row_tags, times};
 
     /// Writes a page that parts: it gets a frame of its own under a new tag.
-    pub(crate) fn part<L: Ledger>(
-        &mut self,
-        i: usize,
-        p: PageNumber,
-        at: u32,
-        piece: &[u8],
-        tag: Tag,
-        steps: &mut Steps<L>,
-    )
+    pub(crate) fn part(&mut self, i: usize, p: PageNumber, at: u32, piece: &[u8], tag: Tag)
         requires row { i < length (maps self.old) }
         requires page { p < PAGES }
         requires new { times tag (row_tags (maps self.old)) ≡ 0 }
@@ -94,11 +84,11 @@ impl Rows {
         ensures frames { frames_of self.new ≡ frames_of self.old }
         ensures others { (j : ℕ) → j ≢ i → HasNoTree self.old j → HasNoTree self.new j }
         ensures nodes { free_nodes self.old ≤ free_nodes self.new + 3 }
-        ensures cost { steps.new ≤ steps.old + 54 }
+        ensures cost { node_steps self.new ≤ node_steps self.old + 54 }
     {
         let cell = self.cell(i, p);
         let frame = fill(&mut self.store.frames, cell, p, at, piece, tag);
-        self.trees[i].set(&mut self.store, p, PageCell::Frame(frame), steps);
+        self.trees[i].set(&mut self.store, p, PageCell::Frame(frame));
         self.store.frames.drop_hold(frame);
     }
 
@@ -115,6 +105,7 @@ impl Rows {
         ensures frames { frames_of self.new ≡ frames_of self.old }
         ensures others { (j : ℕ) → HasNoTree self.old j → HasNoTree self.new j }
         ensures nodes { free_nodes self.new ≡ free_nodes self.old }
+        ensures cost { node_steps self.new ≡ node_steps self.old }
         ensures within { different (row_tags (maps self.old)) ≤ frames_of self.old }
     {
         let Some(frame) = self.lone_frame(i, p) else {

@@ -16,7 +16,7 @@ pub const FREE_NODES: u32 = 2 * TREE_NODES;
 pub struct Rows {
     pub(crate) store: Store,
     pub(crate) trees: Vec<PageTree>,
-    ghost kept: { IsKept store.nodes store.frames trees.items },
+    ghost kept: { IsKept store.nodes.all store.frames trees.items },
 }
 
 /// This number of empty trees. The only error is out of memory.
@@ -61,7 +61,7 @@ impl Rows {
     pub(crate) fn cell(&self, i: usize, p: PageNumber) -> PageCell
         requires row { i < length self.now.trees.items }
         requires page { p < PAGES }
-        ensures { result ≡ page self.now.store.nodes (slice_index self.now.trees.items i) p }
+        ensures { result ≡ page self.now.store.nodes.all (slice_index self.now.trees.items i) p }
     {
         self.trees[i].get(&self.store, p)
     }
@@ -84,7 +84,7 @@ impl Rows {
     pub(crate) fn lone_frame(&self, i: usize, p: PageNumber) -> Option<FrameNo>
         requires row { i < length (maps self.now) }
         requires page { p < PAGES }
-        ensures frame { IfSome result (λ frame. page self.now.store.nodes
+        ensures frame { IfSome result (λ frame. page self.now.store.nodes.all
             (slice_index self.now.trees.items i) p ≡ cell.Frame frame) }
         ensures alone { IfSome result
             (λ frame. parts (row_tags (maps self.now)) (row_of (maps self.now) i p) ≡ false) }

@@ -1,8 +1,6 @@
 use crate::cells::PageCells;
 use lwc_base::{PageNumber, Right, Tag};
-use pool_base::Steps;
 use range_map::SegmentKind;
-use std::sync::ledger::Ledger;
 use thiserror::Error;
 
 /// A page would part, and no frame is free.
@@ -15,7 +13,7 @@ impl PageCells {
     ghost use Rattle.lwc_base.specs.declared.name.Tag.{Tag};
     ghost use Rattle.lwc_base.specs.declared.right.Right.TheVariants.{Write};
     ghost use Rattle.cow_space.specs.Cells.{IsOwnPage, place_of, rights_of};
-    ghost use Rattle.cow_space.specs.Seen.{cells, frames_of, free_nodes, rights};
+    ghost use Rattle.cow_space.specs.Seen.{cells, frames_of, free_nodes, node_steps, rights};
     ghost use Rattle.cow_space.specs.Tags.{IsNewTag, is_parting, taken_by, used};
     ghost use Rattle.cow_space.specs.Writes.{write_page};
 
@@ -26,15 +24,14 @@ impl PageCells {
     ///
     /// `NoFrame` exactly where the frames in use and the one that the page takes are more than there are.
     /// Nothing changes then.
-    #[tactic(auto, unfolding(crate::specs::Seen::rights, crate::specs::Seen::frames_of, crate::specs::Seen::free_nodes,),)]
-    pub fn write<L: Ledger>(
+    #[tactic(auto, unfolding(crate::specs::Seen::rights))]
+    pub fn write(
         &mut self,
         i: usize,
         p: PageNumber,
         at: u32,
         piece: &[u8],
         tag: Tag,
-        steps: &mut Steps<L>,
     ) -> Result<bool, NoFrame>
         requires place { i < length (cells self.old) }
         requires own { IsOwnPage (place_of (cells self.old) i p) }
@@ -48,14 +45,14 @@ impl PageCells {
         ensures rights { rights self.new ≡ rights self.old }
         ensures frames { frames_of self.new ≡ frames_of self.old }
         ensures nodes { free_nodes self.old ≤ free_nodes self.new + 3 }
-        ensures cost { steps.new ≤ steps.old + 54 }
+        ensures cost { node_steps self.new ≤ node_steps self.old + 54 }
     {
         let parting = self.is_parting(i, p);
         if parting {
             if self.used() == self.frames() {
                 return Err(NoFrame);
             }
-            self.rows.part(i, p, at, piece, tag, steps);
+            self.rows.part(i, p, at, piece, tag);
         } else {
             self.rows.write_in_place(i, p, at, piece);
         }
@@ -66,7 +63,7 @@ impl PageCells {
     /// written and does not part, and tells whether it did. No other page of any place changes, and no right
     /// does. If it did not, nothing changes.
     #[inline(always)]
-    #[tactic(auto, unfolding(crate::specs::Seen::rights, crate::specs::Seen::frames_of, crate::specs::Seen::free_nodes,),)]
+    #[tactic(auto, unfolding(crate::specs::Seen::rights))]
     pub fn write_in_place(&mut self, i: usize, p: PageNumber, at: u32, piece: &[u8]) -> bool
         requires place { i < length (cells self.old) }
         ensures tells { (result ≡ true) ↔ (IsOwnPage (place_of (cells self.old) i p)
@@ -78,6 +75,7 @@ impl PageCells {
         ensures rights { rights self.new ≡ rights self.old }
         ensures frames { frames_of self.new ≡ frames_of self.old }
         ensures nodes { free_nodes self.new ≡ free_nodes self.old }
+        ensures cost { node_steps self.new ≡ node_steps self.old }
     {
         let Some(state) = self.state(i, p) else {
             return false;

@@ -1,14 +1,21 @@
 -- What the steps of making a context, or of taking over from one, cost together.
-use Rattle.std.proofs.Common.{◌≡◌, ℕ, ◌+◌, ◌*◌, List, arith, ap, min, refl, subst, sym, ◌∙◌, Option, None, Some}
+use Rattle.std.proofs.Common.{◌≡◌, ◌≤◌, ℕ, ◌+◌, length, List, arith, ap, min, refl, subst, sym, ◌∙◌, Option, None, Some}
+use Rattle.std.proofs.Math.Nat.{min-le_left}
 use Rattle.std.specs.FinMap as fm
 use Rattle.lwc_base.specs.declared.item.Item.{Item}
 use Rattle.lwc_base.specs.declared.name.Name.{Name}
 use Rattle.lwc_base.specs.declared.regs.Regs.{Regs}
 use Rattle.lwc_base.specs.Ranges.{ranges, ranges_of}
 use Rattle.lwc_base.specs.World.{World, Context, Group, add_context, add_group, change_group, changed_group, change_counters, context, new_context, new_group}
+use Rattle.lwc_base.specs.declared.limits.TheConstants.{MOST_PAGES}
+use Rattle.lwc_base.specs.declared.right.Right.{Right}
+use Rattle.range_map.specs.Kinds as kinds
 use Rattle.lazy_world.specs.declared.world.PlacedWorld.{PlacedWorld}
-use Rattle.lazy_world.specs.Cells.{HasOwnPages}
-use Rattle.lazy_world.specs.Clones.{change_nodes, copy_nodes}
+use Rattle.lazy_world.specs.declared.pieces.PageOrigins.{PageOrigins}
+use Rattle.lazy_world.specs.declared.pieces.PageOrigins.TheVariants.{AllOf, PageRuns}
+use Rattle.lazy_world.specs.Origins.{any_steps, most_nodes, most_steps}
+use Rattle.lazy_world.specs.Cells.{HasOwnPages, Row, states_of}
+use Rattle.lazy_world.specs.Clones.{change_nodes, change_steps, copy_nodes, fill_nodes, fill_steps}
 use Rattle.lazy_world.specs.Costs.{CopySteps, CopyStore, TakesNodes, pieces}
 use Rattle.lazy_world.specs.Seen.{KeepsStore}
 use Rattle.lazy_world.specs.Worlds.{seen}
@@ -31,8 +38,14 @@ pub added-ranges : (w : World) (c : Name) (job uid : ℕ) (entry : Regs) → con
 unfolding ranges_of add_context change_counters
 added-ranges w c job uid entry same = ap (ranges w.size.pages) same
 
--- a new group, and two changes of pages
-pub takes-both : (a b d e : PlacedWorld) (p m n : ℕ) → m ≡ p → n ≡ p → KeepsStore a.places b.places → TakesNodes b d (change_nodes m) → TakesNodes d e (change_nodes n) → TakesNodes a e (2 * change_nodes p)
+-- a place that had no pages takes less for the same page runs
+pub fill-less : (rows : ℕ → Row) (rights : ℕ → ℕ → Right) (pages : PageOrigins) (p : ℕ) → any_steps pages ≤ change_steps p → (most_nodes pages ≤ fill_nodes p) × (most_steps rows rights pages ≤ fill_steps p)
+fill-less rows rights (AllOf j) p few = (omega arith, let one = min-le_left 1 (kinds.ranges MOST_PAGES (states_of (rows j) (rights j))) in omega (arith, one))
+fill-less rows rights (PageRuns page_runs reads) p few =
+    let one = min-le_left 1 (length page_runs.items) in (omega (arith, few, one), omega (arith, few))
+
+-- what a new group gets, and a change of pages
+pub takes-both : (a b d e : PlacedWorld) (p m n : ℕ) → m ≡ p → n ≡ p → KeepsStore a.places b.places → TakesNodes b d (fill_nodes m) → TakesNodes d e (change_nodes n) → TakesNodes a e (fill_nodes p + change_nodes p)
 takes-both a b d e p m n first second kept one two = record {
   frames = omega (arith, kept.free, one.frames, two.frames);
   pool = two.pool ∙ one.pool ∙ kept.pool;
@@ -40,8 +53,8 @@ takes-both a b d e p m n first second kept one two = record {
 }
 
 -- sharing, a new context and a copy
-pub clone-takes : (a b d e : PlacedWorld) (c : Name) (items : List Item) (p q : ℕ) → TakesNodes a b (2 * change_nodes p) → KeepsStore b.places d.places → pieces (seen d) c items ≡ q → CopyStore d e c items →
-    TakesNodes a e (2 * change_nodes p + copy_nodes q)
+pub clone-takes : (a b d e : PlacedWorld) (c : Name) (items : List Item) (p q : ℕ) → TakesNodes a b (fill_nodes p + change_nodes p) → KeepsStore b.places d.places → pieces (seen d) c items ≡ q → CopyStore d e c items →
+    TakesNodes a e (fill_nodes p + change_nodes p + copy_nodes q)
 clone-takes a b d e c items p q shared kept same copy = record {
   frames = omega (arith, shared.frames, kept.free, copy.frames);
   pool = copy.pool ∙ kept.pool ∙ shared.pool;
@@ -57,8 +70,8 @@ copy-before a d e c items here same kept copy = record {
   whole = λ copies own. let all = copy.whole copies (subst (λ (x : Context). HasOwnPages x.cell) (sym here) own) in omega (arith, kept.nodes, all);
 }
 
-pub steps-before : (w v : World) (c : Name) (items : List Item) (before after : ℕ) → context v c ≡ context w c → ranges_of v c ≡ ranges_of w c → CopySteps v c items before after → CopySteps w c items before after
-steps-before w v c items before after here same steps = record {
-  all = omega (arith, steps.all, same);
-  whole = λ copies own. let all = steps.whole copies (subst (λ (x : Context). HasOwnPages x.cell) (sym here) own) in omega (arith, all, ap (min 1) same);
+pub steps-before : (a d e : PlacedWorld) (c : Name) (items : List Item) → context (seen d) c ≡ context (seen a) c → ranges_of (seen d) c ≡ ranges_of (seen a) c → KeepsStore a.places d.places → CopySteps d e c items → CopySteps a e c items
+steps-before a d e c items here same kept copy = record {
+  all = omega (arith, kept.steps, copy.all, same);
+  whole = λ copies own. let all = copy.whole copies (subst (λ (x : Context). HasOwnPages x.cell) (sym here) own) in omega (arith, kept.steps, all, ap (min 1) same);
 }

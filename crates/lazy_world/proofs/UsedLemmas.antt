@@ -200,5 +200,5 @@ unfolding rows rows_of pages
 row-page w i p = refl
 
 pub count-pages : (w : Places) → length (pages w) ≡ count w
-unfolding pages count
+unfolding pages
 count-pages w = refl

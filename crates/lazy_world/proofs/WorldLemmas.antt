@@ -1,10 +1,10 @@
 -- The world of parts: what it has under a name, and what becomes of it where a part changes.
-use Rattle.std.proofs.Common.{◌≡◌, ◌≢◌, ℕ, ◌+◌, ◌<◌, arith, length, refl, sym, ap, ◌∙◌, Some, None, get_or, get_or-set_other, set}
+use Rattle.std.proofs.Common.{◌≡◌, ◌≢◌, ℕ, ◌+◌, ◌<◌, arith, length, refl, sym, ap, ◌∙◌, Some, None, Option, true, get_or, get_or-set_other, set}
 use Rattle.std.specs.Prelude.{unwrap_or}
 use Rattle.std.specs.Option.{option_map}
 use Rattle.std.specs.FinMap as fm
 use Rattle.std.proofs.lemmas.List.{get_or-set_same}
-use Rattle.lwc_base.specs.declared.key.Key.TheVariants.{Slot}
+use Rattle.lwc_base.specs.declared.key.Key.TheVariants.{Page, Slot}
 use Rattle.lwc_base.specs.declared.name.Name.{Name}
 use Rattle.lwc_base.specs.declared.right.Right.{Right}
 use Rattle.lwc_base.specs.Cells.{slot_at, value_at, value_of}
@@ -12,9 +12,13 @@ use Rattle.lwc_base.specs.Registers.{fresh_registers}
 use Rattle.lwc_base.specs.World.{World, Context, Group, change_context, changed_context, change_group, changed_group, context, group, is_live, new_context, new_group}
 use Rattle.ctx_table.specs.NameTables.{ArePlaced, NameTable}
 use Rattle.lazy_world.specs.Registers.{KeptRegisters}
-use Rattle.lazy_world.specs.Cells.{Row, put_row}
+use Rattle.lazy_world.specs.Cells.{HasNoPages, Row, is_own, put_row}
+use Rattle.lazy_world.specs.Sound.{IsAllOwn}
+use Rattle.lwc_base.specs.declared.cell.Cell.{Cell}
+use Rattle.lwc_base.specs.declared.cell.Cell.TheVariants.{Own, Common}
+use Rattle.lwc_base.specs.declared.page.PageValue.{PageValue}
 use Rattle.lazy_world.specs.Mapped.{mapped}
-use Rattle.lazy_world.specs.States.{Parts, context_at, context_of, counters_of, group_at, group_of, no_registers, nothing_counted, registers_at, world_of}
+use Rattle.lazy_world.specs.States.{Parts, context_at, context_of, counters_of, group_at, group_of, held, no_registers, nothing_counted, registers_at, world_of}
 use Rattle.lazy_world.proofs.MappedLemmas.{mapped-change, mapped-get, mapped-len, mapped-keys, mapped-live, mapped-same}
 use Rattle.lazy_world.proofs.PlaceLemmas.{choose, pass}
 use Rattle.lwc_base.proofs.Small.{same_some}
@@ -152,3 +156,12 @@ module _ (s : Parts) where
         (λ e. record now { contexts = contexts e; groups = groups e })
         ∙ ap (λ x. record now { groups = fm.insert now.groups g x }) here
         ∙ sym (ap (changed_group now g change) (get-group g ∙ ap (option_map (group_at s)) found))
+
+-- a group without values has a place without pages
+pub no_pages-new : (s : Parts) → ((j : ℕ) → IsAllOwn (s.rows (s.size.contexts + j))) → (g : Name) (j : ℕ) → fm.get s.groups.map g ≡ Some j → group (world_of s) g ≡ new_group → HasNoPages (s.rows (s.size.contexts + j))
+no_pages-new s own g j found none p =
+    by (s.rows (s.size.contexts + j) (Page p)) (own j (Page p)) (ap (λ (x : Group). x.value (Page p)) (sym (group-found s g j found) ∙ none))
+  where
+    by : (cell : Cell (Option PageValue)) → is_own cell ≡ true → held (Page p) cell ≡ None → cell ≡ Own None
+    by (Own value) own is = ap Own is
+    by (Common h) off is = cc

@@ -67,6 +67,14 @@ change_nodes pieces = 9 + 16 * pieces
 abbrev pub change_steps : ℕ → ℕ
 change_steps pieces = 1532 + 3064 * pieces
 
+-- the most free nodes that a place without pages takes for what moves of this number of ranges and items
+abbrev pub fill_nodes : ℕ → ℕ
+fill_nodes pieces = 5 + 8 * pieces
+
+-- the most node steps
+abbrev pub fill_steps : ℕ → ℕ
+fill_steps pieces = 128 + 256 * pieces
+
 -- items share no page, leave none out, and copy none read-only
 abbrev pub CopiesPages : List Item → Type 0
 CopiesPages items = (p : ℕ) → mode_or_copy items (Page p) ≡ Copy

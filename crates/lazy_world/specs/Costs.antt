@@ -1,5 +1,5 @@
 -- What making a context from another one costs, and taking over from one: frames, tree nodes and node steps.
-use Rattle.std.specs.Prelude.{◌≡◌, ◌≤◌, ℕ, ◌+◌, ◌*◌, List, false, length, min}
+use Rattle.std.specs.Prelude.{◌≡◌, ◌≤◌, ℕ, ◌+◌, List, false, length, min}
 use Rattle.lwc_base.specs.declared.item.Item.{Item}
 use Rattle.lwc_base.specs.declared.name.Name.{Name}
 use Rattle.lwc_base.specs.Ranges.{ranges_of}
@@ -8,7 +8,8 @@ use Rattle.lwc_base.specs.World.{World, context}
 use Rattle.lazy_world.specs.declared.world.PlacedWorld.{PlacedWorld}
 use Rattle.lazy_world.specs.Cells.{HasOwnPages}
 use Rattle.lazy_world.specs.Clones.{CopiesPages, change_nodes, change_steps, copy_nodes, copy_steps}
-use Rattle.lazy_world.specs.Seen.{free_frames, free_nodes, pool}
+use Rattle.lazy_world.specs.Clones.{fill_nodes, fill_steps}
+use Rattle.lazy_world.specs.Seen.{free_frames, free_nodes, node_steps, pool}
 use Rattle.lazy_world.specs.Worlds.{seen}
 
 -- how many ranges a context has, and how many items there are
@@ -31,31 +32,36 @@ pub record CopyStore (old new : PlacedWorld) (c : Name) (items : List Item) : Ty
       free_nodes old.places ≤ free_nodes new.places
 
 -- it takes few node steps, and at most one where all pages are copied and are the context's own
-pub record CopySteps (w : World) (c : Name) (items : List Item) (before after : ℕ) : Type 0 where
-  pub all : after ≤ before + copy_steps (pieces w c items)
-  pub whole : CopiesPages items → HasOwnPages (context w c).cell → after ≤ before + min 1 (ranges_of w c)
+pub record CopySteps (old new : PlacedWorld) (c : Name) (items : List Item) : Type 0 where
+  pub all : node_steps new.places ≤ node_steps old.places + copy_steps (pieces (seen old) c items)
+  pub whole : CopiesPages items → HasOwnPages (context (seen old) c).cell →
+      node_steps new.places ≤ node_steps old.places + min 1 (ranges_of (seen old) c)
 
 -- what a job's new context takes of the store: what a copy does where no group is needed
 pub record CloneStore (old new : PlacedWorld) (c : Name) (job : ℕ) (items : List Item) : Type 0 where
-  pub all : TakesNodes old new
-      (2 * change_nodes (pieces (seen old) c items) + copy_nodes (pieces (share (seen old) c job items) c items))
+  pub all : TakesNodes old new (fill_nodes (pieces (seen old) c items) + change_nodes (pieces (seen old) c items)
+      + copy_nodes (pieces (share (seen old) c job items) c items))
   pub alone : needs_group (seen old) c items ≡ false → CopyStore old new c items
 
 -- and of node steps
-pub record CloneSteps (w : World) (c : Name) (job : ℕ) (items : List Item) (before after : ℕ) : Type 0 where
-  pub all : after
-      ≤ before + (2 * change_steps (pieces w c items) + copy_steps (pieces (share w c job items) c items))
-  pub alone : needs_group w c items ≡ false → CopySteps w c items before after
+pub record CloneSteps (old new : PlacedWorld) (c : Name) (job : ℕ) (items : List Item) : Type 0 where
+  pub all : node_steps new.places ≤ node_steps old.places
+      + (fill_steps (pieces (seen old) c items) + change_steps (pieces (seen old) c items)
+      + copy_steps (pieces (share (seen old) c job items) c items))
+  pub alone : needs_group (seen old) c items ≡ false → CopySteps old new c items
 
 -- what taking over from a context takes of the store
 pub record OverlayStore (old new : PlacedWorld) (from : Name) (job : ℕ) (items : List Item) : Type 0 where
-  pub all : TakesNodes old new (2 * change_nodes (pieces (seen old) from items)
+  pub all : TakesNodes old new (fill_nodes (pieces (seen old) from items)
+      + change_nodes (pieces (seen old) from items)
       + change_nodes (pieces (share (seen old) from job items) from items))
   pub alone : needs_group (seen old) from items ≡ false
       → TakesNodes old new (change_nodes (pieces (seen old) from items))
 
 -- and of node steps
-pub record OverlaySteps (w : World) (from : Name) (job : ℕ) (items : List Item) (before after : ℕ) : Type 0 where
-  pub all : after ≤ before
-      + (2 * change_steps (pieces w from items) + change_steps (pieces (share w from job items) from items))
-  pub alone : needs_group w from items ≡ false → after ≤ before + change_steps (pieces w from items)
+pub record OverlaySteps (old new : PlacedWorld) (from : Name) (job : ℕ) (items : List Item) : Type 0 where
+  pub all : node_steps new.places ≤ node_steps old.places + (fill_steps (pieces (seen old) from items)
+      + change_steps (pieces (seen old) from items)
+      + change_steps (pieces (share (seen old) from job items) from items))
+  pub alone : needs_group (seen old) from items ≡ false →
+      node_steps new.places ≤ node_steps old.places + change_steps (pieces (seen old) from items)

@@ -25,12 +25,16 @@ unfoldable pub frame_count : Places → ℕ
 frame_count w = pages_seen.frames_of w.pages
 
 -- how many places there are
-unfoldable pub count : Places → ℕ
+abbrev pub count : Places → ℕ
 count w = length (pages_seen.cells w.pages)
 
 -- how many tree nodes are free
 unfoldable pub free_nodes : Places → ℕ
 free_nodes w = pages_seen.free_nodes w.pages
+
+-- how many node steps were taken
+abbrev pub node_steps : Places → ℕ
+node_steps w = pages_seen.node_steps w.pages
 
 -- how many frames are free
 unfoldable pub free_frames : Places → ℕ
@@ -40,10 +44,11 @@ free_frames w = pages_seen.free_frames w.pages
 unfoldable pub pool : Places → ℕ → Tag × List ℕ
 pool w = pages_seen.pool w.pages
 
--- the pages keep their rights, as many tree nodes and frames are free as before, and each frame is as it
--- was
+-- the pages keep their rights, as many tree nodes and frames are free as before, no node step was taken, and
+-- each frame is as it was
 pub record KeepsStore (old new : Places) : Type 0 where
   pub rights : rights new ≡ rights old
   pub nodes : free_nodes new ≡ free_nodes old
+  pub steps : node_steps new ≡ node_steps old
   pub free : free_frames new ≡ free_frames old
   pub pool : pool new ≡ pool old

@@ -29,9 +29,7 @@ use crate::world::PlacedWorld;
 use arrayvec::ArrayVec;
 use cow_space::{Origin, PageRun};
 use lwc_base::{Item, Kind, MOST_PAGE_RUNS, Mode, NOBODY, Name, Range, Regs, Spec};
-use pool_base::Steps;
 use range_map::SegmentKind;
-use std::sync::ledger::Ledger;
 
 /// The page run of an item in a clone of the place `from`: its pages are shared, or left out. Pages that are
 /// copied have theirs by segments.
@@ -193,7 +191,7 @@ impl PlacedWorld {
     /// A context without pages gets the cells of a clone of another one, from where its origins say.
     // The origins are a large value, which each caller would clear if this were a part of it.
     #[inline(never)]
-    fn clone_pieces<L: Ledger>(&mut self, spec: &Spec, c: Name, made: Name, steps: &mut Steps<L>)
+    fn clone_pieces(&mut self, spec: &Spec, c: Name, made: Name)
         requires from { IsLive (seen self.old) c }
         requires to { IsLive (seen self.old) made }
         requires apart { c ≢ made }
@@ -204,12 +202,12 @@ impl PlacedWorld {
         requires few { ranges_of (followed (seen self.old) (Clone made) spec.now c made) made ≤ MOST_RANGES }
         ensures world { seen self.new ≡ followed (seen self.old) (Clone made) spec.now c made }
         ensures store { CopyStore self.old self.new c spec.now }
-        ensures steps { CopySteps (seen self.old) c spec.now steps.old steps.new }
+        ensures steps { CopySteps self.old self.new c spec.now }
     {
         let from = self.place(c);
         let to = self.place(made);
         let origins = self.clone_origins(made, spec, from, to);
-        self.places.take(to, &origins, steps);
+        self.places.take(to, &origins);
     }
 
     /// A context with nothing but a credential gets the cells of a clone of another one, once that one's
@@ -217,13 +215,7 @@ impl PlacedWorld {
     /// 128 node steps and 4 free nodes, and one free node besides; at most one node step and no node where
     /// all pages are the other one's own, and items share none and leave none out. No frame is taken or
     /// written.
-    pub(crate) fn clone_by<L: Ledger>(
-        &mut self,
-        spec: &Spec,
-        c: Name,
-        made: Name,
-        steps: &mut Steps<L>,
-    )
+    pub(crate) fn clone_by(&mut self, spec: &Spec, c: Name, made: Name)
         requires from { IsLive (seen self.old) c }
         requires to { IsLive (seen self.old) made }
         requires apart { c ≢ made }
@@ -234,14 +226,14 @@ impl PlacedWorld {
         requires few { ranges_of (followed (seen self.old) (Clone made) spec.now c made) made ≤ MOST_RANGES }
         ensures world { seen self.new ≡ followed (seen self.old) (Clone made) spec.now c made }
         ensures store { CopyStore self.old self.new c spec.now }
-        ensures steps { CopySteps (seen self.old) c spec.now steps.old steps.new }
+        ensures steps { CopySteps self.old self.new c spec.now }
     {
         let from = self.place(c);
         let to = self.place(made);
         if self.can_copy(Transfer::Clone(made), spec, from, to) {
-            self.places.copy_place(to, from, steps);
+            self.places.copy_place(to, from);
         } else {
-            self.clone_pieces(spec, c, made, steps);
+            self.clone_pieces(spec, c, made);
         }
     }
 
@@ -252,14 +244,7 @@ impl PlacedWorld {
     /// new context begins with these registers and has no saved ones. Answers its name. No frame is taken or
     /// written.
     #[tactic(auto, using(lwc_base::proofs::Facts::changes))]
-    pub(crate) fn clone_counted<L: Ledger>(
-        &mut self,
-        c: Name,
-        spec: &Spec,
-        job: u32,
-        entry: &Regs,
-        steps: &mut Steps<L>,
-    ) -> Name
+    pub(crate) fn clone_counted(&mut self, c: Name, spec: &Spec, job: u32, entry: &Regs) -> Name
         requires live { IsLive (seen self.old) c }
         requires within { IsSpec (seen self.old).size.pages spec.now }
         requires may { MayName (seen self.old) job }
@@ -269,12 +254,12 @@ impl PlacedWorld {
         ensures name { result ≡ next_context (seen self.old) job }
         ensures cloned { seen self.new ≡ clone_context (seen self.old) c job spec.now entry.now }
         ensures store { CloneStore self.old self.new c job spec.now }
-        ensures steps { CloneSteps (seen self.old) c job spec.now steps.old steps.new }
+        ensures steps { CloneSteps self.old self.new c job spec.now }
     {
-        self.share(c, spec, job, steps);
+        self.share(c, spec, job);
         let made = self.add_context(job, NOBODY, entry);
         // Nothing is left that moves, so that no value of the new context becomes common by this name.
-        self.clone_by(spec, c, made, steps);
+        self.clone_by(spec, c, made);
         made
     }
 }

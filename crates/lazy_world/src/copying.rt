@@ -10,16 +10,14 @@ ghost use Rattle.lwc_base.specs.declared.right.Right.{Right};
 ghost use Rattle.lazy_world.specs.Cells.{HasNoPages, HasOwnPages, Row, is_own, put_rights, put_row};
 ghost use Rattle.lazy_world.specs.Cells.{is_common, states_of};
 ghost use Rattle.lazy_world.specs.Transfers.{transferred_rights, transferred_row};
-ghost use Rattle.lazy_world.specs.Seen.{count, frame_count, free_frames, free_nodes, pool, rights, rows};
+ghost use Rattle.lazy_world.specs.Seen.{count, frame_count, free_frames, free_nodes, node_steps, pool, rights, rows};
 
 use crate::places::Places;
 use crate::transfer::Transfer;
 use crate::world::PlacedWorld;
 use cow_space::Origin;
 use lwc_base::{Cell, Spec};
-use pool_base::Steps;
 use range_map::{Segment, SegmentKind};
-use std::sync::ledger::Ledger;
 
 /// Whether a segment is of pages that are common.
 fn has_common(segments: &[Segment]) -> bool
@@ -33,7 +31,7 @@ fn has_common(segments: &[Segment]) -> bool
 impl Places {
     /// Gives a place without slots all that another one has, by holds alone. Where it has no pages either,
     /// that takes no frame and one node step, and none if the other one has no pages.
-    pub fn copy_place<L: Ledger>(&mut self, to: usize, from: usize, steps: &mut Steps<L>)
+    pub fn copy_place(&mut self, to: usize, from: usize)
         requires to { to < count self.old }
         requires from { from < count self.old }
         requires apart { from ≢ to }
@@ -46,11 +44,11 @@ impl Places {
         ensures free_empty { HasNoPages (rows self.old to) → free_frames self.new ≡ free_frames self.old }
         ensures pool { pool self.new ≡ pool self.old }
         ensures cost { HasNoPages (rows self.old to)
-            → steps.new ≤ steps.old
+            → node_steps self.new ≤ node_steps self.old
             + min 1 (ranges MOST_PAGES (states_of (rows self.old from) (rights self.old from))) }
     {
         let uid = self.given_uid(Origin::CopyOf(from));
-        self.copy_pages(to, from, steps);
+        self.copy_pages(to, from);
         self.slots.clone_place(to, from);
         self.uids[to] = uid;
     }

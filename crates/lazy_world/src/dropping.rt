@@ -11,28 +11,8 @@ ghost use Rattle.lazy_world.specs.Worlds.{parts, seen};
 use crate::places::Places;
 use crate::world::PlacedWorld;
 use lwc_base::{Cell, NOBODY, Name};
-use pool_base::Steps;
-use std::marker::Brand;
-use std::sync::ledger::{Blank, Ledger};
 
 impl Places {
-    /// Takes all that a place has, on a counter of its own, and gives back what no other place shares.
-    fn clear_counted<L: Ledger>(&mut self, i: usize, blank: Blank)
-        requires place { i < count self.old }
-        requires name { blank.name ≡ L.name }
-        requires parts { blank.parts ≡ L.parts }
-        requires some { 0 < blank.parts }
-        ensures rows { rows self.new ≡ put_row (rows self.old) i no_row }
-        ensures rights { rights self.new ≡ put_rights (rights self.old) i all_write }
-        ensures count { count self.new ≡ count self.old }
-        ensures frames { frame_count self.new ≡ frame_count self.old }
-    {
-        let mut steps = Steps::<L>::new(blank);
-        self.pages.clear_place(i, &mut steps);
-        self.slots.clear_place(i);
-        self.uids[i] = Cell::Own(NOBODY);
-    }
-
     /// Takes all that a place has, and gives back what no other place shares.
     pub fn clear(&mut self, i: usize)
         requires place { i < count self.old }
@@ -41,7 +21,9 @@ impl Places {
         ensures count { count self.new ≡ count self.old }
         ensures frames { frame_count self.new ≡ frame_count self.old }
     {
-        self.clear_counted::<Brand>(i, Blank::new(1));
+        self.pages.clear_place(i);
+        self.slots.clear_place(i);
+        self.uids[i] = Cell::Own(NOBODY);
     }
 }
 

@@ -6,8 +6,6 @@ use lwc_base::{
     WorldSize,
 };
 use std::alloc::Global;
-use std::marker::Brand;
-use std::sync::ledger::Blank;
 use world_face::World;
 
 impl World for LazyWorld {
@@ -17,7 +15,7 @@ impl World for LazyWorld {
     ghost use Rattle.lwc_base.specs.Sharing.{clone_context, needs_group, ranges_after_clone};
     ghost use Rattle.lwc_base.specs.World.{next_context};
     ghost use Rattle.world_face.specs.Calls.{AreFew, HasGroupPlace, HasPlace, IsLive, MayName};
-    ghost use Rattle.lazy_world.specs.Costs.{CloneStore, OverlayStore};
+    ghost use Rattle.lazy_world.specs.Costs.{CloneSteps, CloneStore, OverlaySteps, OverlayStore};
     ghost use Rattle.lazy_world.specs.Lazy as lazy;
 
     ghost seen = { lazy.seen_lazy };
@@ -128,8 +126,9 @@ impl World for LazyWorld {
         ensures err { OnErr result (lazy.seen_lazy self.new ≡ lazy.seen_lazy self.old) }
         ensures ample { IsOk result }
         ensures store { CloneStore (lazy.placed self.old) (lazy.placed self.new) c job spec.now }
+        ensures steps { CloneSteps (lazy.placed self.old) (lazy.placed self.new) c job spec.now }
     {
-        Ok(self.clone_on::<Brand>(c, spec, job, entry, Blank::new(1)))
+        Ok(self.clone_counted(c, spec, job, entry))
     }
 
     fn overlay(&mut self, to: Name, from: Name, spec: &Spec, job: u32) -> Result<(), OutOfMemory>
@@ -145,8 +144,9 @@ impl World for LazyWorld {
         ensures err { OnErr result (lazy.seen_lazy self.new ≡ lazy.seen_lazy self.old) }
         ensures ample { IsOk result }
         ensures store { OverlayStore (lazy.placed self.old) (lazy.placed self.new) from job spec.now }
+        ensures steps { OverlaySteps (lazy.placed self.old) (lazy.placed self.new) from job spec.now }
     {
-        self.overlay_on::<Brand>(to, from, spec, job, Blank::new(1));
+        self.overlay_counted(to, from, spec, job);
         Ok(())
     }
 

@@ -6,8 +6,6 @@ ghost use Rattle.lazy_world.specs.Worlds as placed;
 use crate::world::PlacedWorld;
 use arrayvec::ArrayVec;
 use lwc_base::{MOST_KEPT_ROOTS, Name, Regs, Spec};
-use pool_base::Steps;
-use std::sync::ledger::{Blank, Ledger};
 
 /// A world by shared pages that knows what its contexts are reached from, so that a reap mostly takes no
 /// search: each live context is reached from the cached roots, where they are known.
@@ -49,18 +47,11 @@ impl LazyWorld {
     ghost use Rattle.lazy_world.specs.Costs.{CloneSteps, CloneStore, OverlaySteps, OverlayStore};
     ghost use Rattle.lazy_world.specs.Lazy.{placed, seen_lazy};
 
-    /// `clone_context` on a counter of node steps. No frame is taken or written. Where no group is needed,
+    /// `clone_context`, without a `Result`. No frame is taken or written. Where no group is needed,
     /// each range of the context and each item takes at most 128 node steps and 4 free nodes, and one free
     /// node besides if there is one; or one step and no node in all, where each page is copied and is the
     /// context's own.
-    pub fn clone_counted<L: Ledger>(
-        &mut self,
-        c: Name,
-        spec: &Spec,
-        job: u32,
-        entry: &Regs,
-        steps: &mut Steps<L>,
-    ) -> Name
+    pub fn clone_counted(&mut self, c: Name, spec: &Spec, job: u32, entry: &Regs) -> Name
         requires live { IsLive (seen_lazy self.old) c }
         requires within { IsSpec (seen_lazy self.old).size.pages spec.now }
         requires may { MayName (seen_lazy self.old) job }
@@ -71,55 +62,21 @@ impl LazyWorld {
         ensures name { result ≡ next_context (seen_lazy self.old) job }
         ensures cloned { seen_lazy self.new ≡ clone_context (seen_lazy self.old) c job spec.now entry.now }
         ensures store { CloneStore (placed self.old) (placed self.new) c job spec.now }
-        ensures steps { CloneSteps (seen_lazy self.old) c job spec.now steps.old steps.new }
+        ensures steps { CloneSteps (placed self.old) (placed self.new) c job spec.now }
     {
         if !spec.items().is_empty() {
             self.known = false;
-            return self.world.clone_counted(c, spec, job, entry, steps);
+            return self.world.clone_counted(c, spec, job, entry);
         }
         let next = self.world.next_name(job);
         self.add_cached_root(Some(next));
-        self.world.clone_counted(c, spec, job, entry, steps)
+        self.world.clone_counted(c, spec, job, entry)
     }
 
-    /// `clone_context` on a counter of its own.
-    pub(crate) fn clone_on<L: Ledger>(
-        &mut self,
-        c: Name,
-        spec: &Spec,
-        job: u32,
-        entry: &Regs,
-        blank: Blank,
-    ) -> Name
-        requires live { IsLive (seen_lazy self.old) c }
-        requires within { IsSpec (seen_lazy self.old).size.pages spec.now }
-        requires may { MayName (seen_lazy self.old) job }
-        requires place { HasPlace (seen_lazy self.old) }
-        requires group { needs_group (seen_lazy self.old) c spec.now ≡ true
-            → HasGroupPlace (seen_lazy self.old) }
-        requires few { AreFew (ranges_after_clone (seen_lazy self.old) c job spec.now) }
-        requires blank_name { blank.name ≡ L.name }
-        requires parts { blank.parts ≡ L.parts }
-        requires some { 0 < blank.parts }
-        ensures name { result ≡ next_context (seen_lazy self.old) job }
-        ensures cloned { seen_lazy self.new ≡ clone_context (seen_lazy self.old) c job spec.now entry.now }
-        ensures store { CloneStore (placed self.old) (placed self.new) c job spec.now }
-    {
-        let mut steps = Steps::<L>::new(blank);
-        self.clone_counted(c, spec, job, entry, &mut steps)
-    }
-
-    /// `overlay` on a counter of node steps. No frame is taken or written. Where no group is needed, each
+    /// `overlay`, without a `Result`. No frame is taken or written. Where no group is needed, each
     /// range of `from` and each item takes at most 3064 node steps and 16 free nodes, and 1532 steps and 9
     /// nodes besides.
-    pub fn overlay_counted<L: Ledger>(
-        &mut self,
-        to: Name,
-        from: Name,
-        spec: &Spec,
-        job: u32,
-        steps: &mut Steps<L>,
-    )
+    pub fn overlay_counted(&mut self, to: Name, from: Name, spec: &Spec, job: u32)
         requires to { IsLive (seen_lazy self.old) to }
         requires from { IsLive (seen_lazy self.old) from }
         requires within { IsSpec (seen_lazy self.old).size.pages spec.now }
@@ -129,36 +86,10 @@ impl LazyWorld {
         requires few { AreFew (ranges_after_overlay (seen_lazy self.old) to from job spec.now) }
         ensures overlaid { seen_lazy self.new ≡ overlay (seen_lazy self.old) to from job spec.now }
         ensures store { OverlayStore (placed self.old) (placed self.new) from job spec.now }
-        ensures steps { OverlaySteps (seen_lazy self.old) from job spec.now steps.old steps.new }
+        ensures steps { OverlaySteps (placed self.old) (placed self.new) from job spec.now }
     {
         self.known = false;
-        self.world.overlay_counted(to, from, spec, job, steps);
-    }
-
-    /// `overlay` on a counter of its own.
-    pub(crate) fn overlay_on<L: Ledger>(
-        &mut self,
-        to: Name,
-        from: Name,
-        spec: &Spec,
-        job: u32,
-        blank: Blank,
-    )
-        requires to { IsLive (seen_lazy self.old) to }
-        requires from { IsLive (seen_lazy self.old) from }
-        requires within { IsSpec (seen_lazy self.old).size.pages spec.now }
-        requires may { MayName (seen_lazy self.old) job }
-        requires group { needs_group (seen_lazy self.old) from spec.now ≡ true
-            → HasGroupPlace (seen_lazy self.old) }
-        requires few { AreFew (ranges_after_overlay (seen_lazy self.old) to from job spec.now) }
-        requires blank_name { blank.name ≡ L.name }
-        requires parts { blank.parts ≡ L.parts }
-        requires some { 0 < blank.parts }
-        ensures overlaid { seen_lazy self.new ≡ overlay (seen_lazy self.old) to from job spec.now }
-        ensures store { OverlayStore (placed self.old) (placed self.new) from job spec.now }
-    {
-        let mut steps = Steps::<L>::new(blank);
-        self.overlay_counted(to, from, spec, job, &mut steps);
+        self.world.overlay_counted(to, from, spec, job);
     }
 }
 

@@ -9,9 +9,6 @@ use crate::places::Places;
 use crate::world::PlacedWorld;
 use cow_space::{Origin, PageRun};
 use lwc_base::{Name, Range};
-use pool_base::Steps;
-use std::marker::Brand;
-use std::sync::ledger::{Blank, Ledger};
 
 /// The page run by which pages become zeros that may be stored to, or absent.
 fn page_run_of(range: Range, present: bool) -> PageRun
@@ -30,29 +27,6 @@ fn page_run_of(range: Range, present: bool) -> PageRun
 }
 
 impl Places {
-    /// Makes each page of a range a page of zeros of the place's own, or absent, on a counter of its own.
-    fn set_pages_counted<L: Ledger>(&mut self, i: usize, range: Range, present: bool, blank: Blank)
-        requires place { i < count self.old }
-        requires order { range.from ≤ range.to }
-        requires inside { range.to ≤ MOST_PAGES }
-        requires few { ranges MOST_PAGES
-            (states_of (set_pages range.from range.to present (rows self.old i))
-            (writable_in range.from range.to (rights self.old i))) ≤ MOST_RANGES }
-        requires name { blank.name ≡ L.name }
-        requires parts { blank.parts ≡ L.parts }
-        requires some { 0 < blank.parts }
-        ensures rows { rows self.new
-            ≡ put_row (rows self.old) i (set_pages range.from range.to present (rows self.old i)) }
-        ensures rights { rights self.new
-            ≡ put_rights (rights self.old) i (writable_in range.from range.to (rights self.old i)) }
-        ensures count { count self.new ≡ count self.old }
-        ensures frames { frame_count self.new ≡ frame_count self.old }
-    {
-        let mut steps = Steps::<L>::new(blank);
-        let page_run = page_run_of(range, present);
-        self.pages.change(i, &[page_run], &[], &mut steps);
-    }
-
     /// Makes each page of a range a page of zeros of the place's own with the right `Write`, or absent.
     pub fn set_pages(&mut self, i: usize, range: Range, present: bool)
         requires place { i < count self.old }
@@ -68,7 +42,8 @@ impl Places {
         ensures count { count self.new ≡ count self.old }
         ensures frames { frame_count self.new ≡ frame_count self.old }
     {
-        self.set_pages_counted::<Brand>(i, range, present, Blank::new(1));
+        let page_run = page_run_of(range, present);
+        self.pages.change(i, &[page_run], &[]);
     }
 
     /// The number of ranges of a place once each page of a range were zeros, or absent.

@@ -7,8 +7,6 @@ ghost use Rattle.world_face.specs.Calls.{AreFew, HasGroupPlace, IsLive, MayName}
 use crate::transfer::Transfer;
 use crate::world::PlacedWorld;
 use lwc_base::{Name, Spec};
-use pool_base::Steps;
-use std::sync::ledger::Ledger;
 
 impl PlacedWorld {
     ghost use Rattle.lazy_world.specs.Costs.{OverlaySteps, OverlayStore};
@@ -16,14 +14,7 @@ impl PlacedWorld {
 
     /// Takes over what the items name from another context.
     #[tactic(auto, using(lwc_base::proofs::Facts::changes))]
-    fn overlay_other<L: Ledger>(
-        &mut self,
-        to: Name,
-        from: Name,
-        spec: &Spec,
-        job: u32,
-        steps: &mut Steps<L>,
-    )
+    fn overlay_other(&mut self, to: Name, from: Name, spec: &Spec, job: u32)
         requires apart { to ≢ from }
         requires to { IsLive (seen self.old) to }
         requires from { IsLive (seen self.old) from }
@@ -33,17 +24,17 @@ impl PlacedWorld {
         requires few { AreFew (ranges_after_overlay (seen self.old) to from job spec.now) }
         ensures overlaid { seen self.new ≡ overlay (seen self.old) to from job spec.now }
         ensures store { OverlayStore self.old self.new from job spec.now }
-        ensures steps { OverlaySteps (seen self.old) from job spec.now steps.old steps.new }
+        ensures steps { OverlaySteps self.old self.new from job spec.now }
     {
-        self.share(from, spec, job, steps);
+        self.share(from, spec, job);
         // Nothing is left that moves, so that no value becomes common by this name.
-        self.follow(Transfer::Overlay(to), spec, from, to, steps);
+        self.follow(Transfer::Overlay(to), spec, from, to);
     }
 
     /// Takes over what the items name from the context itself. Its values move at once with the change of the
     /// others, since a context that has only shared may have too many ranges.
     #[tactic(auto, using(lwc_base::proofs::Facts::changes))]
-    fn overlay_itself<L: Ledger>(&mut self, c: Name, spec: &Spec, job: u32, steps: &mut Steps<L>)
+    fn overlay_itself(&mut self, c: Name, spec: &Spec, job: u32)
         requires live { IsLive (seen self.old) c }
         requires within { IsSpec (seen self.old).size.pages spec.now }
         requires may { MayName (seen self.old) job }
@@ -51,15 +42,15 @@ impl PlacedWorld {
         requires few { AreFew (ranges_after_overlay (seen self.old) c c job spec.now) }
         ensures overlaid { seen self.new ≡ overlay (seen self.old) c c job spec.now }
         ensures store { OverlayStore self.old self.new c job spec.now }
-        ensures steps { OverlaySteps (seen self.old) c job spec.now steps.old steps.new }
+        ensures steps { OverlaySteps self.old self.new c job spec.now }
     {
         if self.needs_group(c, spec) {
             let g = self.add_group(job);
-            self.fill_group(g, c, spec, steps);
-            self.follow(Transfer::Overlay(g), spec, c, c, steps);
+            self.fill_group(g, c, spec);
+            self.follow(Transfer::Overlay(g), spec, c, c);
         } else {
             // Nothing moves, so that no value becomes common by this name.
-            self.follow(Transfer::Overlay(c), spec, c, c, steps);
+            self.follow(Transfer::Overlay(c), spec, c, c);
         }
     }
 
@@ -68,14 +59,7 @@ impl PlacedWorld {
     /// gets a copy of each value of mode copy, has each value of mode share in common with `from`, and
     /// nothing under a key of mode unmap. An absent page of `from` becomes absent in `to`. No frame is taken
     /// or written.
-    pub(crate) fn overlay_counted<L: Ledger>(
-        &mut self,
-        to: Name,
-        from: Name,
-        spec: &Spec,
-        job: u32,
-        steps: &mut Steps<L>,
-    )
+    pub(crate) fn overlay_counted(&mut self, to: Name, from: Name, spec: &Spec, job: u32)
         requires to { IsLive (seen self.old) to }
         requires from { IsLive (seen self.old) from }
         requires within { IsSpec (seen self.old).size.pages spec.now }
@@ -84,12 +68,12 @@ impl PlacedWorld {
         requires few { AreFew (ranges_after_overlay (seen self.old) to from job spec.now) }
         ensures overlaid { seen self.new ≡ overlay (seen self.old) to from job spec.now }
         ensures store { OverlayStore self.old self.new from job spec.now }
-        ensures steps { OverlaySteps (seen self.old) from job spec.now steps.old steps.new }
+        ensures steps { OverlaySteps self.old self.new from job spec.now }
     {
         if to == from {
-            self.overlay_itself(from, spec, job, steps);
+            self.overlay_itself(from, spec, job);
         } else {
-            self.overlay_other(to, from, spec, job, steps);
+            self.overlay_other(to, from, spec, job);
         }
     }
 }

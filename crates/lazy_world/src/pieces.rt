@@ -2,8 +2,6 @@ use crate::places::Places;
 use arrayvec::ArrayVec;
 use cow_space::{Origin, PageRun};
 use lwc_base::{Cell, Lent, MOST_ITEMS, MOST_PAGE_RUNS, NOBODY, Range, SLOTS, SlotNumber};
-use pool_base::Steps;
-use std::sync::ledger::Ledger;
 
 /// Where a place gets its pages: all that another place has, or by page runs. Pages of no page run stay.
 /// Those of the ranges may only be read then.
@@ -40,10 +38,10 @@ impl Places {
     ghost use Rattle.lazy_world.specs.Origins.{with_slots, with_states};
     ghost use Rattle.lazy_world.specs.declared.pieces.PageOrigins.TheVariants.{AllOf, PageRuns};
     ghost use Rattle.lazy_world.specs.Seen.{KeepsStore, count, frame_count, free_frames, free_nodes};
-    ghost use Rattle.lazy_world.specs.Seen.{pool, rights, rows};
+    ghost use Rattle.lazy_world.specs.Seen.{node_steps, pool, rights, rows};
 
     /// Gives a place all pages of another one, and their rights, by a hold of the root of their tree.
-    pub(crate) fn copy_pages<L: Ledger>(&mut self, i: usize, j: usize, steps: &mut Steps<L>)
+    pub(crate) fn copy_pages(&mut self, i: usize, j: usize)
         requires place { i < count self.old }
         requires origin { j < count self.old }
         requires apart { j ≢ i }
@@ -57,21 +55,20 @@ impl Places {
         ensures free_empty { HasNoPages (rows self.old i) → free_frames self.new ≡ free_frames self.old }
         ensures pool { pool self.new ≡ pool self.old }
         ensures cost { HasNoPages (rows self.old i)
-            → steps.new ≤ steps.old
+            → node_steps self.new ≤ node_steps self.old
             + min 1 (ranges MOST_PAGES (states_of (rows self.old j) (rights self.old j))) }
-        ensures cost_any { steps.new ≤ steps.old + any_steps (AllOf j) }
+        ensures cost_any { node_steps self.new ≤ node_steps self.old + any_steps (AllOf j) }
     {
-        self.pages.clone_place(i, j, steps);
+        self.pages.clone_place(i, j);
     }
 
     /// Makes the pages of each page run of a place what their origin says, and those of the ranges such as
     /// may only be read.
-    fn change_pages<L: Ledger>(
+    fn change_pages(
         &mut self,
         i: usize,
         page_runs: &ArrayVec<PageRun, MOST_PAGE_RUNS>,
         reads: &ArrayVec<Range, MOST_ITEMS>,
-        steps: &mut Steps<L>,
     )
         requires place { i < count self.old }
         requires given { All (IsPageRun (count self.old) i) page_runs.now.items }
@@ -92,15 +89,15 @@ impl Places {
         ensures free_empty { HasNoPages (rows self.old i) → free_frames self.new ≡ free_frames self.old }
         ensures pool { pool self.new ≡ pool self.old }
         ensures cost { HasNoPages (rows self.old i)
-            → steps.new ≤ steps.old + 128 * length page_runs.now.items }
-        ensures cost_any { steps.new ≤ steps.old + any_steps (PageRuns page_runs.now reads.now) }
+            → node_steps self.new ≤ node_steps self.old + 128 * length page_runs.now.items }
+        ensures cost_any { node_steps self.new
+            ≤ node_steps self.old + any_steps (PageRuns page_runs.now reads.now) }
     {
-        self.pages
-            .change(i, page_runs.as_slice(), reads.as_slice(), steps);
+        self.pages.change(i, page_runs.as_slice(), reads.as_slice());
     }
 
     /// Makes the pages of a place what their origins say.
-    fn take_pages<L: Ledger>(&mut self, i: usize, pages: &PageOrigins, steps: &mut Steps<L>)
+    fn take_pages(&mut self, i: usize, pages: &PageOrigins)
         requires place { i < count self.old }
         requires given { ArePagesGiven (count self.old) i pages.now }
         requires ranges { ranges MOST_PAGES (with_states (rows self.old) (rights self.old) i pages.now)
@@ -118,14 +115,13 @@ impl Places {
         ensures free_empty { HasNoPages (rows self.old i) → free_frames self.new ≡ free_frames self.old }
         ensures pool { pool self.new ≡ pool self.old }
         ensures cost { HasNoPages (rows self.old i)
-            → steps.new ≤ steps.old + most_steps (rows self.old) (rights self.old) pages.now }
-        ensures cost_any { steps.new ≤ steps.old + any_steps pages.now }
+            → node_steps self.new ≤ node_steps self.old
+            + most_steps (rows self.old) (rights self.old) pages.now }
+        ensures cost_any { node_steps self.new ≤ node_steps self.old + any_steps pages.now }
     {
         match pages {
-            PageOrigins::AllOf(j) => self.copy_pages(i, *j, steps),
-            PageOrigins::PageRuns(page_runs, reads) => {
-                self.change_pages(i, page_runs, reads, steps)
-            }
+            PageOrigins::AllOf(j) => self.copy_pages(i, *j),
+            PageOrigins::PageRuns(page_runs, reads) => { self.change_pages(i, page_runs, reads) }
         }
     }
 
@@ -231,7 +227,7 @@ impl Places {
     /// and 4 free nodes for each page run, and one free node besides, or one step if it gets all pages of
     /// another one. Any other place takes at most 1532 node steps and 8 free nodes for each page run, and
     /// one free node besides. No frame is taken or written.
-    pub fn take<L: Ledger>(&mut self, i: usize, origins: &Origins, steps: &mut Steps<L>)
+    pub fn take(&mut self, i: usize, origins: &Origins)
         requires place { i < count self.old }
         requires given { AreGiven (count self.old) i origins.now }
         requires few { ranges MOST_PAGES (origin_states (rows self.old) (rights self.old) i origins.now)
@@ -248,10 +244,11 @@ impl Places {
         ensures free_empty { HasNoPages (rows self.old i) → free_frames self.new ≡ free_frames self.old }
         ensures pool { pool self.new ≡ pool self.old }
         ensures cost { HasNoPages (rows self.old i)
-            → steps.new ≤ steps.old + most_steps (rows self.old) (rights self.old) origins.now.pages }
-        ensures cost_any { steps.new ≤ steps.old + any_steps origins.now.pages }
+            → node_steps self.new ≤ node_steps self.old
+            + most_steps (rows self.old) (rights self.old) origins.now.pages }
+        ensures cost_any { node_steps self.new ≤ node_steps self.old + any_steps origins.now.pages }
     {
-        self.take_pages(i, &origins.pages, steps);
+        self.take_pages(i, &origins.pages);
         self.take_slots(i, &origins.slots);
         self.take_uid(i, origins.uid);
     }

@@ -1,4 +1,4 @@
-#![tactic(auto, unfolding(crate::specs::Seen::rows, crate::specs::Seen::rights, crate::specs::Seen::count, crate::specs::Cells::rows_of,),)]
+#![tactic(auto, unfolding(crate::specs::Seen::rows, crate::specs::Seen::rights, crate::specs::Cells::rows_of))]
 
 ghost use Rattle.std.specs.Prelude.{◌≡◌, ◌<◌, ◌≤◌, ℕ, All};
 ghost use Rattle.lwc_base.specs.declared.limits.TheConstants.{MOST_PAGES};

@@ -10,9 +10,7 @@ use crate::ranges::mode_edge;
 use crate::transfer::Transfer;
 use crate::world::PlacedWorld;
 use lwc_base::{Cell, Key, MOST_PAGES, NOBODY, Name, PageNumber, SLOTS, Spec};
-use pool_base::Steps;
 use res_spec::mode_of;
-use std::sync::ledger::Ledger;
 
 impl PlacedWorld {
     ghost use Rattle.lwc_base.specs.Sharing.{moved_values, needs_group, share};
@@ -26,9 +24,9 @@ impl PlacedWorld {
     ghost use Rattle.lazy_world.specs.Transfers.{transferred_rights, transferred_row};
     ghost use Rattle.lazy_world.specs.declared.transfer.Transfer.TheVariants.{Move};
     ghost use Rattle.lazy_world.specs.Followed.{IsOfContexts, IsReady, followed};
-    ghost use Rattle.lazy_world.specs.Clones.{change_nodes, change_steps};
+    ghost use Rattle.lazy_world.specs.Clones.{change_nodes, change_steps, fill_nodes, fill_steps};
     ghost use Rattle.lazy_world.specs.Costs.{TakesNodes, pieces};
-    ghost use Rattle.lazy_world.specs.Seen.{KeepsStore, count, rows};
+    ghost use Rattle.lazy_world.specs.Seen.{KeepsStore, count, node_steps, rows};
     ghost use Rattle.lazy_world.specs.Worlds.{parts, seen};
 
     /// Whether a page of a place moves.
@@ -98,14 +96,7 @@ impl PlacedWorld {
     /// and 1532 steps and 9 nodes besides. No frame is taken or written.
     // The origins are a large value, which each caller would clear if this were a part of it.
     #[inline(never)]
-    pub(crate) fn follow<L: Ledger>(
-        &mut self,
-        transfer: Transfer,
-        spec: &Spec,
-        d: Name,
-        c: Name,
-        steps: &mut Steps<L>,
-    )
+    pub(crate) fn follow(&mut self, transfer: Transfer, spec: &Spec, d: Name, c: Name)
         requires from { IsLive (seen self.old) d }
         requires to { IsLive (seen self.old) c }
         requires transfer { IsOfContexts transfer d c }
@@ -115,12 +106,13 @@ impl PlacedWorld {
         requires few { ranges_of (followed (seen self.old) transfer spec.now d c) c ≤ MOST_RANGES }
         ensures world { seen self.new ≡ followed (seen self.old) transfer spec.now d c }
         ensures store { TakesNodes self.old self.new (change_nodes (pieces (seen self.old) d spec.now)) }
-        ensures steps { steps.new ≤ steps.old + change_steps (pieces (seen self.old) d spec.now) }
+        ensures steps { node_steps self.new.places
+            ≤ node_steps self.old.places + change_steps (pieces (seen self.old) d spec.now) }
     {
         let from = self.place(d);
         let to = self.place(c);
         let origins = self.origins(transfer, spec, from, to);
-        self.places.take(to, &origins, steps);
+        self.places.take(to, &origins);
     }
 
     /// A job makes its next group, which has nothing in it, and answers its name.
@@ -148,13 +140,7 @@ impl PlacedWorld {
     }
 
     /// A group without values gets those of a context that items move, and nothing else.
-    pub(crate) fn fill_group<L: Ledger>(
-        &mut self,
-        g: Name,
-        c: Name,
-        spec: &Spec,
-        steps: &mut Steps<L>,
-    )
+    pub(crate) fn fill_group(&mut self, g: Name, c: Name, spec: &Spec)
         requires live { IsLive (seen self.old) c }
         requires within { IsSpec (seen self.old).size.pages spec.now }
         requires empty { group (seen self.old) g ≡ new_group }
@@ -164,15 +150,16 @@ impl PlacedWorld {
             (context (seen self.old) c).right all_write)) ≤ MOST_RANGES }
         ensures world { seen self.new ≡ change_group (seen self.old) g
             (λ x. moved_values spec.now (context (seen self.old) c)) }
-        ensures store { TakesNodes self.old self.new (change_nodes (pieces (seen self.old) c spec.now)) }
-        ensures steps { steps.new ≤ steps.old + change_steps (pieces (seen self.old) c spec.now) }
+        ensures store { TakesNodes self.old self.new (fill_nodes (pieces (seen self.old) c spec.now)) }
+        ensures steps { node_steps self.new.places
+            ≤ node_steps self.old.places + fill_steps (pieces (seen self.old) c spec.now) }
     {
         let from = self.place(c);
         match self.groups.place(g) {
             Some(j) => {
                 let to = self.size.contexts as usize + j;
                 let origins = self.origins(Transfer::Move, spec, from, to);
-                self.places.take(to, &origins, steps);
+                self.places.take(to, &origins);
             }
             None => {}
         }
@@ -181,7 +168,7 @@ impl PlacedWorld {
     /// Moves a context's own values under share into a new group of the job, if there are any; else nothing
     /// changes.
     #[tactic(auto, using(lwc_base::proofs::Facts::changes))]
-    pub(crate) fn share<L: Ledger>(&mut self, c: Name, spec: &Spec, job: u32, steps: &mut Steps<L>)
+    pub(crate) fn share(&mut self, c: Name, spec: &Spec, job: u32)
         requires live { IsLive (seen self.old) c }
         requires within { IsSpec (seen self.old).size.pages spec.now }
         requires may { MayName (seen self.old) job }
@@ -189,15 +176,16 @@ impl PlacedWorld {
         requires few { ranges_of (share (seen self.old) c job spec.now) c ≤ MOST_RANGES }
         ensures world { seen self.new ≡ share (seen self.old) c job spec.now }
         ensures none { needs_group (seen self.old) c spec.now ≡ false → self.new ≡ self.old }
-        ensures none_steps { needs_group (seen self.old) c spec.now ≡ false → steps.new ≡ steps.old }
-        ensures store { TakesNodes self.old self.new
-            (2 * change_nodes (pieces (seen self.old) c spec.now)) }
-        ensures steps { steps.new ≤ steps.old + 2 * change_steps (pieces (seen self.old) c spec.now) }
+        ensures store { TakesNodes self.old self.new (fill_nodes (pieces (seen self.old) c spec.now)
+            + change_nodes (pieces (seen self.old) c spec.now)) }
+        ensures steps { node_steps self.new.places
+            ≤ node_steps self.old.places + (fill_steps (pieces (seen self.old) c spec.now)
+            + change_steps (pieces (seen self.old) c spec.now)) }
     {
         if self.needs_group(c, spec) {
             let g = self.add_group(job);
-            self.fill_group(g, c, spec, steps);
-            self.follow(Transfer::Mark(g), spec, c, c, steps);
+            self.fill_group(g, c, spec);
+            self.follow(Transfer::Mark(g), spec, c, c);
         }
     }
 }

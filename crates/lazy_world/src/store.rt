@@ -18,10 +18,7 @@ use crate::counts::Counts;
 use crate::places::Places;
 use crate::world::PlacedWorld;
 use lwc_base::{Name, PageNumber, Range, Right, StoreFault, Tag, touched_pages};
-use pool_base::Steps;
 use range_map::SegmentKind;
-use std::marker::Brand;
-use std::sync::ledger::{Blank, Ledger};
 
 impl Places {
     /// How many frames are in use: one for each different tag.
@@ -35,7 +32,7 @@ impl Places {
 
     /// Whether a page of a place parts when it is written: it has no bytes of its own, or its tag is at
     /// another page too.
-    #[tactic(auto, unfolding(crate::specs::Seen::pages, crate::specs::Seen::count))]
+    #[tactic(auto, unfolding(crate::specs::Seen::pages))]
     pub fn is_parting(&self, i: usize, p: PageNumber) -> bool
         requires { i < count self.now }
         ensures { result ≡ places.is_parting (pages self.now) i p }
@@ -50,7 +47,7 @@ impl Places {
     /// Writes what a piece has of a page, if the page is the place's own, may be stored to and does not
     /// part, and tells whether it did. If it did not, nothing changes.
     #[inline(always)]
-    #[tactic(auto, unfolding(crate::specs::Seen::pages, crate::specs::Seen::count, crate::specs::Seen::frame_count))]
+    #[tactic(auto, unfolding(crate::specs::Seen::pages, crate::specs::Seen::frame_count))]
     pub fn write_in_place(&mut self, i: usize, p: PageNumber, at: u32, piece: &[u8]) -> bool
         requires { i < count self.old }
         ensures own { result ≡ true → IsOwnPage (place_of (pages self.old) i p) }
@@ -69,45 +66,9 @@ impl Places {
         self.pages.write_in_place(i, p, at, piece)
     }
 
-    /// Writes what a piece has of a page that is the place's own, on a counter of its own, and tells whether
-    /// the page parted.
-    #[tactic(auto, unfolding(crate::specs::Seen::pages, crate::specs::Seen::count, crate::specs::Seen::frame_count))]
-    fn write_counted<L: Ledger>(
-        &mut self,
-        i: usize,
-        p: PageNumber,
-        at: u32,
-        piece: &[u8],
-        tag: Tag,
-        blank: Blank,
-    ) -> bool
-        requires place { i < count self.old }
-        requires own { IsOwnPage (place_of (pages self.old) i p) }
-        requires new { places.IsNewTag (pages self.old) tag }
-        requires enough { places.used (pages self.old) + places.taken_by (pages self.old) i p
-            ≤ frame_count self.old }
-        requires name { blank.name ≡ L.name }
-        requires parts { blank.parts ≡ L.parts }
-        requires some { 0 < blank.parts }
-        ensures pages { pages self.new
-            ≡ write_page (pages self.old) i p (record { at = at; bytes = piece.now }) tag }
-        ensures rows { rows self.new ≡ put_row (rows self.old) i (with_key Cell (Page p)
-            (Own (Some (written_value (pages self.old) i p (record { at = at; bytes = piece.now }) tag)))
-            (rows self.old i)) }
-        ensures rights { rights self.new ≡ rights self.old }
-        ensures parted { result ≡ places.is_parting (pages self.old) i p }
-        ensures count { count self.new ≡ count self.old }
-        ensures frames { frame_count self.new ≡ frame_count self.old }
-    {
-        let mut steps = Steps::<L>::new(blank);
-        match self.pages.write(i, p, at, piece, tag, &mut steps) {
-            Ok(parted) => parted,
-            Err(_) => unreachable!(),
-        }
-    }
-
     /// Writes what a piece has of a page that is the place's own, under a new tag if the page parts, and
     /// tells whether it did.
+    #[tactic(auto, unfolding(crate::specs::Seen::pages, crate::specs::Seen::frame_count))]
     pub fn write(&mut self, i: usize, p: PageNumber, at: u32, piece: &[u8], tag: Tag) -> bool
         requires place { i < count self.old }
         requires own { IsOwnPage (place_of (pages self.old) i p) }
@@ -124,7 +85,10 @@ impl Places {
         ensures count { count self.new ≡ count self.old }
         ensures frames { frame_count self.new ≡ frame_count self.old }
     {
-        self.write_counted::<Brand>(i, p, at, piece, tag, Blank::new(1))
+        match self.pages.write(i, p, at, piece, tag) {
+            Ok(parted) => parted,
+            Err(_) => unreachable!(),
+        }
     }
 }
 

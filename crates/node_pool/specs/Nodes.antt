@@ -1,5 +1,6 @@
--- A pool of nodes as the list of its nodes.
-use Rattle.std.specs.Prelude.{ℕ, ◌==◌, List, [], count_by, replicate, slice_index, slice_index_or, slice_set}
+-- A pool of nodes as all of its nodes, and the steps that it made.
+use Rattle.std.specs.Prelude.{ℕ, ◌+◌, ◌-◌, ◌^◌, ◌==◌, min, List, [], count_by, replicate}
+use Rattle.std.specs.Prelude.{slice_index, slice_index_or, slice_set}
 use Rattle.node_pool.specs.declared.pool.TheConstants.{NODE_ENTRIES}
 
 -- a node: how often it is held, its level, and its entries
@@ -7,6 +8,15 @@ pub record Node : Type 0 where
   pub count : ℕ
   pub level : ℕ
   pub entries : List ℕ
+
+-- the nodes of a pool, and how many node steps it made
+pub record Nodes : Type 0 where
+  pub all : List Node
+  pub steps : ℕ
+
+-- one step more: the count stays at the largest number of 64 bits
+abbrev pub next_step : ℕ → ℕ
+next_step steps = min (steps + 1) (2 ^ 64 - 1)
 
 -- a node whose entries are all 0
 abbrev pub empty_node : ℕ → ℕ → Node

@@ -14,15 +14,13 @@ ghost use Rattle.page_tree.specs.Changes.{IsBelow};
 use crate::store::{Store, node_of};
 use crate::way::width;
 use node_pool::{NODE_ENTRIES, NodeNo};
-use pool_base::Steps;
-use std::sync::ledger::Ledger;
 
 impl Store {
     /// An entry of what a link leads to.
     fn link_at(&self, link: u32, i: usize) -> u32
-        requires inside { (n : ℕ) → link ≡ n + 1 → n < length self.now.nodes }
+        requires inside { (n : ℕ) → link ≡ n + 1 → n < length self.now.nodes.all }
         requires place { i < NODE_ENTRIES }
-        ensures { result ≡ link_of self.now.nodes link i }
+        ensures { result ≡ link_of self.now.nodes.all link i }
     {
         if link == 0 {
             0
@@ -33,102 +31,96 @@ impl Store {
 
     /// Lets a link at a level, which is given up, have what another one has for a range of its pages.
     #[cycle(shares)]
-    pub(crate) fn share_at<L: Ledger>(
+    pub(crate) fn share_at(
         &mut self,
         link: u32,
         level: u8,
         first: usize,
         end: usize,
         from: u32,
-        steps: &mut Steps<L>,
     ) -> NodeNo
         requires low { LEAF_LEVEL ≤ level }
         requires high { level ≤ ROOT_LEVEL }
-        requires sound { IsSoundTo level self.old.nodes self.old.frames }
-        requires loose { IsLoose self.old.nodes level link }
+        requires sound { IsSoundTo level self.old.nodes.all self.old.frames }
+        requires loose { IsLoose self.old.nodes.all level link }
         requires order { first ≤ end }
         requires page { end ≤ NODE_ENTRIES ^ level }
         requires inside { level ≡ ROOT_LEVEL → end ≤ PAGES }
-        requires from { IsBeside self.old.nodes (is_root link) level from }
-        requires free { range_below self.old.nodes level link first end ≤ free_of self.old.nodes }
-        ensures sound { IsSoundTo level self.new.nodes self.new.frames }
-        ensures own { IsOwned self.new.nodes level result.n }
-        ensures moves { Moves level self.old.nodes self.new.nodes self.old.frames self.new.frames
+        requires from { IsBeside self.old.nodes.all (is_root link) level from }
+        requires free { range_below self.old.nodes.all level link first end ≤ free_of self.old.nodes.all }
+        ensures sound { IsSoundTo level self.new.nodes.all self.new.frames }
+        ensures own { IsOwned self.new.nodes.all level result.n }
+        ensures moves { Moves level self.old.nodes.all self.new.nodes.all self.old.frames self.new.frames
             (is_root link) (is_root (result.n + 1)) }
-        ensures within { (q : ℕ) → first ≤ q → q < end →
-            entry_below self.new.nodes level (result.n + 1) q ≡ entry_below self.old.nodes level from q }
-        ensures outside { (q : ℕ) → q < NODE_ENTRIES ^ level → (q < first) ⊎ (end ≤ q) →
-            entry_below self.new.nodes level (result.n + 1) q ≡ entry_below self.old.nodes level link q }
-        ensures free { free_of self.old.nodes
-            ≤ free_of self.new.nodes + range_below self.old.nodes level link first end }
-        ensures lone { KeepsLone self.old.nodes self.new.nodes (is_root link)
-            (IsBelow self.old.nodes level from) }
-        ensures cost { steps.new ≤ steps.old + share_steps level }
-        ensures open { IsOpenBelow self.old.nodes level link first → first < end
-            → IsOpenBelow self.new.nodes level (result.n + 1) end }
-        ensures edge { IsOpenBelow self.old.nodes level link first → first < end
-            → edge_below self.new.nodes level (result.n + 1) end ≡ 0 }
-        ensures free_open { IsOpenBelow self.old.nodes level link first
-            → free_of self.old.nodes
-            ≤ free_of self.new.nodes + open_cuts self.old.nodes level link first end }
-        ensures cost_open { IsOpenBelow self.old.nodes level link first
-            → steps.new + passed_below level first
-            ≤ steps.old + passed_below level end + open_steps level }
+        ensures within { (q : ℕ) → first ≤ q → q < end
+            → entry_below self.new.nodes.all level (result.n + 1) q
+            ≡ entry_below self.old.nodes.all level from q }
+        ensures outside { (q : ℕ) → q < NODE_ENTRIES ^ level → (q < first) ⊎ (end ≤ q)
+            → entry_below self.new.nodes.all level (result.n + 1) q
+            ≡ entry_below self.old.nodes.all level link q }
+        ensures free { free_of self.old.nodes.all
+            ≤ free_of self.new.nodes.all + range_below self.old.nodes.all level link first end }
+        ensures lone { KeepsLone self.old.nodes.all self.new.nodes.all (is_root link)
+            (IsBelow self.old.nodes.all level from) }
+        ensures cost { self.new.nodes.steps ≤ self.old.nodes.steps + share_steps level }
+        ensures open { IsOpenBelow self.old.nodes.all level link first → first < end
+            → IsOpenBelow self.new.nodes.all level (result.n + 1) end }
+        ensures edge { IsOpenBelow self.old.nodes.all level link first → first < end
+            → edge_below self.new.nodes.all level (result.n + 1) end ≡ 0 }
+        ensures free_open { IsOpenBelow self.old.nodes.all level link first
+            → free_of self.old.nodes.all
+            ≤ free_of self.new.nodes.all + open_cuts self.old.nodes.all level link first end }
+        ensures cost_open { IsOpenBelow self.old.nodes.all level link first
+            → self.new.nodes.steps + passed_below level first
+            ≤ self.old.nodes.steps + passed_below level end + open_steps level }
     {
-        let node = self.own(link, level, steps);
+        let node = self.own(link, level);
         if first < end {
-            self.share_entries(node, level, first, end, from, steps);
+            self.share_entries(node, level, first, end, from);
         }
         node
     }
 
     /// Lets an owned node have what a link has for a range of its pages.
     #[cycle(shares)]
-    fn share_entries<L: Ledger>(
-        &mut self,
-        node: NodeNo,
-        level: u8,
-        first: usize,
-        end: usize,
-        from: u32,
-        steps: &mut Steps<L>,
-    )
+    fn share_entries(&mut self, node: NodeNo, level: u8, first: usize, end: usize, from: u32)
         requires low { LEAF_LEVEL ≤ level }
         requires high { level ≤ ROOT_LEVEL }
-        requires sound { IsSoundTo level self.old.nodes self.old.frames }
-        requires own { IsOwned self.old.nodes level node.n }
+        requires sound { IsSoundTo level self.old.nodes.all self.old.frames }
+        requires own { IsOwned self.old.nodes.all level node.n }
         requires order { first < end }
         requires page { end ≤ NODE_ENTRIES ^ level }
         requires inside { level ≡ ROOT_LEVEL → end ≤ PAGES }
-        requires from { IsBeside self.old.nodes (is_root (node.n + 1)) level from }
-        requires free { entries_short self.old.nodes level node.n first end ≤ free_of self.old.nodes }
-        ensures sound { IsSoundTo level self.new.nodes self.new.frames }
-        ensures own { IsOwned self.new.nodes level node.n }
-        ensures moves { Moves level self.old.nodes self.new.nodes self.old.frames self.new.frames
+        requires from { IsBeside self.old.nodes.all (is_root (node.n + 1)) level from }
+        requires free { entries_short self.old.nodes.all level node.n first end ≤ free_of self.old.nodes.all }
+        ensures sound { IsSoundTo level self.new.nodes.all self.new.frames }
+        ensures own { IsOwned self.new.nodes.all level node.n }
+        ensures moves { Moves level self.old.nodes.all self.new.nodes.all self.old.frames self.new.frames
             (is_root (node.n + 1)) (is_root (node.n + 1)) }
-        ensures within { (q : ℕ) → first ≤ q → q < end →
-            entry_below self.new.nodes level (node.n + 1) q ≡ entry_below self.old.nodes level from q }
+        ensures within { (q : ℕ) → first ≤ q → q < end
+            → entry_below self.new.nodes.all level (node.n + 1) q
+            ≡ entry_below self.old.nodes.all level from q }
         ensures outside { (q : ℕ) → q < NODE_ENTRIES ^ level → (q < first) ⊎ (end ≤ q) →
-            entry_below self.new.nodes level (node.n + 1) q
-            ≡ entry_below self.old.nodes level (node.n + 1) q }
-        ensures free { free_of self.old.nodes
-            ≤ free_of self.new.nodes + entries_short self.old.nodes level node.n first end }
-        ensures lone { KeepsLone self.old.nodes self.new.nodes (is_root (node.n + 1))
-            (IsBelow self.old.nodes level from) }
-        ensures cost { steps.new ≤ steps.old
+            entry_below self.new.nodes.all level (node.n + 1) q
+            ≡ entry_below self.old.nodes.all level (node.n + 1) q }
+        ensures free { free_of self.old.nodes.all
+            ≤ free_of self.new.nodes.all + entries_short self.old.nodes.all level node.n first end }
+        ensures lone { KeepsLone self.old.nodes.all self.new.nodes.all (is_root (node.n + 1))
+            (IsBelow self.old.nodes.all level from) }
+        ensures cost { self.new.nodes.steps ≤ self.old.nodes.steps
             + (entries_in level * entry_steps level + 2 * share_steps (level - 1)) }
-        ensures open { IsOpenNode self.old.nodes level node.n first
-            → IsOpenNode self.new.nodes level node.n end }
-        ensures edge { IsOpenNode self.old.nodes level node.n first
-            → edge_below self.new.nodes level (node.n + 1) end ≡ 0 }
-        ensures free_open { IsOpenNode self.old.nodes level node.n first
-            → free_of self.old.nodes ≤ free_of self.new.nodes
-            + (edge_below self.old.nodes (level - 1)
-            (entry_of self.old.nodes node.n (first / NODE_ENTRIES ^ (level - 1)))
+        ensures open { IsOpenNode self.old.nodes.all level node.n first
+            → IsOpenNode self.new.nodes.all level node.n end }
+        ensures edge { IsOpenNode self.old.nodes.all level node.n first
+            → edge_below self.new.nodes.all level (node.n + 1) end ≡ 0 }
+        ensures free_open { IsOpenNode self.old.nodes.all level node.n first
+            → free_of self.old.nodes.all ≤ free_of self.new.nodes.all
+            + (edge_below self.old.nodes.all (level - 1)
+            (entry_of self.old.nodes.all node.n (first / NODE_ENTRIES ^ (level - 1)))
             (first % NODE_ENTRIES ^ (level - 1)) + cut_at level end (NODE_ENTRIES ^ level)) }
-        ensures cost_open { IsOpenNode self.old.nodes level node.n first
-            → steps.new + passed_below level first + 1
-            ≤ steps.old + passed_below level end + open_steps level }
+        ensures cost_open { IsOpenNode self.old.nodes.all level node.n first
+            → self.new.nodes.steps + passed_below level first + 1
+            ≤ self.old.nodes.steps + passed_below level end + open_steps level }
     {
         let width = width(level);
         'entries: for i in first / width..(end - 1) / width + 1 {
@@ -136,13 +128,13 @@ impl Store {
             let low = first.max(start) - start;
             let high = end.min(start + width) - start;
             let link = self.link_at(from, i);
-            self.share_entry(node, i, level, low, high, link, steps);
+            self.share_entry(node, i, level, low, high, link);
         }
     }
 
     /// Lets an entry of an owned node have what a link, or a cell, has for a range of its pages.
     #[cycle(shares)]
-    fn share_entry<L: Ledger>(
+    fn share_entry(
         &mut self,
         node: NodeNo,
         i: usize,
@@ -150,70 +142,72 @@ impl Store {
         first: usize,
         end: usize,
         link: u32,
-        steps: &mut Steps<L>,
     )
         requires low { LEAF_LEVEL ≤ level }
         requires high { level ≤ ROOT_LEVEL }
-        requires sound { IsSoundTo level self.old.nodes self.old.frames }
-        requires own { IsOwned self.old.nodes level node.n }
+        requires sound { IsSoundTo level self.old.nodes.all self.old.frames }
+        requires own { IsOwned self.old.nodes.all level node.n }
         requires place { i < NODE_ENTRIES }
         requires narrow { level ≡ ROOT_LEVEL → i < ROOT_ENTRIES }
         requires order { first < end }
         requires page { end ≤ NODE_ENTRIES ^ (level - 1) }
         requires cell { level ≡ LEAF_LEVEL → (f : ℕ) → link ≡ f + 2 → 0 < frame_count self.old.frames f }
-        requires beside { LEAF_LEVEL < level → IsBeside self.old.nodes (is_root (node.n + 1))
+        requires beside { LEAF_LEVEL < level → IsBeside self.old.nodes.all (is_root (node.n + 1))
             (level - 1) link }
-        requires free { part_below self.old.nodes (level - 1) (entry_of self.old.nodes node.n i) first end
-            ≤ free_of self.old.nodes }
-        ensures sound { IsSoundTo level self.new.nodes self.new.frames }
-        ensures own { IsOwned self.new.nodes level node.n }
-        ensures moves { Moves level self.old.nodes self.new.nodes self.old.frames self.new.frames
+        requires free { part_below self.old.nodes.all (level - 1)
+            (entry_of self.old.nodes.all node.n i) first end ≤ free_of self.old.nodes.all }
+        ensures sound { IsSoundTo level self.new.nodes.all self.new.frames }
+        ensures own { IsOwned self.new.nodes.all level node.n }
+        ensures moves { Moves level self.old.nodes.all self.new.nodes.all self.old.frames self.new.frames
             (is_root (node.n + 1)) (is_root (node.n + 1)) }
         ensures within { (q : ℕ) → first ≤ q → q < end →
-            entry_below self.new.nodes (level - 1) (entry_of self.new.nodes node.n i) q
-            ≡ entry_below self.old.nodes (level - 1) link q }
+            entry_below self.new.nodes.all (level - 1) (entry_of self.new.nodes.all node.n i) q
+            ≡ entry_below self.old.nodes.all (level - 1) link q }
         ensures outside { (q : ℕ) → q < NODE_ENTRIES ^ (level - 1) → (q < first) ⊎ (end ≤ q) →
-            entry_below self.new.nodes (level - 1) (entry_of self.new.nodes node.n i) q
-            ≡ entry_below self.old.nodes (level - 1) (entry_of self.old.nodes node.n i) q }
+            entry_below self.new.nodes.all (level - 1) (entry_of self.new.nodes.all node.n i) q
+            ≡ entry_below self.old.nodes.all (level - 1) (entry_of self.old.nodes.all node.n i) q }
         ensures there { (k q : ℕ) → k ≢ i
-            → entry_below self.new.nodes (level - 1) (entry_of self.new.nodes node.n k) q
-            ≡ entry_below self.old.nodes (level - 1) (entry_of self.old.nodes node.n k) q }
+            → entry_below self.new.nodes.all (level - 1) (entry_of self.new.nodes.all node.n k) q
+            ≡ entry_below self.old.nodes.all (level - 1) (entry_of self.old.nodes.all node.n k) q }
         ensures others { (k : ℕ) → k ≢ i
-            → entry_of self.new.nodes node.n k ≡ entry_of self.old.nodes node.n k }
-        ensures free { free_of self.old.nodes ≤ free_of self.new.nodes
-            + part_below self.old.nodes (level - 1) (entry_of self.old.nodes node.n i) first end }
-        ensures lone { KeepsLone self.old.nodes self.new.nodes (is_root (node.n + 1))
-            (λ m. (LEAF_LEVEL < level) × IsBelow self.old.nodes (level - 1) link m) }
+            → entry_of self.new.nodes.all node.n k ≡ entry_of self.old.nodes.all node.n k }
+        ensures free { free_of self.old.nodes.all ≤ free_of self.new.nodes.all
+            + part_below self.old.nodes.all (level - 1) (entry_of self.old.nodes.all node.n i) first end }
+        ensures lone { KeepsLone self.old.nodes.all self.new.nodes.all (is_root (node.n + 1))
+            (λ m. (LEAF_LEVEL < level) × IsBelow self.old.nodes.all (level - 1) link m) }
         ensures rest { (k from to : ℕ) → k ≢ i
-            → range_below self.new.nodes (level - 1) (entry_of self.new.nodes node.n k) from to
-            ≤ range_below self.old.nodes (level - 1) (entry_of self.old.nodes node.n k) from to }
-        ensures cost { steps.new ≤ steps.old + (entry_steps level + share_steps (level - 1)) }
+            → range_below self.new.nodes.all (level - 1) (entry_of self.new.nodes.all node.n k) from to
+            ≤ range_below self.old.nodes.all (level - 1) (entry_of self.old.nodes.all node.n k) from to }
+        ensures cost { self.new.nodes.steps
+            ≤ self.old.nodes.steps + (entry_steps level + share_steps (level - 1)) }
         ensures cost_whole { first ≡ 0 → end ≡ NODE_ENTRIES ^ (level - 1)
-            → steps.new ≤ steps.old + entry_steps level }
-        ensures open { IsOpenBelow self.old.nodes (level - 1) (entry_of self.old.nodes node.n i) first
+            → self.new.nodes.steps ≤ self.old.nodes.steps + entry_steps level }
+        ensures open { IsOpenBelow self.old.nodes.all (level - 1) (entry_of self.old.nodes.all node.n i) first
             → end ≢ NODE_ENTRIES ^ (level - 1)
-            → IsOpenBelow self.new.nodes (level - 1) (entry_of self.new.nodes node.n i) end }
-        ensures edge { IsOpenBelow self.old.nodes (level - 1) (entry_of self.old.nodes node.n i) first
+            → IsOpenBelow self.new.nodes.all (level - 1) (entry_of self.new.nodes.all node.n i) end }
+        ensures edge { IsOpenBelow self.old.nodes.all (level - 1) (entry_of self.old.nodes.all node.n i) first
             → end ≢ NODE_ENTRIES ^ (level - 1)
-            → edge_below self.new.nodes (level - 1) (entry_of self.new.nodes node.n i) end ≡ 0 }
-        ensures free_open { IsOpenBelow self.old.nodes (level - 1) (entry_of self.old.nodes node.n i) first
-            → free_of self.old.nodes ≤ free_of self.new.nodes
-            + open_cuts self.old.nodes (level - 1) (entry_of self.old.nodes node.n i) first end }
+            → edge_below self.new.nodes.all (level - 1) (entry_of self.new.nodes.all node.n i) end ≡ 0 }
+        ensures free_open { IsOpenBelow self.old.nodes.all (level - 1)
+            (entry_of self.old.nodes.all node.n i) first
+            → free_of self.old.nodes.all ≤ free_of self.new.nodes.all
+            + open_cuts self.old.nodes.all (level - 1) (entry_of self.old.nodes.all node.n i) first end }
         ensures free_whole { first ≡ 0 → end ≡ NODE_ENTRIES ^ (level - 1)
-            → free_of self.old.nodes ≤ free_of self.new.nodes }
-        ensures cost_open { IsOpenBelow self.old.nodes (level - 1) (entry_of self.old.nodes node.n i) first
-            → steps.new + passed_below (level - 1) first
-            ≤ steps.old + passed_below (level - 1) end + open_steps (level - 1) }
-        ensures cost_open_whole { IsOpenBelow self.old.nodes (level - 1)
-            (entry_of self.old.nodes node.n i) first
-            → first ≡ 0 → end ≡ NODE_ENTRIES ^ (level - 1) → steps.new ≤ steps.old + 1 }
-        ensures cost_leaf { level ≡ LEAF_LEVEL → steps.new ≡ steps.old }
+            → free_of self.old.nodes.all ≤ free_of self.new.nodes.all }
+        ensures cost_open { IsOpenBelow self.old.nodes.all (level - 1)
+            (entry_of self.old.nodes.all node.n i) first
+            → self.new.nodes.steps + passed_below (level - 1) first
+            ≤ self.old.nodes.steps + passed_below (level - 1) end + open_steps (level - 1) }
+        ensures cost_open_whole { IsOpenBelow self.old.nodes.all (level - 1)
+            (entry_of self.old.nodes.all node.n i) first → first ≡ 0 → end ≡ NODE_ENTRIES ^ (level - 1)
+            → self.new.nodes.steps ≤ self.old.nodes.steps + 1 }
+        ensures cost_leaf { level ≡ LEAF_LEVEL → self.new.nodes.steps ≡ self.old.nodes.steps }
     {
         if first == 0 && end == width(level) {
-            self.put(node, i, link, level, steps);
+            self.put(node, i, link, level);
         } else {
             let child = self.swap(node, i, 0, level);
-            let child = self.share_at(child, level - 1, first, end, link, steps);
+            let child = self.share_at(child, level - 1, first, end, link);
             self.swap(node, i, child.n + 1, level);
         }
     }

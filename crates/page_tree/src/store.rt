@@ -12,9 +12,7 @@ use crate::cell::{PageCell, cell_from, entry_from};
 use frame_pool::Pool;
 use lwc_base::OutOfMemory;
 use node_pool::{NODE_ENTRIES, NodeNo, NodePool};
-use pool_base::Steps;
 use std::alloc::Global;
-use std::sync::ledger::Ledger;
 
 /// The level of a node whose entries are pages.
 pub const LEAF_LEVEL: u8 = 1;
@@ -43,12 +41,12 @@ impl Store {
     pub fn open(alloc: Global, frames: u32, nodes: u32) -> Result<Store, OutOfMemory>
         requires few_frames { frames ≤ 65536 }
         requires few_nodes { nodes ≤ 1048576 }
-        ensures tied { IfOk result (λ store. IsTied store.nodes store.frames []) }
-        ensures sound { IfOk result (λ store. IsSound store.nodes store.frames) }
-        ensures nodes { IfOk result (λ store. store.nodes ≡ replicate nodes (empty_node 0 0)) }
+        ensures tied { IfOk result (λ store. IsTied store.nodes.all store.frames []) }
+        ensures sound { IfOk result (λ store. IsSound store.nodes.all store.frames) }
+        ensures nodes { IfOk result (λ store. store.nodes.all ≡ replicate nodes (empty_node 0 0)) }
         ensures frames { IfOk result
             (λ store. store.frames ≡ replicate frames (zero_frame 0 (record { job = 0; k = 0 }))) }
-        ensures free { IfOk result (λ store. free_of store.nodes ≡ nodes) }
+        ensures free { IfOk result (λ store. free_of store.nodes.all ≡ nodes) }
     {
         let frames = Pool::open(alloc, frames)?;
         let nodes = NodePool::open(alloc, nodes)?;
@@ -87,75 +85,78 @@ pub(crate) fn node_of(link: u32) -> NodeNo
 
 impl Store {
     /// Takes a node of a level, whose entries are all 0.
-    pub(crate) fn take<L: Ledger>(&mut self, level: u8, steps: &mut Steps<L>) -> NodeNo
+    pub(crate) fn take(&mut self, level: u8) -> NodeNo
         requires low { LEAF_LEVEL ≤ level }
         requires high { level ≤ ROOT_LEVEL }
-        requires sound { IsSoundTo level self.old.nodes self.old.frames }
-        requires free { 0 < free_of self.old.nodes }
-        ensures sound { IsSoundTo level self.new.nodes self.new.frames }
-        ensures own { IsOwned self.new.nodes level result.n }
-        ensures empty { (i : ℕ) → entry_of self.new.nodes result.n i ≡ 0 }
-        ensures was_free { count_of self.old.nodes result.n ≡ 0 }
-        ensures others { (x : ℕ) → x ≢ result.n → node_at self.new.nodes x ≡ node_at self.old.nodes x }
-        ensures moves { Moves level self.old.nodes self.new.nodes self.old.frames self.new.frames (λ n. 0)
-            (is_root (result.n + 1)) }
-        ensures free { free_of self.old.nodes ≡ free_of self.new.nodes + 1 }
+        requires sound { IsSoundTo level self.old.nodes.all self.old.frames }
+        requires free { 0 < free_of self.old.nodes.all }
+        ensures sound { IsSoundTo level self.new.nodes.all self.new.frames }
+        ensures own { IsOwned self.new.nodes.all level result.n }
+        ensures empty { (i : ℕ) → entry_of self.new.nodes.all result.n i ≡ 0 }
+        ensures was_free { count_of self.old.nodes.all result.n ≡ 0 }
+        ensures others { (x : ℕ) → x ≢ result.n
+            → node_at self.new.nodes.all x ≡ node_at self.old.nodes.all x }
+        ensures moves { Moves level self.old.nodes.all self.new.nodes.all self.old.frames self.new.frames
+            (λ n. 0) (is_root (result.n + 1)) }
+        ensures free { free_of self.old.nodes.all ≡ free_of self.new.nodes.all + 1 }
         ensures frames { self.new.frames ≡ self.old.frames }
-        ensures one_step { steps.new ≡ steps.old + 1 }
+        ensures one_step { self.new.nodes.steps ≤ self.old.nodes.steps + 1 }
     {
-        self.nodes.take(level, steps).unwrap()
+        self.nodes.take(level).unwrap()
     }
 
     /// Holds a node of a level once more.
-    pub(crate) fn hold<L: Ledger>(&mut self, node: NodeNo, level: u8, steps: &mut Steps<L>)
-        requires sound { IsSoundTo level self.old.nodes self.old.frames }
-        requires level { level_of self.old.nodes node.n ≡ level }
-        requires held { 0 < count_of self.old.nodes node.n }
-        requires fits { count_of self.old.nodes node.n + 1 < 2 ^ 32 }
-        ensures sound { IsSoundTo level self.new.nodes self.new.frames }
-        ensures loose { IsLoose self.new.nodes level (node.n + 1) }
-        ensures moves { Moves level self.old.nodes self.new.nodes self.old.frames self.new.frames (λ n. 0)
-            (is_root (node.n + 1)) }
-        ensures free { free_of self.new.nodes ≡ free_of self.old.nodes }
+    pub(crate) fn hold(&mut self, node: NodeNo, level: u8)
+        requires sound { IsSoundTo level self.old.nodes.all self.old.frames }
+        requires level { level_of self.old.nodes.all node.n ≡ level }
+        requires held { 0 < count_of self.old.nodes.all node.n }
+        requires fits { count_of self.old.nodes.all node.n + 1 < 2 ^ 32 }
+        ensures sound { IsSoundTo level self.new.nodes.all self.new.frames }
+        ensures loose { IsLoose self.new.nodes.all level (node.n + 1) }
+        ensures moves { Moves level self.old.nodes.all self.new.nodes.all self.old.frames self.new.frames
+            (λ n. 0) (is_root (node.n + 1)) }
+        ensures free { free_of self.new.nodes.all ≡ free_of self.old.nodes.all }
         ensures frames { self.new.frames ≡ self.old.frames }
-        ensures others { (x : ℕ) → x ≢ node.n → node_at self.new.nodes x ≡ node_at self.old.nodes x }
-        ensures one_step { steps.new ≡ steps.old + 1 }
+        ensures others { (x : ℕ) → x ≢ node.n → node_at self.new.nodes.all x ≡ node_at self.old.nodes.all x }
+        ensures one_step { self.new.nodes.steps ≤ self.old.nodes.steps + 1 }
     {
-        self.nodes.hold(node, steps);
+        self.nodes.hold(node);
     }
 
     /// Gives up one hold of a node. Where it is the last one, the node has no entries.
-    pub(crate) fn give_up<L: Ledger>(&mut self, node: NodeNo, level: u8, steps: &mut Steps<L>)
-        requires sound { IsSoundTo level self.old.nodes self.old.frames }
-        requires loose { IsLoose self.old.nodes level (node.n + 1) }
-        requires clean { count_of self.old.nodes node.n ≡ 1 → (i : ℕ) → entry_of self.old.nodes node.n i ≡ 0 }
-        ensures sound { IsSoundTo level self.new.nodes self.new.frames }
-        ensures moves { Moves level self.old.nodes self.new.nodes self.old.frames self.new.frames
+    pub(crate) fn give_up(&mut self, node: NodeNo, level: u8)
+        requires sound { IsSoundTo level self.old.nodes.all self.old.frames }
+        requires loose { IsLoose self.old.nodes.all level (node.n + 1) }
+        requires clean { count_of self.old.nodes.all node.n ≡ 1 → (i : ℕ)
+            → entry_of self.old.nodes.all node.n i ≡ 0 }
+        ensures sound { IsSoundTo level self.new.nodes.all self.new.frames }
+        ensures moves { Moves level self.old.nodes.all self.new.nodes.all self.old.frames self.new.frames
             (is_root (node.n + 1)) (λ n. 0) }
-        ensures free { free_of self.old.nodes ≤ free_of self.new.nodes }
+        ensures free { free_of self.old.nodes.all ≤ free_of self.new.nodes.all }
         ensures frames { self.new.frames ≡ self.old.frames }
-        ensures others { (x : ℕ) → x ≢ node.n → node_at self.new.nodes x ≡ node_at self.old.nodes x }
-        ensures one_step { steps.new ≡ steps.old + 1 }
+        ensures others { (x : ℕ) → x ≢ node.n → node_at self.new.nodes.all x ≡ node_at self.old.nodes.all x }
+        ensures one_step { self.new.nodes.steps ≤ self.old.nodes.steps + 1 }
     {
-        self.nodes.drop_hold(node, steps);
+        self.nodes.drop_hold(node);
     }
 
     /// Puts a link into an entry of an owned node above the leaves, and takes the one that was there out.
     pub(crate) fn swap(&mut self, node: NodeNo, i: usize, link: u32, level: u8) -> u32
         requires inner { LEAF_LEVEL < level }
-        requires sound { IsSoundTo (level - 1) self.old.nodes self.old.frames }
-        requires own { IsOwned self.old.nodes level node.n }
+        requires sound { IsSoundTo (level - 1) self.old.nodes.all self.old.frames }
+        requires own { IsOwned self.old.nodes.all level node.n }
         requires place { i < NODE_ENTRIES }
         requires narrow { level ≡ ROOT_LEVEL → ROOT_ENTRIES ≤ i → link ≡ 0 }
-        requires loose { IsLoose self.old.nodes (level - 1) link }
-        ensures was { result ≡ entry_of self.old.nodes node.n i }
-        ensures sound { IsSoundTo (level - 1) self.new.nodes self.new.frames }
-        ensures own { IsOwned self.new.nodes level node.n }
-        ensures loose { IsLoose self.new.nodes (level - 1) result }
-        ensures moves { Moves level self.old.nodes self.new.nodes self.old.frames self.new.frames
+        requires loose { IsLoose self.old.nodes.all (level - 1) link }
+        ensures was { result ≡ entry_of self.old.nodes.all node.n i }
+        ensures sound { IsSoundTo (level - 1) self.new.nodes.all self.new.frames }
+        ensures own { IsOwned self.new.nodes.all level node.n }
+        ensures loose { IsLoose self.new.nodes.all (level - 1) result }
+        ensures moves { Moves level self.old.nodes.all self.new.nodes.all self.old.frames self.new.frames
             (λ n. is_root (node.n + 1) n + is_root link n) (λ n. is_root (node.n + 1) n + is_root result n) }
-        ensures nodes { self.new.nodes ≡ enter self.old.nodes node.n i link }
-        ensures free { free_of self.new.nodes ≡ free_of self.old.nodes }
+        ensures nodes { self.new.nodes.all ≡ enter self.old.nodes.all node.n i link }
+        ensures no_step { self.new.nodes.steps ≡ self.old.nodes.steps }
+        ensures free { free_of self.new.nodes.all ≡ free_of self.old.nodes.all }
         ensures frames { self.new.frames ≡ self.old.frames }
     {
         let old = self.nodes.entry(node, i);
@@ -165,17 +166,18 @@ impl Store {
 
     /// Writes a cell of an owned leaf: its frame is held once more, and that of the old cell once less.
     pub(crate) fn write(&mut self, leaf: NodeNo, j: usize, cell: PageCell)
-        requires sound { IsSoundTo LEAF_LEVEL self.old.nodes self.old.frames }
-        requires own { IsOwned self.old.nodes LEAF_LEVEL leaf.n }
+        requires sound { IsSoundTo LEAF_LEVEL self.old.nodes.all self.old.frames }
+        requires own { IsOwned self.old.nodes.all LEAF_LEVEL leaf.n }
         requires place { j < NODE_ENTRIES }
         requires held { (f : ℕ) → entry_for cell ≡ f + 2 → 0 < frame_count self.old.frames f }
-        ensures sound { IsSoundTo LEAF_LEVEL self.new.nodes self.new.frames }
-        ensures own { IsOwned self.new.nodes LEAF_LEVEL leaf.n }
-        ensures moves { Moves LEAF_LEVEL self.old.nodes self.new.nodes self.old.frames self.new.frames
+        ensures sound { IsSoundTo LEAF_LEVEL self.new.nodes.all self.new.frames }
+        ensures own { IsOwned self.new.nodes.all LEAF_LEVEL leaf.n }
+        ensures moves { Moves LEAF_LEVEL self.old.nodes.all self.new.nodes.all self.old.frames self.new.frames
             (is_root (leaf.n + 1)) (is_root (leaf.n + 1)) }
-        ensures nodes { self.new.nodes ≡ enter self.old.nodes leaf.n j (entry_for cell) }
+        ensures nodes { self.new.nodes.all ≡ enter self.old.nodes.all leaf.n j (entry_for cell) }
+        ensures no_step { self.new.nodes.steps ≡ self.old.nodes.steps }
         ensures holds { (f : ℕ)
-            → frame_count self.new.frames f + one_if (entry_of self.old.nodes leaf.n j == f + 2)
+            → frame_count self.new.frames f + one_if (entry_of self.old.nodes.all leaf.n j == f + 2)
             ≡ frame_count self.old.frames f + one_if (entry_for cell == f + 2) }
     {
         let old = cell_from(self.nodes.entry(leaf, j));

@@ -12,8 +12,6 @@ ghost use Rattle.page_tree.specs.Steps.{IsLoose, IsOwned, Moves};
 use crate::cell::PageCell;
 use crate::store::{LEAF_LEVEL, ROOT_LEVEL, Store, node_of};
 use node_pool::{NODE_ENTRIES, NodeNo};
-use pool_base::Steps;
-use std::sync::ledger::Ledger;
 
 /// How many bits of a page's number choose an entry of a node.
 const ENTRY_BITS: u8 = 5;
@@ -32,12 +30,12 @@ impl Store {
     /// and held once.
     #[inline(always)]
     pub(crate) fn look_at(&self, root: u32, page: usize) -> (u32, bool)
-        requires sound { IsSoundTo ROOT_LEVEL self.now.nodes self.now.frames }
+        requires sound { IsSoundTo ROOT_LEVEL self.now.nodes.all self.now.frames }
         requires held { (n : ℕ) → root ≡ n + 1
-            → (level_of self.now.nodes n ≡ ROOT_LEVEL) × (0 < count_of self.now.nodes n) }
+            → (level_of self.now.nodes.all n ≡ ROOT_LEVEL) × (0 < count_of self.now.nodes.all n) }
         requires page { page < NODE_ENTRIES ^ ROOT_LEVEL }
-        ensures entry { result.0 ≡ entry_below self.now.nodes ROOT_LEVEL root page }
-        ensures alone { (result.1 ≡ true) ↔ (short_below self.now.nodes ROOT_LEVEL root page ≡ 0) }
+        ensures entry { result.0 ≡ entry_below self.now.nodes.all ROOT_LEVEL root page }
+        ensures alone { (result.1 ≡ true) ↔ (short_below self.now.nodes.all ROOT_LEVEL root page ≡ 0) }
     {
         let mut link = root;
         let mut p = page;
@@ -59,43 +57,37 @@ impl Store {
     }
 
     /// Lets a link at a level, which is given up, have a cell for a page.
-    pub(crate) fn set_at<L: Ledger>(
-        &mut self,
-        link: u32,
-        level: u8,
-        p: usize,
-        cell: PageCell,
-        steps: &mut Steps<L>,
-    ) -> NodeNo
+    pub(crate) fn set_at(&mut self, link: u32, level: u8, p: usize, cell: PageCell) -> NodeNo
         requires low { LEAF_LEVEL ≤ level }
         requires high { level ≤ ROOT_LEVEL }
-        requires sound { IsSoundTo level self.old.nodes self.old.frames }
-        requires loose { IsLoose self.old.nodes level link }
+        requires sound { IsSoundTo level self.old.nodes.all self.old.frames }
+        requires loose { IsLoose self.old.nodes.all level link }
         requires page { p < NODE_ENTRIES ^ level }
         requires inside { level ≡ ROOT_LEVEL → p < PAGES }
         requires held { (f : ℕ) → entry_for cell ≡ f + 2 → 0 < frame_count self.old.frames f }
-        requires free { short_below self.old.nodes level link p ≤ free_of self.old.nodes }
-        ensures sound { IsSoundTo level self.new.nodes self.new.frames }
-        ensures own { IsOwned self.new.nodes level result.n }
-        ensures moves { Moves level self.old.nodes self.new.nodes self.old.frames self.new.frames
+        requires free { short_below self.old.nodes.all level link p ≤ free_of self.old.nodes.all }
+        ensures sound { IsSoundTo level self.new.nodes.all self.new.frames }
+        ensures own { IsOwned self.new.nodes.all level result.n }
+        ensures moves { Moves level self.old.nodes.all self.new.nodes.all self.old.frames self.new.frames
             (is_root link) (is_root (result.n + 1)) }
-        ensures page { entry_below self.new.nodes level (result.n + 1) p ≡ entry_for cell }
-        ensures pages { (q : ℕ) → q < NODE_ENTRIES ^ level → q ≢ p →
-            entry_below self.new.nodes level (result.n + 1) q ≡ entry_below self.old.nodes level link q }
-        ensures alone { short_below self.new.nodes level (result.n + 1) p ≡ 0 }
-        ensures free { free_of self.old.nodes
-            ≤ free_of self.new.nodes + short_below self.old.nodes level link p }
-        ensures grows { entry_for cell ≡ entry_below self.old.nodes level link p
+        ensures page { entry_below self.new.nodes.all level (result.n + 1) p ≡ entry_for cell }
+        ensures pages { (q : ℕ) → q < NODE_ENTRIES ^ level → q ≢ p
+            → entry_below self.new.nodes.all level (result.n + 1) q
+            ≡ entry_below self.old.nodes.all level link q }
+        ensures alone { short_below self.new.nodes.all level (result.n + 1) p ≡ 0 }
+        ensures free { free_of self.old.nodes.all
+            ≤ free_of self.new.nodes.all + short_below self.old.nodes.all level link p }
+        ensures grows { entry_for cell ≡ entry_below self.old.nodes.all level link p
             → (f : ℕ) → frame_count self.old.frames f ≤ frame_count self.new.frames f }
-        ensures cost { steps.new ≤ steps.old + way_steps level }
+        ensures cost { self.new.nodes.steps ≤ self.old.nodes.steps + way_steps level }
     {
-        let node = self.own(link, level, steps);
+        let node = self.own(link, level);
         if level == LEAF_LEVEL {
             self.write(node, p, cell);
         } else {
             let width = width(level);
             let child = self.swap(node, p / width, 0, level);
-            let child = self.set_at(child, level - 1, p % width, cell, steps);
+            let child = self.set_at(child, level - 1, p % width, cell);
             self.swap(node, p / width, child.n + 1, level);
         }
         node

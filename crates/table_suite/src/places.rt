@@ -6,12 +6,9 @@ ghost use Rattle.cow_space.specs.Tags.{IsNewTag};
 use crate::checks::check_equal;
 use cow_space::{NoFrame, Origin, PageCells, PageRun};
 use lwc_base::{MOST_RANGES, Name, Range, Tag};
-use pool_base::Steps;
 use range_map::SegmentKind;
 use std::alloc::Global;
-use std::marker::Brand;
 use std::process::Abort;
-use std::sync::ledger::{Blank, Ledger};
 use std::test::Fail;
 
 /// A page run from one page up to and without another.
@@ -26,13 +23,7 @@ fn page_run(from: u16, to: u16, origin: Origin) -> PageRun
 }
 
 /// Changes a place, whose ranges stay few.
-fn change<L: Ledger>(
-    rt: &impl Abort,
-    places: &mut PageCells,
-    i: usize,
-    page_runs: &[PageRun],
-    steps: &mut Steps<L>,
-)
+fn change(rt: &impl Abort, places: &mut PageCells, i: usize, page_runs: &[PageRun])
     requires place { i < length (cells places.old) }
     requires page_runs { All (IsPageRun (length (cells places.old)) i) page_runs.now }
     ensures { cells places.new
@@ -40,38 +31,29 @@ fn change<L: Ledger>(
 {
     let count = places.count_after(i, page_runs, &[]);
     assert!(rt; count <= MOST_RANGES);
-    places.change(i, page_runs, &[], steps);
+    places.change(i, page_runs, &[]);
 }
 
 /// Writes three bytes over the end of page 5 of the first place, which has none: whether the page is to part, and the
 /// answer.
-fn write_end<L: Ledger>(
-    rt: &impl Abort,
-    places: &mut PageCells,
-    tag: Tag,
-    steps: &mut Steps<L>,
-) -> (bool, Result<bool, NoFrame>)
+fn write_end(rt: &impl Abort, places: &mut PageCells, tag: Tag) -> (bool, Result<bool, NoFrame>)
     requires place { 0 < length (cells places.old) }
     requires new { IsNewTag (cells places.old) tag }
 {
     assert!(rt; matches!(places.kind(0, 5), Some(SegmentKind::Own)));
     let is_parting = places.is_parting(0, 5);
-    let answer = places.write(0, 5, 5 * 4096 + 4094, &[7, 8, 9], tag, steps);
+    let answer = places.write(0, 5, 5 * 4096 + 4094, &[7, 8, 9], tag);
     (is_parting, answer)
 }
 
 /// Three places, of which the first has pages 2 to 7, and bytes at page 5.
-fn written<L: Ledger>(
-    rt: &impl Abort,
-    alloc: Global,
-    steps: &mut Steps<L>,
-) -> Result<PageCells, Fail> {
+fn written(rt: &impl Abort, alloc: Global) -> Result<PageCells, Fail> {
     let mut places = PageCells::open(alloc, 4, 3)?;
     assert!(rt; places.len() == 3 && places.frames() == 4 && places.used() == 0);
-    change(rt, &mut places, 0, &[page_run(2, 8, Origin::Zeros)], steps);
+    change(rt, &mut places, 0, &[page_run(2, 8, Origin::Zeros)]);
     assert!(rt; places.len() == 3);
     let tag = Tag { job: 1, k: 0 };
-    let (is_parting, answer) = write_end(rt, &mut places, tag, steps);
+    let (is_parting, answer) = write_end(rt, &mut places, tag);
     assert!(rt; is_parting && answer == Ok(true));
     Ok(places)
 }
@@ -81,32 +63,28 @@ const GROUP: Name = Name { job: 1, k: 2 };
 
 /// Copies the first place into the second, and answers the ranges of the second and the frames in use. Then it makes
 /// some pages of the first common and the others absent.
-fn copy_first<L: Ledger>(
-    rt: &impl Abort,
-    places: &mut PageCells,
-    steps: &mut Steps<L>,
-) -> (u32, u32) {
+fn copy_first(rt: &impl Abort, places: &mut PageCells) -> (u32, u32) {
     assert!(rt; places.len() == 3);
-    places.clone_place(1, 0, steps);
+    places.clone_place(1, 0);
     assert!(rt; places.len() == 3);
     let copied = (places.count(1), places.used());
     let common = [
         page_run(4, 6, Origin::Common(GROUP)),
         page_run(0, 8, Origin::Absent),
     ];
-    change(rt, places, 0, &common, steps);
+    change(rt, places, 0, &common);
     copied
 }
 
 /// Puts copies of pages of both places, and zeros, into the third.
-fn mix_third<L: Ledger>(rt: &impl Abort, places: &mut PageCells, steps: &mut Steps<L>) {
+fn mix_third(rt: &impl Abort, places: &mut PageCells) {
     assert!(rt; places.len() == 3);
     let mixed = [
         page_run(4, 6, Origin::CopyOf(1)),
         page_run(5, 8, Origin::CopyOf(0)),
         page_run(7, 10, Origin::Zeros),
     ];
-    change(rt, places, 2, &mixed, steps);
+    change(rt, places, 2, &mixed);
 }
 
 /// The kinds of pages 3 and 5 of the first place, and of pages 5, 6, 7 and 9 of the third.
@@ -124,14 +102,10 @@ fn kinds_of(rt: &impl Abort, places: &PageCells) -> [Option<SegmentKind>; 6] {
 
 /// Clears the second place: whether page 5 of the first has no bytes before, and the ranges of the two others and the
 /// frames in use after.
-fn clear_second<L: Ledger>(
-    rt: &impl Abort,
-    places: &mut PageCells,
-    steps: &mut Steps<L>,
-) -> (bool, [u32; 3]) {
+fn clear_second(rt: &impl Abort, places: &mut PageCells) -> (bool, [u32; 3]) {
     assert!(rt; places.len() == 3);
     let has_none = places.bytes(0, 5).is_none();
-    places.clear_place(1, steps);
+    places.clear_place(1);
     assert!(rt; places.len() == 3);
     (has_none, [places.count(1), places.count(2), places.used()])
 }
@@ -144,17 +118,12 @@ fn last_bytes(rt: &impl Abort, places: &PageCells) -> Option<(usize, [u8; 3])> {
 }
 
 /// Copies and drops the pages of a place that has bytes at one, and makes some of them common.
-fn try_places<L: Ledger>(rt: &impl Abort, alloc: Global, blank: Blank) -> Result<(), Fail>
-    requires name { blank.name ≡ L.name }
-    requires parts { blank.parts ≡ L.parts }
-    requires some { 0 < blank.parts }
-{
-    let mut steps = Steps::<L>::new(blank);
-    let mut places = written(rt, alloc, &mut steps)?;
-    let copied = copy_first(rt, &mut places, &mut steps);
-    mix_third(rt, &mut places, &mut steps);
+fn try_places(rt: &impl Abort, alloc: Global) -> Result<(), Fail> {
+    let mut places = written(rt, alloc)?;
+    let copied = copy_first(rt, &mut places);
+    mix_third(rt, &mut places);
     let kinds = kinds_of(rt, &places);
-    let cleared = clear_second(rt, &mut places, &mut steps);
+    let cleared = clear_second(rt, &mut places);
     let last = last_bytes(rt, &places);
     let own = Some(SegmentKind::Own);
     let common = Some(SegmentKind::Common(GROUP));
@@ -170,5 +139,5 @@ fn try_places<L: Ledger>(rt: &impl Abort, alloc: Global, blank: Blank) -> Result
 
 #[test]
 fn places_share_pages_until_they_drop_them(rt: HostRuntime) -> Result<(), Fail> {
-    try_places::<Brand>(&rt, rt.alloc(), Blank::new(1))
+    try_places(&rt, rt.alloc())
 }

@@ -6,11 +6,9 @@ use crate::checks::check_equal;
 use frame_pool::{FrameNo, Pool};
 use lwc_base::Tag;
 use node_pool::{NodeNo, NodePool};
-use pool_base::{Counts, Steps, put_next};
+use pool_base::{Counts, put_next};
 use std::alloc::Global;
-use std::marker::Brand;
 use std::process::Abort;
-use std::sync::ledger::{Blank, Ledger};
 use std::test::Fail;
 
 #[test]
@@ -38,25 +36,6 @@ fn an_element_is_put_over_another_and_after_it(rt: HostRuntime) -> Result<(), Fa
     put_next(&mut items, 1, 9u8);
     check_equal(&rt, items.as_slice(), [8, 9].as_slice());
     Ok(())
-}
-
-/// Counts two steps.
-fn two_steps<L: Ledger>(blank: Blank) -> u64
-    requires name { blank.name ≡ L.name }
-    requires parts { blank.parts ≡ L.parts }
-    requires some { 0 < blank.parts }
-    ensures { result ≡ 2 }
-{
-    let mut steps = Steps::<L>::new(blank);
-    steps.tick();
-    steps.tick();
-    2
-}
-
-#[test]
-fn steps_take_no_bytes(rt: HostRuntime) {
-    let size = std::mem::size_of::<Steps<Brand>>();
-    check_equal(&rt, (size, two_steps::<Brand>(Blank::new(1))), (0, 2));
 }
 
 /// Writes the last byte of a frame, and copies the frame: the last byte and the stamp of the other one.
@@ -110,10 +89,10 @@ fn two_frames_are_taken_and_one_comes_back_zeroed(rt: HostRuntime) -> Result<(),
 
 /// Writes an entry of the first of two nodes: that entry of both, and the levels of both.
 fn entered(pool: &mut NodePool, first: NodeNo, second: NodeNo) -> ([u32; 2], [u8; 2])
-    requires first { count_of pool.old first.n ≡ 1 × (first.n < length pool.old) }
-    requires second { count_of pool.old second.n ≡ 1 × (second.n < length pool.old) }
-    ensures size { length pool.new ≡ length pool.old }
-    ensures counts { (n : ℕ) → count_of pool.new n ≡ count_of pool.old n }
+    requires first { count_of pool.old.all first.n ≡ 1 × (first.n < length pool.old.all) }
+    requires second { count_of pool.old.all second.n ≡ 1 × (second.n < length pool.old.all) }
+    ensures size { length pool.new.all ≡ length pool.old.all }
+    ensures counts { (n : ℕ) → count_of pool.new.all n ≡ count_of pool.old.all n }
 {
     pool.set_entry(first, 31, 9);
     (
@@ -124,41 +103,35 @@ fn entered(pool: &mut NodePool, first: NodeNo, second: NodeNo) -> ([u32; 2], [u8
 
 /// Holds the second of two nodes once more, gives the first back, and takes one: the holds of the second, the node that
 /// is taken, and the entry that was written in the first.
-fn taken_again<L: Ledger>(
+fn taken_again(
     rt: &impl Abort,
     pool: &mut NodePool,
     first: NodeNo,
     second: NodeNo,
-    steps: &mut Steps<L>,
 ) -> (u32, NodeNo, u32)
-    requires first { count_of pool.old first.n ≡ 1 × (first.n < length pool.old) }
-    requires second { count_of pool.old second.n ≡ 1 × (second.n < length pool.old) }
+    requires first { count_of pool.old.all first.n ≡ 1 × (first.n < length pool.old.all) }
+    requires second { count_of pool.old.all second.n ≡ 1 × (second.n < length pool.old.all) }
 {
-    pool.hold(second, steps);
+    pool.hold(second);
     let held = pool.count(second);
-    pool.drop_hold(first, steps);
-    let taken = pool.take(2, steps).expect(rt, "one is held");
+    pool.drop_hold(first);
+    let taken = pool.take(2).expect(rt, "one is held");
     (held, taken, pool.entry(taken, 31))
 }
 
 /// Takes two nodes, writes an entry, and takes one of them again.
-fn try_two_nodes<L: Ledger>(rt: &impl Abort, alloc: Global, blank: Blank) -> Result<(), Fail>
-    requires name { blank.name ≡ L.name }
-    requires parts { blank.parts ≡ L.parts }
-    requires some { 0 < blank.parts }
-{
-    let mut steps = Steps::<L>::new(blank);
+fn try_two_nodes(rt: &impl Abort, alloc: Global) -> Result<(), Fail> {
     let mut pool = NodePool::open(alloc, 2)?;
-    let first = pool.take(1, &mut steps).expect(rt, "none is held");
-    let second = pool.take(2, &mut steps).expect(rt, "one is held");
-    assert!(rt; pool.take(1, &mut steps).is_none());
+    let first = pool.take(1).expect(rt, "none is held");
+    let second = pool.take(2).expect(rt, "one is held");
+    assert!(rt; pool.take(1).is_none());
     let entered = entered(&mut pool, first, second);
-    let again = taken_again(rt, &mut pool, first, second, &mut steps);
+    let again = taken_again(rt, &mut pool, first, second);
     check_equal(rt, (entered, again), (([9, 0], [1, 2]), (2, first, 0)));
     Ok(())
 }
 
 #[test]
 fn two_nodes_are_taken_and_one_comes_back_empty(rt: HostRuntime) -> Result<(), Fail> {
-    try_two_nodes::<Brand>(&rt, rt.alloc(), Blank::new(1))
+    try_two_nodes(&rt, rt.alloc())
 }

@@ -9,11 +9,8 @@ use crate::checks::check_equal;
 use lwc_base::Range;
 use node_pool::NodeNo;
 use page_tree::{PAGES, PageCell, PageTree, Store};
-use pool_base::Steps;
 use std::alloc::Global;
-use std::marker::Brand;
 use std::process::Abort;
-use std::sync::ledger::{Blank, Ledger};
 use std::test::Fail;
 
 /// How far the present pages of a test are from one another: there are some below each entry of the root.
@@ -34,27 +31,27 @@ fn cell_at_page(p: u16) -> PageCell
 }
 
 /// Makes the present pages of a test those of a tree.
-fn fill<L: Ledger>(tree: &mut PageTree, store: &mut Store, steps: &mut Steps<L>)
-    requires sound { IsSound store.old.nodes store.old.frames }
-    requires tree { IsTree store.old.nodes tree.old }
-    requires room { 507 ≤ free_of store.old.nodes }
-    ensures sound { IsSound store.new.nodes store.new.frames }
-    ensures tree { IsTree store.new.nodes tree.new }
-    ensures alone { link_short store.new.nodes tree.new ≡ 0 }
-    ensures room { free_of store.old.nodes ≤ free_of store.new.nodes + 507 }
-    ensures size { length store.new.nodes ≡ length store.old.nodes }
+fn fill(tree: &mut PageTree, store: &mut Store)
+    requires sound { IsSound store.old.nodes.all store.old.frames }
+    requires tree { IsTree store.old.nodes.all tree.old }
+    requires room { 507 ≤ free_of store.old.nodes.all }
+    ensures sound { IsSound store.new.nodes.all store.new.frames }
+    ensures tree { IsTree store.new.nodes.all tree.new }
+    ensures alone { link_short store.new.nodes.all tree.new ≡ 0 }
+    ensures room { free_of store.old.nodes.all ≤ free_of store.new.nodes.all + 507 }
+    ensures size { length store.new.nodes.all ≡ length store.old.nodes.all }
 {
     'pages: for k in 0..PRESENT {
         let p = (k * APART) as u16;
         let cell = cell_at_page(p);
-        tree.set(store, p, cell, steps);
+        tree.set(store, p, cell);
     }
 }
 
 /// Stops unless the tree has the cells of the model within the range, or outside it, and nothing else.
 fn compare(rt: &impl Abort, tree: &PageTree, store: &Store, range: Range, inside: bool)
-    requires sound { IsSound store.now.nodes store.now.frames }
-    requires tree { IsTree store.now.nodes tree.now }
+    requires sound { IsSound store.now.nodes.all store.now.frames }
+    requires tree { IsTree store.now.nodes.all tree.now }
 {
     for p in 0..PAGES as u16 {
         let is_inside = range.from <= p && p < range.to;
@@ -69,7 +66,7 @@ fn compare(rt: &impl Abort, tree: &PageTree, store: &Store, range: Range, inside
 
 /// How many nodes are free.
 fn free_nodes(store: &Store) -> u32
-    requires { length store.now.nodes ≡ 2048 }
+    requires { length store.now.nodes.all ≡ 2048 }
     ensures { result ≤ 2048 }
 {
     let mut free = 0;
@@ -88,67 +85,51 @@ const WHOLE: Range = Range {
 };
 
 /// Shares a range of a tree with an empty one, and takes the range from a copy of the tree.
-fn try_range<L: Ledger>(
-    rt: &impl Abort,
-    tree: &PageTree,
-    store: &mut Store,
-    range: Range,
-    steps: &mut Steps<L>,
-)
-    requires sound { IsSound store.old.nodes store.old.frames }
-    requires tree { IsTree store.old.nodes tree.now }
-    requires few { (n : ℕ) → tree.now ≡ n + 1 → trees_at store.old.nodes n < 1000 }
-    requires room { 15 ≤ free_of store.old.nodes }
+fn try_range(rt: &impl Abort, tree: &PageTree, store: &mut Store, range: Range)
+    requires sound { IsSound store.old.nodes.all store.old.frames }
+    requires tree { IsTree store.old.nodes.all tree.now }
+    requires few { (n : ℕ) → tree.now ≡ n + 1 → trees_at store.old.nodes.all n < 1000 }
+    requires room { 15 ≤ free_of store.old.nodes.all }
     requires order { range.from ≤ range.to }
     requires inside { range.to ≤ PAGES }
-    ensures sound { IsSound store.new.nodes store.new.frames }
-    ensures trees { (n : ℕ) → trees_at store.new.nodes n ≡ trees_at store.old.nodes n }
-    ensures room { free_of store.old.nodes ≤ free_of store.new.nodes + 15 }
+    ensures sound { IsSound store.new.nodes.all store.new.frames }
+    ensures trees { (n : ℕ) → trees_at store.new.nodes.all n ≡ trees_at store.old.nodes.all n }
+    ensures room { free_of store.old.nodes.all ≤ free_of store.new.nodes.all + 15 }
 {
     let mut copy = PageTree::empty();
-    copy.share_range(tree, store, range, steps);
+    copy.share_range(tree, store, range);
     compare(rt, &copy, store, range, true);
-    copy.share_range(tree, store, WHOLE, steps);
-    copy.clear_range(store, range, steps);
+    copy.share_range(tree, store, WHOLE);
+    copy.clear_range(store, range);
     compare(rt, &copy, store, range, false);
-    copy.clear_range(store, WHOLE, steps);
+    copy.clear_range(store, WHOLE);
     compare(rt, &copy, store, WHOLE, false);
 }
 
 /// Shares all pages of a tree, and then changes one of them.
-fn try_whole<L: Ledger>(rt: &impl Abort, alloc: Global, blank: Blank) -> Result<(), Fail>
-    requires name { blank.name ≡ L.name }
-    requires parts { blank.parts ≡ L.parts }
-    requires some { 0 < blank.parts }
-{
-    let mut steps = Steps::<L>::new(blank);
+fn try_whole(rt: &impl Abort, alloc: Global) -> Result<(), Fail> {
     let mut store = Store::open(alloc, 1, 2048)?;
     let mut tree = PageTree::empty();
-    fill(&mut tree, &mut store, &mut steps);
+    fill(&mut tree, &mut store);
     let before = free_nodes(&store);
     let mut copy = PageTree::empty();
-    copy.share_range(&tree, &mut store, WHOLE, &mut steps);
+    copy.share_range(&tree, &mut store, WHOLE);
     assert!(rt; before <= free_nodes(&store) + 1);
     compare(rt, &copy, &store, WHOLE, true);
     check_equal(rt, copy.look(&store, 12513), (PageCell::Zero, false));
-    copy.unshare_path(&mut store, 12513, &mut steps);
+    copy.unshare_path(&mut store, 12513);
     assert!(rt; copy.is_alone(&store, 12513));
-    copy.set(&mut store, 12513, PageCell::Absent, &mut steps);
+    copy.set(&mut store, 12513, PageCell::Absent);
     check_equal(rt, copy.get(&store, 12513), PageCell::Absent);
     compare(rt, &tree, &store, WHOLE, true);
     Ok(())
 }
 
 /// Shares each of some ranges of a tree, and takes it away from a copy.
-fn try_ranges<L: Ledger>(rt: &impl Abort, alloc: Global, blank: Blank) -> Result<(), Fail>
-    requires name { blank.name ≡ L.name }
-    requires parts { blank.parts ≡ L.parts }
-    requires some { 0 < blank.parts }
-{
-    let mut steps = Steps::<L>::new(blank);
+fn try_ranges(rt: &impl Abort, alloc: Global) -> Result<(), Fail> {
     let mut store = Store::open(alloc, 1, 2048)?;
     let mut tree = PageTree::empty();
-    fill(&mut tree, &mut store, &mut steps);
+    fill(&mut tree, &mut store);
     let rows = [
         (0, 16384),
         (0, 0),
@@ -164,17 +145,17 @@ fn try_ranges<L: Ledger>(rt: &impl Abort, alloc: Global, blank: Blank) -> Result
     ];
     'table: for (from, to) in rows {
         assert!(rt; from <= to && usize::from(to) <= PAGES);
-        try_range(rt, &tree, &mut store, Range { from, to }, &mut steps);
+        try_range(rt, &tree, &mut store, Range { from, to });
     }
     Ok(())
 }
 
 #[test]
 fn a_whole_tree_is_shared_with_few_nodes(rt: HostRuntime) -> Result<(), Fail> {
-    try_whole::<Brand>(&rt, rt.alloc(), Blank::new(1))
+    try_whole(&rt, rt.alloc())
 }
 
 #[test]
 fn ranges_match_a_plain_model(rt: HostRuntime) -> Result<(), Fail> {
-    try_ranges::<Brand>(&rt, rt.alloc(), Blank::new(1))
+    try_ranges(&rt, rt.alloc())
 }

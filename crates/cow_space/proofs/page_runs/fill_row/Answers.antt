@@ -19,7 +19,7 @@ use Rattle.cow_space.proofs.RowViews.{few-passed, row-bare, row-edges, row-first
 use Rattle.cow_space.proofs.page_runs.fill_row.Goals as goal
 
 pub pieces-init : goal.pieces-init
-pieces-init g c = record {
+pieces-init c = record {
   inside = omega arith;
   maps = filled-none (maps c.args.rows.now) c.args.i (changed_row (maps c.args.rows.now) c.args.i c.args.page_runs.now);
   frames = refl;
@@ -38,7 +38,7 @@ pieces-init g c = record {
 }
 
 pub fill_range-requires-clause-given : goal.fill_range-requires-clause-given
-fill_range-requires-clause-given g c =
+fill_range-requires-clause-given c =
     let page_runs = c.args.page_runs.now in
     let count = length (maps c.args.rows.now) in
     let holds = subst (λ o. MatchOption o (Unit {0}) (λ s. IsPageRun count c.args.i s × (is_between s.range.from s.range.to c.pieces.p ≡ true))) (sym c.page_run_at.ensures ∙ ap option_copied c.in-Some.is)
@@ -46,7 +46,7 @@ fill_range-requires-clause-given g c =
     subst (λ n. IsApart n c.args.i c.in-Some.page_run.now.origin) (sym (ap length c.pieces.invariant.maps ∙ length-set (maps c.args.rows.now) c.args.i _)) holds.0.given
 
 pub pieces-preserved-in-Some : goal.pieces-preserved-in-Some
-pieces-preserved-in-Some g c =
+pieces-preserved-in-Some c =
     let page_runs = c.args.page_runs.now in
     let before = maps c.args.rows.now in
     let count = length before in
@@ -82,7 +82,7 @@ pieces-preserved-in-Some g c =
     }
 
 pub pieces-preserved : goal.pieces-preserved
-pieces-preserved g c =
+pieces-preserved c =
     let page_runs = c.args.page_runs.now in
     let before = maps c.args.rows.now in
     let after = changed_row before c.args.i page_runs in
@@ -113,14 +113,14 @@ pieces-preserved g c =
     }
 
 pub returns-clause-maps : goal.returns-clause-maps
-returns-clause-maps g c =
+returns-clause-maps c =
     let before = maps c.args.rows.now in
     let last : c.pieces.p ≡ MOST_PAGES = omega (arith, c.pieces-test.false, c.pieces.invariant.inside) in
     filled-all before c.args.i (changed_row before c.args.i c.args.page_runs.now) (maps c.pieces.rows) (c.pieces.invariant.maps ∙ ap (filled before c.args.i (changed_row before c.args.i c.args.page_runs.now)) last)
     (λ q past. by-page_run before c.args.i q c.args.page_runs.now None (past-page_run (length before) c.args.i q c.args.page_runs.now past c.requires.page_runs))
 
 pub returns-clause-nodes : goal.returns-clause-nodes
-returns-clause-nodes g c =
+returns-clause-nodes c =
     let few = edges-few (λ (s : PageRun). s.range.from) (λ (s : PageRun). s.range.to) c.args.page_runs.now c.pieces.p in
     ⊎_elim
     (λ empty. omega (arith, empty, c.pieces.invariant.idle_nodes empty))
@@ -128,7 +128,7 @@ returns-clause-nodes g c =
     (cases_eq (length c.args.page_runs.now) 0)
 
 pub returns-clause-nodes_empty : goal.returns-clause-nodes_empty
-returns-clause-nodes_empty g c none =
+returns-clause-nodes_empty c none =
     let few = edges-few (λ (s : PageRun). s.range.from) (λ (s : PageRun). s.range.to) c.args.page_runs.now c.pieces.p in
     let end = c.pieces.invariant.nodes_end none in
     ⊎_elim
@@ -137,12 +137,12 @@ returns-clause-nodes_empty g c none =
     (cases_eq (length c.args.page_runs.now) 0)
 
 pub returns-clause-cost : goal.returns-clause-cost
-returns-clause-cost g c =
+returns-clause-cost c =
     let few = edges-few (λ (s : PageRun). s.range.from) (λ (s : PageRun). s.range.to) c.args.page_runs.now c.pieces.p in
     omega (arith, few, c.pieces.invariant.cost)
 
 pub returns-clause-cost_empty : goal.returns-clause-cost_empty
-returns-clause-cost_empty g c none =
+returns-clause-cost_empty c none =
     let few = edges-few (λ (s : PageRun). s.range.from) (λ (s : PageRun). s.range.to) c.args.page_runs.now c.pieces.p in
     let end = c.pieces.invariant.cost_end none in
     ⊎_elim

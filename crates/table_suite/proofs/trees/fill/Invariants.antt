@@ -5,11 +5,11 @@ use Rattle.page_tree.specs.Short.{link_short}
 use Rattle.table_suite.proofs.trees.fill.Given as goal
 
 abbrev pub invariant-pages : goal.invariant-pages
-invariant-pages g l =
+invariant-pages l =
     record {
-      sound : IsSound l.store.nodes l.store.frames;
-      tree : IsTree l.store.nodes l.tree;
-      alone : 0 < l.k → link_short l.store.nodes l.tree ≡ 0;
-      room : free_of l.initial.store.nodes ≤ free_of l.store.nodes + 3 * l.k;
-      size : length l.store.nodes ≡ length l.initial.store.nodes;
+      sound : IsSound l.store.nodes.all l.store.frames;
+      tree : IsTree l.store.nodes.all l.tree;
+      alone : 0 < l.k → link_short l.store.nodes.all l.tree ≡ 0;
+      room : free_of l.initial.store.nodes.all ≤ free_of l.store.nodes.all + 3 * l.k;
+      size : length l.store.nodes.all ≡ length l.initial.store.nodes.all;
     }

@@ -22,7 +22,7 @@ try_range-requires-clause-tree g c = λ n is.
 pub try_range-requires-clause-few : goal.try_range-requires-clause-few
 try_range-requires-clause-few g c = λ n is.
     let same = c.table.invariant.trees n in
-    let once = trees-once c.fill.new.store.nodes n (ap (λ t. link_short c.fill.new.store.nodes t) (sym is) ∙ c.fill.ensures.alone) in
+    let once = trees-once c.fill.new.store.nodes.all n (ap (λ t. link_short c.fill.new.store.nodes.all t) (sym is) ∙ c.fill.ensures.alone) in
     omega (arith, same, once)
   where
     -- a root that need not be taken is that of one tree

@@ -6,27 +6,26 @@ use Rattle.cow_space.specs.Changes.{IsPageRun}
 use Rattle.cow_space.specs.Maps as rows
 use Rattle.cow_space.specs.Rows.{changed_row}
 use Rattle.cow_space.specs.RowSeen.{HasNoTree, maps}
-use Rattle.cow_space.specs.RowSeen as rows_seen
-use Rattle.cow_space.specs.Seen.{cells, free_nodes, rights}
+use Rattle.cow_space.specs.Seen.{cells, rights}
 use Rattle.cow_space.proofs.Changed.{cells-changed, fit-changed, none-before, none-left, rights-changed, states-now}
 use Rattle.cow_space.proofs.Places.{may-none}
 use Rattle.cow_space.proofs.Views.{bare-still, cells-set, kept-still, kinds-in, no-tree, rights-set, row-count, row-in}
 use Rattle.cow_space.specs.Tags.{used}
-use Rattle.cow_space.proofs.FreeLemmas.{frames-same, free-same}
+use Rattle.cow_space.proofs.FreeLemmas.{free-same}
 use Rattle.cow_space.proofs.Taken.{changed-used}
 use Rattle.cow_space.proofs.cells.PageCells.change.Goals as goal
 
 pub index_mut-requires : goal.index_mut-requires
-index_mut-requires g c = omega (arith, kinds-in c.args.self.now c.args.i c.requires.place, c.args.self.now.kinds.ok)
+index_mut-requires c = omega (arith, kinds-in c.args.self.now c.args.i c.requires.place, c.args.self.now.kinds.ok)
 
 pub fill_row-requires-clause-row : goal.fill_row-requires-clause-row
-fill_row-requires-clause-row g c = row-in c.args.self.now c.args.i c.requires.place
+fill_row-requires-clause-row c = row-in c.args.self.now c.args.i c.requires.place
 
 pub fill_row-requires-clause-page_runs : goal.fill_row-requires-clause-page_runs
-fill_row-requires-clause-page_runs g c = subst (λ n. All (IsPageRun n c.args.i) c.args.page_runs.now) (row-count c.args.self.now) c.requires.page_runs
+fill_row-requires-clause-page_runs c = subst (λ n. All (IsPageRun n c.args.i) c.args.page_runs.now) (row-count c.args.self.now) c.requires.page_runs
 
 pub invariant_of-self : goal.invariant_of-self
-invariant_of-self g c =
+invariant_of-self c =
     let w = c.args.self.now in
     let kinds = c.kinds_after-kinds.ensures in
     let all = states-now w c.args.i c.args.page_runs.now c.args.reads.now c.kinds_after-kinds.result c.requires.page_runs kinds.states kinds.past in
@@ -39,10 +38,10 @@ invariant_of-self g c =
     }
 
 pub drop_row-requires : goal.drop_row-requires
-drop_row-requires g c = record { row = row-in c.args.self.now c.args.i c.requires.place }
+drop_row-requires c = record { row = row-in c.args.self.now c.args.i c.requires.place }
 
 pub invariant_of-self-else-some : goal.invariant_of-self-else-some
-invariant_of-self-else-some g c =
+invariant_of-self-else-some c =
     let w = c.args.self.now in
     record {
       kept = kept-still w c.args.i c.kinds_after-kinds.result rows.no_pages (maps c.drop_row.new.self) c.requires.place c.drop_row.ensures.maps (λ p. may-none (kind_at c.kinds_after-kinds.result p)) c.kinds_after-kinds.ensures.past;
@@ -51,7 +50,7 @@ invariant_of-self-else-some g c =
 
 pub returns-then-some-clause-cells : goal.returns-then-some-clause-cells
 unfolding cells
-returns-then-some-clause-cells g c =
+returns-then-some-clause-cells c =
     let w = c.args.self.now in
     let kinds = c.kinds_after-kinds.ensures in
     let all = states-now w c.args.i c.args.page_runs.now c.args.reads.now c.kinds_after-kinds.result c.requires.page_runs kinds.states kinds.past in
@@ -60,22 +59,21 @@ returns-then-some-clause-cells g c =
 
 pub returns-then-some-clause-rights : goal.returns-then-some-clause-rights
 unfolding rights
-returns-then-some-clause-rights g c =
+returns-then-some-clause-rights c =
     let w = c.args.self.now in
     let kinds = c.kinds_after-kinds.ensures in
     let all = states-now w c.args.i c.args.page_runs.now c.args.reads.now c.kinds_after-kinds.result c.requires.page_runs kinds.states kinds.past in
     rights-set w c.args.i c.kinds_after-kinds.result ∙ ap (set (rights w) c.args.i) (rights-changed w c.args.i c.args.page_runs.now c.args.reads.now c.kinds_after-kinds.result all)
 
 pub returns-then-some-clause-nodes_empty : goal.returns-then-some-clause-nodes_empty
-unfolding free_nodes rows_seen.free_nodes
-returns-then-some-clause-nodes_empty g c empty = c.fill_row.ensures.nodes_empty (no-tree c.args.self.now c.args.i empty)
+returns-then-some-clause-nodes_empty c empty = c.fill_row.ensures.nodes_empty (no-tree c.args.self.now c.args.i empty)
 
 pub returns-then-some-clause-cost_empty : goal.returns-then-some-clause-cost_empty
-returns-then-some-clause-cost_empty g c empty = c.fill_row.ensures.cost_empty (no-tree c.args.self.now c.args.i empty)
+returns-then-some-clause-cost_empty c empty = c.fill_row.ensures.cost_empty (no-tree c.args.self.now c.args.i empty)
 
 pub returns-else-some-clause-cells : goal.returns-else-some-clause-cells
 unfolding cells
-returns-else-some-clause-cells g c =
+returns-else-some-clause-cells c =
     let w = c.args.self.now in
     let kinds = c.kinds_after-kinds.ensures in
     let all = states-now w c.args.i c.args.page_runs.now c.args.reads.now c.kinds_after-kinds.result c.requires.page_runs kinds.states kinds.past in
@@ -83,7 +81,7 @@ returns-else-some-clause-cells g c =
     ∙ ap (set (cells w) c.args.i) (none-left w c.args.i c.args.page_runs.now c.args.reads.now c.kinds_after-kinds.result all (c.has_own_page-some.ensures.none c.if-some.false))
 
 pub returns-else-some-clause-cost : goal.returns-else-some-clause-cost
-returns-else-some-clause-cost g c =
+returns-else-some-clause-cost c =
     let w = c.args.self.now in
     let kinds = c.kinds_after-kinds.ensures in
     let all = states-now w c.args.i c.args.page_runs.now c.args.reads.now c.kinds_after-kinds.result c.requires.page_runs kinds.states kinds.past in
@@ -94,21 +92,21 @@ returns-else-some-clause-cost g c =
 
 pub returns-else-some-clause-rights : goal.returns-else-some-clause-rights
 unfolding rights
-returns-else-some-clause-rights g c =
+returns-else-some-clause-rights c =
     let w = c.args.self.now in
     let kinds = c.kinds_after-kinds.ensures in
     let all = states-now w c.args.i c.args.page_runs.now c.args.reads.now c.kinds_after-kinds.result c.requires.page_runs kinds.states kinds.past in
     rights-set w c.args.i c.kinds_after-kinds.result ∙ ap (set (rights w) c.args.i) (rights-changed w c.args.i c.args.page_runs.now c.args.reads.now c.kinds_after-kinds.result all)
 
 pub returns-else-some-clause-cost_empty : goal.returns-else-some-clause-cost_empty
-returns-else-some-clause-cost_empty g c empty = omega (arith, c.drop_row.ensures.cost_empty (no-tree c.args.self.now c.args.i empty))
+returns-else-some-clause-cost_empty c empty = omega (arith, c.drop_row.ensures.cost_empty (no-tree c.args.self.now c.args.i empty))
 
 pub returns-then-some-clause-free_empty : goal.returns-then-some-clause-free_empty
-returns-then-some-clause-free_empty g c empty =
-    free-same c.args.self.now _ (frames-same c.args.self.now _ c.fill_row.ensures.frames)
-    (ap used (returns-then-some-clause-cells g c) ∙ changed-used (cells c.args.self.now) c.args.i c.requires.place empty c.args.page_runs.now c.requires.page_runs)
+returns-then-some-clause-free_empty c empty =
+    free-same c.args.self.now _ c.fill_row.ensures.frames
+    (ap used (returns-then-some-clause-cells c) ∙ changed-used (cells c.args.self.now) c.args.i c.requires.place empty c.args.page_runs.now c.requires.page_runs)
 
 pub returns-else-some-clause-free_empty : goal.returns-else-some-clause-free_empty
-returns-else-some-clause-free_empty g c empty =
-    free-same c.args.self.now _ (frames-same c.args.self.now _ c.drop_row.ensures.frames)
-    (ap used (returns-else-some-clause-cells g c) ∙ changed-used (cells c.args.self.now) c.args.i c.requires.place empty c.args.page_runs.now c.requires.page_runs)
+returns-else-some-clause-free_empty c empty =
+    free-same c.args.self.now _ c.drop_row.ensures.frames
+    (ap used (returns-else-some-clause-cells c) ∙ changed-used (cells c.args.self.now) c.args.i c.requires.place empty c.args.page_runs.now c.requires.page_runs)

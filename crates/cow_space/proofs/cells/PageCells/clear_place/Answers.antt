@@ -10,14 +10,14 @@ use Rattle.cow_space.proofs.Views.{bare-still, cells-set, kept-still, kinds-in, 
 use Rattle.cow_space.proofs.cells.PageCells.clear_place.Goals as goal
 
 pub index_mut-requires : goal.index_mut-requires
-index_mut-requires g c = omega (arith, kinds-in c.args.self.now c.args.i c.requires.place, c.args.self.now.kinds.ok)
+index_mut-requires c = omega (arith, kinds-in c.args.self.now c.args.i c.requires.place, c.args.self.now.kinds.ok)
 
 pub drop_row-requires : goal.drop_row-requires
-drop_row-requires g c = record { row = row-in c.args.self.now c.args.i c.requires.place }
+drop_row-requires c = record { row = row-in c.args.self.now c.args.i c.requires.place }
 
 pub returns-clause-cells : goal.returns-clause-cells
 unfolding cells
-returns-clause-cells g c =
+returns-clause-cells c =
     let w = c.args.self.now in
     ap (λ s. all_cells (set w.kinds.items c.args.i s) (maps c.drop_row.new.self)) c.clear.ensures
     ∙ cells-set w c.args.i [] rows.no_pages (maps c.drop_row.new.self) c.requires.place c.drop_row.ensures.maps
@@ -25,13 +25,13 @@ returns-clause-cells g c =
 
 pub returns-clause-rights : goal.returns-clause-rights
 unfolding rights
-returns-clause-rights g c =
+returns-clause-rights c =
     let w = c.args.self.now in
     ap (λ s. all_rights (set w.kinds.items c.args.i s)) c.clear.ensures ∙ rights-set w c.args.i [] ∙ ap (set (rights w) c.args.i) none-write
 
 pub invariant_of-self : goal.invariant_of-self
 unfolding state_at
-invariant_of-self g c =
+invariant_of-self c =
     let w = c.args.self.now in
     record {
       kept = subst (λ s. IsKept (maps c.drop_row.new.self) (set w.kinds.items c.args.i s)) (sym c.clear.ensures)
@@ -40,4 +40,4 @@ invariant_of-self g c =
     }
 
 pub returns-clause-cost_empty : goal.returns-clause-cost_empty
-returns-clause-cost_empty g c empty = c.drop_row.ensures.cost_empty (no-tree c.args.self.now c.args.i empty)
+returns-clause-cost_empty c empty = c.drop_row.ensures.cost_empty (no-tree c.args.self.now c.args.i empty)

@@ -10,28 +10,28 @@ use Rattle.cow_space.proofs.OwnPages.{no-own-cells}
 use Rattle.cow_space.proofs.Places.{may-none}
 use Rattle.cow_space.proofs.Views.{bare-still, cells-set, kept-still, kinds-in, no-tree, place-at, read-segments, read-states, rights-at, rights-set, row-in}
 use Rattle.cow_space.specs.Tags.{used}
-use Rattle.cow_space.proofs.FreeLemmas.{frames-same, free-same}
+use Rattle.cow_space.proofs.FreeLemmas.{free-same}
 use Rattle.cow_space.proofs.Taken.{cloned-used}
 use Rattle.cow_space.proofs.cells.PageCells.clone_place.Goals as goal
 use Rattle.lwc_base.specs.declared.limits.TheConstants.{MOST_PAGES}
 
 pub index-requires : goal.index-requires
-index-requires g c = omega (arith, kinds-in c.args.self.now c.args.from c.requires.from, c.args.self.now.kinds.ok)
+index-requires c = omega (arith, kinds-in c.args.self.now c.args.from c.requires.from, c.args.self.now.kinds.ok)
 
 pub index-requires-2 : goal.index-requires-2
-index-requires-2 g c = omega (arith, kinds-in c.args.self.now c.args.from c.requires.from, c.args.self.now.kinds.ok)
+index-requires-2 c = omega (arith, kinds-in c.args.self.now c.args.from c.requires.from, c.args.self.now.kinds.ok)
 
 pub index_mut-requires : goal.index_mut-requires
-index_mut-requires g c = omega (arith, kinds-in c.args.self.now c.args.to c.requires.to, c.args.self.now.kinds.ok)
+index_mut-requires c = omega (arith, kinds-in c.args.self.now c.args.to c.requires.to, c.args.self.now.kinds.ok)
 
 pub clone_row-requires-clause-to : goal.clone_row-requires-clause-to
-clone_row-requires-clause-to g c = row-in c.args.self.now c.args.to c.requires.to
+clone_row-requires-clause-to c = row-in c.args.self.now c.args.to c.requires.to
 
 pub clone_row-requires-clause-from : goal.clone_row-requires-clause-from
-clone_row-requires-clause-from g c = row-in c.args.self.now c.args.from c.requires.from
+clone_row-requires-clause-from c = row-in c.args.self.now c.args.from c.requires.from
 
 pub invariant_of-self : goal.invariant_of-self
-invariant_of-self g c =
+invariant_of-self c =
     let w = c.args.self.now in
     let read = read-segments w c.args.from c.index.result.now c.requires.from c.index.ensures in
     let copied = c.copy.ensures ∙ read-segments w c.args.from c.index-2.result.now c.requires.from c.index-2.ensures in
@@ -44,10 +44,10 @@ invariant_of-self g c =
     }
 
 pub drop_row-requires : goal.drop_row-requires
-drop_row-requires g c = record { row = row-in c.args.self.now c.args.to c.requires.to }
+drop_row-requires c = record { row = row-in c.args.self.now c.args.to c.requires.to }
 
 pub invariant_of-self-else-some : goal.invariant_of-self-else-some
-invariant_of-self-else-some g c =
+invariant_of-self-else-some c =
     let w = c.args.self.now in
     let copied = c.copy.ensures ∙ read-segments w c.args.from c.index-2.result.now c.requires.from c.index-2.ensures in
     record {
@@ -57,7 +57,7 @@ invariant_of-self-else-some g c =
 
 pub returns-then-some-clause-cells : goal.returns-then-some-clause-cells
 unfolding cells
-returns-then-some-clause-cells g c =
+returns-then-some-clause-cells c =
     let w = c.args.self.now in
     let copied = c.copy.ensures ∙ read-segments w c.args.from c.index-2.result.now c.requires.from c.index-2.ensures in
     ap (λ s. all_cells (set w.kinds.items c.args.to s) (maps c.clone_row.new.self)) copied
@@ -66,7 +66,7 @@ returns-then-some-clause-cells g c =
 
 pub returns-then-some-clause-rights : goal.returns-then-some-clause-rights
 unfolding rights
-returns-then-some-clause-rights g c =
+returns-then-some-clause-rights c =
     let w = c.args.self.now in
     let copied = c.copy.ensures ∙ read-segments w c.args.from c.index-2.result.now c.requires.from c.index-2.ensures in
     ap (λ s. all_rights (set w.kinds.items c.args.to s)) copied
@@ -74,13 +74,13 @@ returns-then-some-clause-rights g c =
     ∙ ap (set (rights w) c.args.to) (sym (rights-at w c.args.from))
 
 pub returns-then-some-clause-cost_empty : goal.returns-then-some-clause-cost_empty
-returns-then-some-clause-cost_empty g c empty =
+returns-then-some-clause-cost_empty c empty =
     let w = c.args.self.now in
     omega (arith, c.clone_row.ensures.cost_empty (no-tree w c.args.to empty), c.has_own_page-some.ensures.ranges c.if-some.true, ap (ranges MOST_PAGES) (read-states w c.args.from c.index.result.now c.requires.from c.index.ensures))
 
 pub returns-else-some-clause-cells : goal.returns-else-some-clause-cells
 unfolding cells
-returns-else-some-clause-cells g c =
+returns-else-some-clause-cells c =
     let w = c.args.self.now in
     let read = read-segments w c.args.from c.index.result.now c.requires.from c.index.ensures in
     let copied = c.copy.ensures ∙ read-segments w c.args.from c.index-2.result.now c.requires.from c.index-2.ensures in
@@ -92,7 +92,7 @@ returns-else-some-clause-cells g c =
 
 pub returns-else-some-clause-rights : goal.returns-else-some-clause-rights
 unfolding rights
-returns-else-some-clause-rights g c =
+returns-else-some-clause-rights c =
     let w = c.args.self.now in
     let copied = c.copy.ensures ∙ read-segments w c.args.from c.index-2.result.now c.requires.from c.index-2.ensures in
     ap (λ s. all_rights (set w.kinds.items c.args.to s)) copied
@@ -100,14 +100,14 @@ returns-else-some-clause-rights g c =
     ∙ ap (set (rights w) c.args.to) (sym (rights-at w c.args.from))
 
 pub returns-else-some-clause-cost_empty : goal.returns-else-some-clause-cost_empty
-returns-else-some-clause-cost_empty g c empty = omega (arith, c.drop_row.ensures.cost_empty (no-tree c.args.self.now c.args.to empty))
+returns-else-some-clause-cost_empty c empty = omega (arith, c.drop_row.ensures.cost_empty (no-tree c.args.self.now c.args.to empty))
 
 pub returns-then-some-clause-free_empty : goal.returns-then-some-clause-free_empty
-returns-then-some-clause-free_empty g c empty =
-    free-same c.args.self.now _ (frames-same c.args.self.now _ c.clone_row.ensures.frames)
-    (ap used (returns-then-some-clause-cells g c) ∙ cloned-used (cells c.args.self.now) c.args.to c.requires.to empty c.args.from c.requires.from)
+returns-then-some-clause-free_empty c empty =
+    free-same c.args.self.now _ c.clone_row.ensures.frames
+    (ap used (returns-then-some-clause-cells c) ∙ cloned-used (cells c.args.self.now) c.args.to c.requires.to empty c.args.from c.requires.from)
 
 pub returns-else-some-clause-free_empty : goal.returns-else-some-clause-free_empty
-returns-else-some-clause-free_empty g c empty =
-    free-same c.args.self.now _ (frames-same c.args.self.now _ c.drop_row.ensures.frames)
-    (ap used (returns-else-some-clause-cells g c) ∙ cloned-used (cells c.args.self.now) c.args.to c.requires.to empty c.args.from c.requires.from)
+returns-else-some-clause-free_empty c empty =
+    free-same c.args.self.now _ c.drop_row.ensures.frames
+    (ap used (returns-else-some-clause-cells c) ∙ cloned-used (cells c.args.self.now) c.args.to c.requires.to empty c.args.from c.requires.from)

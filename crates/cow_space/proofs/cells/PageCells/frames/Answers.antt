@@ -1,6 +1,4 @@
-use Rattle.cow_space.specs.Seen.{frames_of}
 use Rattle.cow_space.proofs.cells.PageCells.frames.Goals as goal
 
 pub returns : goal.returns
-unfolding frames_of
 returns c = c.frames.ensures

@@ -2,7 +2,7 @@ use Rattle.std.proofs.Common.{[], replicate, sym, ap, ◌∙◌, subst}
 use Rattle.cow_space.specs.RowSeen.{maps}
 use Rattle.cow_space.specs.Cells.{all_cells, all_rights}
 use Rattle.cow_space.specs.Kept.{IsKept}
-use Rattle.cow_space.specs.Seen.{cells, frames_of, free_nodes, rights}
+use Rattle.cow_space.specs.Seen.{cells, rights}
 use Rattle.cow_space.proofs.Places.{none-all, none-kept, none-rights}
 use Rattle.cow_space.proofs.cells.PageCells.open.Goals as goal
 
@@ -24,9 +24,7 @@ unfolding rights
 returns-clause-rights c = ap all_rights c.in_ok-kinds.ensures ∙ none-rights c.args.places
 
 pub returns-clause-frames : goal.returns-clause-frames
-unfolding frames_of
 returns-clause-frames c = c.in_ok-rows.ensures.frames
 
 pub returns-clause-nodes : goal.returns-clause-nodes
-unfolding free_nodes
 returns-clause-nodes c = c.in_ok-rows.ensures.nodes

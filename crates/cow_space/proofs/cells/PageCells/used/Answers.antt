@@ -1,5 +1,4 @@
 use Rattle.std.proofs.Common.{sym, ◌∙◌}
-use Rattle.cow_space.specs.Seen.{frames_of}
 use Rattle.cow_space.proofs.OwnTags.{used-rows}
 use Rattle.cow_space.proofs.cells.PageCells.used.Goals as goal
 
@@ -7,5 +6,4 @@ pub returns-clause-used : goal.returns-clause-used
 returns-clause-used c = c.used.ensures.used ∙ sym (used-rows c.args.self.now)
 
 pub returns-clause-within : goal.returns-clause-within
-unfolding frames_of
 returns-clause-within c = c.used.ensures.within

@@ -9,7 +9,7 @@ use Rattle.range_map.specs.Kinds.{kind_of, state_of}
 use Rattle.cow_space.specs.Cells.{IsOwnPage, place_of, rights_of, states_of}
 use Rattle.cow_space.specs.declared.cells.PageCells.{PageCells}
 use Rattle.cow_space.specs.RowSeen.{maps}
-use Rattle.cow_space.specs.Seen.{cells, frames_of, rights}
+use Rattle.cow_space.specs.Seen.{cells, rights}
 use Rattle.cow_space.proofs.OwnTags.{parting-rows, used-rows}
 use Rattle.cow_space.proofs.Views.{own-page, row-in}
 use Rattle.cow_space.proofs.Written.{cells-written, kept-written}
@@ -69,5 +69,4 @@ unfolding cells
 returns-in-Own-Write-clause-same c = λ off. ap (all_cells c.args.self.now.kinds.items) (c.write_in_place.ensures.same off)
 
 pub returns-in-Own-Write-clause-enough : goal.returns-in-Own-Write-clause-enough
-unfolding frames_of
 returns-in-Own-Write-clause-enough c = λ _. omega (arith, used-rows c.args.self.now, c.write_in_place.ensures.within)

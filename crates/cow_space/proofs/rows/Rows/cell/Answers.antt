@@ -15,4 +15,4 @@ get-requires-clause-tree c =
 pub returns : goal.returns
 returns c =
     c.get.ensures
-    ∙ ap (λ t. page c.args.self.now.store.nodes t c.args.p) (get_or_read c.args.self.now.trees.items c.args.i _ c.requires.row c.index.ensures 0)
+    ∙ ap (λ t. page c.args.self.now.store.nodes.all t c.args.p) (get_or_read c.args.self.now.trees.items c.args.i _ c.requires.row c.index.ensures 0)

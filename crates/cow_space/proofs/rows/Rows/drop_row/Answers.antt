@@ -6,6 +6,6 @@ use Rattle.cow_space.proofs.rows.Rows.drop_row.Goals as goal
 
 pub returns-clause-maps : goal.returns-clause-maps
 unfolding maps
-returns-clause-maps g c =
+returns-clause-maps c =
     let w = c.args.self.now in
-    subst (λ m. maps c.clear.new.self ≡ set (maps w) c.args.i m) (row-none w.store.frames w.store.nodes w.trees.items c.args.i (tree-in w c.args.i c.requires.row)) c.clear.ensures.maps
+    subst (λ m. maps c.clear.new.self ≡ set (maps w) c.args.i m) (row-none w.store.frames w.store.nodes.all w.trees.items c.args.i (tree-in w c.args.i c.requires.row)) c.clear.ensures.maps

@@ -6,4 +6,4 @@ use Rattle.cow_space.proofs.rows.Rows.len.Goals as goal
 pub returns : goal.returns
 unfolding maps
 returns c =
-    omega (arith, length-maps c.args.self.now.store.frames c.args.self.now.store.nodes c.args.self.now.trees.items, c.len.ensures, c.args.self.now.trees.ok)
+    omega (arith, length-maps c.args.self.now.store.frames c.args.self.now.store.nodes.all c.args.self.now.trees.items, c.len.ensures, c.args.self.now.trees.ok)

@@ -27,24 +27,24 @@ pub look-cell-requires-clause-tree : goal.look-cell-requires-clause-tree
 look-cell-requires-clause-tree c =
     is-tree c.args.self.now c.args.i _ c.requires.row c.index.ensures
 
-module _ (w : Rows) (i p tree : ℕ) (was : PageCell) (f : FrameNo) (inside : i < length (maps w)) (below : p < PAGES) (read : tree ≡ get_or w.trees.items i tree) (look : was ≡ page w.store.nodes tree p) (is : was ≡ cell.Frame f) where
-  at : page_of w.store.nodes w.trees.items i p ≡ cell.Frame f
-  at = ap (λ t. page w.store.nodes t p) (sym (tree-read w i tree inside read)) ∙ sym look ∙ is
+module _ (w : Rows) (i p tree : ℕ) (was : PageCell) (f : FrameNo) (inside : i < length (maps w)) (below : p < PAGES) (read : tree ≡ get_or w.trees.items i tree) (look : was ≡ page w.store.nodes.all tree p) (is : was ≡ cell.Frame f) where
+  at : page_of w.store.nodes.all w.trees.items i p ≡ cell.Frame f
+  at = ap (λ t. page w.store.nodes.all t p) (sym (tree-read w i tree inside read)) ∙ sym look ∙ is
 
   held : 0 < frame_count w.store.frames f.n
-  held = held-frame w.store.nodes w.store.frames w.trees.items w.kept.tied f.n (record { k = i; p = p; inside = tree-in w i inside; below = below; has = at })
+  held = held-frame w.store.nodes.all w.store.frames w.trees.items w.kept.tied f.n (record { k = i; p = p; inside = tree-in w i inside; below = below; has = at })
 
-  shared : (page_short w.store.nodes tree p ≢ 0) → parts (row_tags (maps w)) (row_of (maps w) i p) ≡ true
+  shared : (page_short w.store.nodes.all tree p ≢ 0) → parts (row_tags (maps w)) (row_of (maps w) i p) ≡ true
   unfolding maps
   shared short =
-      parting-shared w.store.nodes w.store.frames w.trees.items w.kept i p f.n (tree-in w i inside) below at
-      (λ none. short (ap (λ t. page_short w.store.nodes t p) (tree-read w i tree inside read) ∙ none))
+      parting-shared w.store.nodes.all w.store.frames w.trees.items w.kept i p f.n (tree-in w i inside) below at
+      (λ none. short (ap (λ t. page_short w.store.nodes.all t p) (tree-read w i tree inside read) ∙ none))
 
-  alone : (page_short w.store.nodes tree p ≡ 0) → parts (row_tags (maps w)) (row_of (maps w) i p) ≡ ltb 1 (frame_count w.store.frames f.n)
+  alone : (page_short w.store.nodes.all tree p ≡ 0) → parts (row_tags (maps w)) (row_of (maps w) i p) ≡ ltb 1 (frame_count w.store.frames f.n)
   unfolding maps
   alone none =
-      parting-alone w.store.nodes w.store.frames w.trees.items w.kept i p f.n (tree-in w i inside) below at
-      (ap (λ t. page_short w.store.nodes t p) (sym (tree-read w i tree inside read)) ∙ none)
+      parting-alone w.store.nodes.all w.store.frames w.trees.items w.kept i p f.n (tree-in w i inside) below at
+      (ap (λ t. page_short w.store.nodes.all t p) (sym (tree-read w i tree inside read)) ∙ none)
 
 pub count-requires : goal.count-requires
 count-requires c =
@@ -81,6 +81,6 @@ returns-in_default c = record {
   alone = tt;
   parts =
       let tree_is = tree-read c.args.self.now c.args.i _ c.requires.row c.index.ensures in
-      ap (parts (row_tags (maps c.args.self.now))) (row-value c.args.self.now c.args.i c.args.p c.requires.row c.requires.page ∙ ap (cell_value c.args.self.now.store.frames) (ap (λ t. page c.args.self.now.store.nodes t c.args.p) (sym tree_is) ∙ sym c.look-cell.ensures.cell))
+      ap (parts (row_tags (maps c.args.self.now))) (row-value c.args.self.now c.args.i c.args.p c.requires.row c.requires.page ∙ ap (cell_value c.args.self.now.store.frames) (ap (λ t. page c.args.self.now.store.nodes.all t c.args.p) (sym tree_is) ∙ sym c.look-cell.ensures.cell))
       ∙ parting-none (row_tags (maps c.args.self.now)) c.args.self.now.store.frames c.look-cell.result.0 c.in_default.not-Frame;
 }

@@ -12,7 +12,7 @@ pub write_frame-requires : goal.write_frame-requires
 unfolding maps
 write_frame-requires c =
     record {
-      once = held-once c.args.self.now.store.nodes c.args.self.now.store.frames c.args.self.now.store.frames c.args.self.now.trees.items c.args.i c.args.p c.in-Some.frame.n
+      once = held-once c.args.self.now.store.nodes.all c.args.self.now.store.frames c.args.self.now.store.frames c.args.self.now.trees.items c.args.i c.args.p c.in-Some.frame.n
           c.args.self.now.kept (tree-in c.args.self.now c.args.i c.requires.row) c.requires.page c.in-Some.ensures.frame c.in-Some.ensures.alone;
     }
 
@@ -20,14 +20,14 @@ pub invariant_of-self : goal.invariant_of-self
 unfolding maps
 invariant_of-self c =
     record {
-      kept = refill-kept c.args.self.now.store.nodes c.args.self.now.store.frames c.write_frame.new.frames c.args.self.now.trees.items c.args.i c.args.p c.in-Some.frame.n
+      kept = refill-kept c.args.self.now.store.nodes.all c.args.self.now.store.frames c.write_frame.new.frames c.args.self.now.trees.items c.args.i c.args.p c.in-Some.frame.n
           c.args.self.now.kept (tree-in c.args.self.now c.args.i c.requires.row) c.requires.page c.in-Some.ensures.frame c.in-Some.ensures.alone _ c.write_frame.ensures;
     }
 
 pub returns-clause-written : goal.returns-clause-written
 unfolding maps
 returns-clause-written c = λ _ tag.
-    refill-maps c.args.self.now.store.nodes c.args.self.now.store.frames c.write_frame.new.frames c.args.self.now.trees.items c.args.i c.args.p c.in-Some.frame.n
+    refill-maps c.args.self.now.store.nodes.all c.args.self.now.store.frames c.write_frame.new.frames c.args.self.now.trees.items c.args.i c.args.p c.in-Some.frame.n
     c.args.self.now.kept (tree-in c.args.self.now c.args.i c.requires.row) c.requires.page c.in-Some.ensures.frame c.in-Some.ensures.alone _ c.write_frame.ensures _
     (ap Some (written-own _ c.args.i c.args.p (record { at = c.args.at; bytes = c.args.piece.now }) tag _ _
     (row-value c.args.self.now c.args.i c.args.p c.requires.row c.requires.page ∙ ap (cell_value c.args.self.now.store.frames) c.in-Some.ensures.frame) c.in-Some.ensures.alone))
@@ -35,7 +35,7 @@ returns-clause-written c = λ _ tag.
 pub returns-clause-frames : goal.returns-clause-frames
 unfolding frames_of maps
 returns-clause-frames c =
-    refill-size c.args.self.now.store.nodes c.args.self.now.store.frames c.write_frame.new.frames c.args.self.now.trees.items c.args.i c.args.p c.in-Some.frame.n
+    refill-size c.args.self.now.store.nodes.all c.args.self.now.store.frames c.write_frame.new.frames c.args.self.now.trees.items c.args.i c.args.p c.in-Some.frame.n
     c.args.self.now.kept (tree-in c.args.self.now c.args.i c.requires.row) c.requires.page c.in-Some.ensures.frame c.in-Some.ensures.alone _ c.write_frame.ensures
 
 pub returns-clause-nodes : goal.returns-clause-nodes
@@ -49,7 +49,7 @@ returns-clause-others c = λ j none. none
 within : (w : Rows) → different (row_tags (maps w)) ≤ frames_of w
 unfolding maps frames_of
 within w =
-    let used = used-is w.store.nodes w.store.frames w.trees.items w.kept in omega (arith, used, free-used w.store.frames)
+    let used = used-is w.store.nodes.all w.store.frames w.trees.items w.kept in omega (arith, used, free-used w.store.frames)
 
 pub returns-clause-within : goal.returns-clause-within
 returns-clause-within c = within c.args.self.now

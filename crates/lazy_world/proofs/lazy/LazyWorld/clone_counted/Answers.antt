@@ -11,7 +11,7 @@ use Rattle.lazy_world.proofs.lazy.LazyWorld.clone_counted.Goals as goal
 
 pub invariant_of-self-2 : goal.invariant_of-self-2
 unfolding seen parts
-invariant_of-self-2 g c =
+invariant_of-self-2 c =
     let old = c.args.self.now in
     let w = seen old.world in
     let names = old.cached_roots.items in

@@ -16,16 +16,14 @@ use Rattle.lazy_world.proofs.AbsentLemmas.{rights-in}
 use Rattle.lazy_world.proofs.places.Places.change_pages.Goals as goal
 
 pub change-requires-clause-place : goal.change-requires-clause-place
-unfolding count
-change-requires-clause-place g c = c.requires.place
+change-requires-clause-place c = c.requires.place
 
 pub change-requires-clause-page_runs : goal.change-requires-clause-page_runs
-unfolding count
-change-requires-clause-page_runs g c = subst (All (IsPageRun (count c.args.self.now) c.args.i)) (sym c.as_slice.ensures.value) c.requires.given
+change-requires-clause-page_runs c = subst (All (IsPageRun (count c.args.self.now) c.args.i)) (sym c.as_slice.ensures.value) c.requires.given
 
 pub change-requires-clause-ranges : goal.change-requires-clause-ranges
-unfolding rows rights count
-change-requires-clause-ranges g c =
+unfolding rows rights
+change-requires-clause-ranges c =
     let w = c.args.self.now in
     let cells = pages_seen.cells w.pages in
     let table = slots_seen.slots w.slots in
@@ -35,14 +33,14 @@ change-requires-clause-ranges g c =
     ∙ states-given cells table w.uids.items c.args.i (pages_seen.rights w.pages) c.args.page_runs.now c.args.reads.now))) c.requires.ranges
 
 pub invariant_of-self : goal.invariant_of-self
-invariant_of-self g c =
+invariant_of-self c =
     let w = c.args.self.now in
     let same = ap length c.change.ensures.cells ∙ length-set (pages_seen.cells w.pages) c.args.i _ in
     record { kept = record { slot_count = w.kept.slot_count ∙ sym same; uid_count = w.kept.uid_count ∙ sym same; targets = w.kept.targets } }
 
 pub returns-clause-rows : goal.returns-clause-rows
-unfolding rows count
-returns-clause-rows g c =
+unfolding rows
+returns-clause-rows c =
     let w = c.args.self.now in
     let cells = pages_seen.cells w.pages in
     let table = slots_seen.slots w.slots in
@@ -52,8 +50,8 @@ returns-clause-rows g c =
     ∙ row-given cells table w.uids.items c.args.i (PageRuns page_runs c.args.reads.now) (changed_place cells c.args.i page_runs.items) (page_runs-given cells table w.uids.items c.args.i page_runs.items) c.requires.place
 
 pub returns-clause-rights : goal.returns-clause-rights
-unfolding rows rights count
-returns-clause-rights g c =
+unfolding rows rights
+returns-clause-rights c =
     let w = c.args.self.now in
     let cells = pages_seen.cells w.pages in
     let table = slots_seen.slots w.slots in
@@ -65,36 +63,35 @@ returns-clause-rights g c =
     ∙ (λ e p. rights-given cells table w.uids.items c.args.i olds c.args.page_runs.now.items c.args.reads.now.items p e))
 
 pub returns-clause-count : goal.returns-clause-count
-unfolding count
-returns-clause-count g c = ap length c.change.ensures.cells ∙ length-set (pages_seen.cells c.args.self.now.pages) c.args.i _
+returns-clause-count c = ap length c.change.ensures.cells ∙ length-set (pages_seen.cells c.args.self.now.pages) c.args.i _
 
 pub returns-clause-frames : goal.returns-clause-frames
 unfolding frame_count
-returns-clause-frames g c = c.change.ensures.frames
+returns-clause-frames c = c.change.ensures.frames
 
 pub returns-clause-nodes : goal.returns-clause-nodes
 unfolding rows rows_of free_nodes
-returns-clause-nodes g c = λ empty. omega (arith, c.change.ensures.nodes_empty (λ e p. empty p e), ap length c.as_slice.ensures.value)
+returns-clause-nodes c = λ empty. omega (arith, c.change.ensures.nodes_empty (λ e p. empty p e), ap length c.as_slice.ensures.value)
 
 pub returns-clause-cost : goal.returns-clause-cost
 unfolding rows rows_of
-returns-clause-cost g c = λ empty. omega (arith, c.change.ensures.cost_empty (λ e p. empty p e), ap length c.as_slice.ensures.value)
+returns-clause-cost c = λ empty. omega (arith, c.change.ensures.cost_empty (λ e p. empty p e), ap length c.as_slice.ensures.value)
 
 pub returns-clause-free : goal.returns-clause-free
 unfolding free_frames
-returns-clause-free g c = c.change.ensures.free
+returns-clause-free c = c.change.ensures.free
 
 pub returns-clause-free_empty : goal.returns-clause-free_empty
 unfolding rows rows_of free_frames
-returns-clause-free_empty g c empty = c.change.ensures.free_empty (λ e p. empty p e)
+returns-clause-free_empty c empty = c.change.ensures.free_empty (λ e p. empty p e)
 
 pub returns-clause-nodes_any : goal.returns-clause-nodes_any
 unfolding free_nodes
-returns-clause-nodes_any g c = omega (arith, c.change.ensures.nodes, ap length c.as_slice.ensures.value)
+returns-clause-nodes_any c = omega (arith, c.change.ensures.nodes, ap length c.as_slice.ensures.value)
 
 pub returns-clause-cost_any : goal.returns-clause-cost_any
-returns-clause-cost_any g c = omega (arith, c.change.ensures.cost, ap length c.as_slice.ensures.value)
+returns-clause-cost_any c = omega (arith, c.change.ensures.cost, ap length c.as_slice.ensures.value)
 
 pub returns-clause-pool : goal.returns-clause-pool
 unfolding pool
-returns-clause-pool g c = c.change.ensures.pool
+returns-clause-pool c = c.change.ensures.pool

@@ -4,20 +4,17 @@ use Rattle.fd_table.specs.Seen as slots_seen
 use Rattle.cow_space.specs.Seen as pages_seen
 use Rattle.lazy_world.specs.Cells.{rows_of}
 use Rattle.lazy_world.specs.Kept.{IsNumbered}
-use Rattle.lazy_world.specs.Seen.{count, frame_count, free_nodes, pool, rights, rows, free_frames}
+use Rattle.lazy_world.specs.Seen.{frame_count, free_nodes, pool, rights, rows, free_frames}
 use Rattle.lazy_world.proofs.PlaceLemmas.{numbered-put, numbered-set, slot-put}
 use Rattle.lazy_world.proofs.places.Places.copy_slot.Goals as goal
 
 pub copy_slot-requires-clause-to : goal.copy_slot-requires-clause-to
-unfolding count
 copy_slot-requires-clause-to c = omega (arith, c.args.self.now.kept.slot_count, c.requires.place)
 
 pub copy_slot-requires-clause-from : goal.copy_slot-requires-clause-from
-unfolding count
 copy_slot-requires-clause-from c = omega (arith, c.args.self.now.kept.slot_count, c.requires.origin)
 
 pub invariant_of-self : goal.invariant_of-self
-unfolding count
 invariant_of-self c =
     let inside : c.args.i < length (slots_seen.slots c.args.self.now.slots) = omega (arith, c.args.self.now.kept.slot_count, c.requires.place) in
     record {
@@ -31,13 +28,12 @@ invariant_of-self c =
     }
 
 pub returns-clause-rows : goal.returns-clause-rows
-unfolding rows count rows_of slots_seen.slots
+unfolding rows rows_of slots_seen.slots
 returns-clause-rows c =
     ap (λ table. rows_of (pages_seen.cells c.args.self.now.pages) table c.args.self.now.uids.items) c.copy_slot.ensures
     ∙ slot-put _ _ _ c.args.i c.args.n (row_of (slots_seen.slots c.args.self.now.slots) c.args.j c.args.m) (omega (arith, c.args.self.now.kept.slot_count, c.requires.place))
 
 pub returns-clause-count : goal.returns-clause-count
-unfolding count
 returns-clause-count c = refl
 
 pub returns-clause-frames : goal.returns-clause-frames
@@ -46,4 +42,4 @@ returns-clause-frames c = refl
 
 pub returns-clause-store : goal.returns-clause-store
 unfolding rights free_nodes free_frames pool
-returns-clause-store c = record { rights = refl; nodes = refl; free = refl; pool = refl }
+returns-clause-store c = record { rights = refl; nodes = refl; steps = refl; free = refl; pool = refl }

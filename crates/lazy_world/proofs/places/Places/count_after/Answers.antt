@@ -6,13 +6,12 @@ use Rattle.fd_table.specs.Seen as slots_seen
 use Rattle.cow_space.specs.Changes.{IsPageRun, changed_states}
 use Rattle.cow_space.specs.Seen as pages_seen
 use Rattle.cow_space.specs.declared.page_runs.PageRun.{PageRun}
-use Rattle.lazy_world.specs.Seen.{count, rights, rows}
+use Rattle.lazy_world.specs.Seen.{rights, rows}
 use Rattle.lazy_world.proofs.AbsentLemmas.{absent-right}
 use Rattle.lazy_world.proofs.MapLemmas.{is_page_run, states-row}
 use Rattle.lazy_world.proofs.places.Places.count_after.Goals as goal
 
 pub count_after-requires-clause-place : goal.count_after-requires-clause-place
-unfolding count
 count_after-requires-clause-place c = c.requires.place
 
 pub count_after-requires-clause-page_runs : goal.count_after-requires-clause-page_runs

@@ -10,15 +10,13 @@ use Rattle.lazy_world.proofs.TakeLemmas.{states-given}
 use Rattle.lazy_world.proofs.places.Places.count_changed.Goals as goal
 
 pub count_after-requires-clause-place : goal.count_after-requires-clause-place
-unfolding count
 count_after-requires-clause-place c = c.requires.place
 
 pub count_after-requires-clause-page_runs : goal.count_after-requires-clause-page_runs
-unfolding count
 count_after-requires-clause-page_runs c = subst (All (IsPageRun (count c.args.self.now) c.args.i)) (sym c.as_slice.ensures.value) c.requires.given
 
 pub returns : goal.returns
-unfolding rows rights count
+unfolding rows rights
 returns c =
     let w = c.args.self.now in
     let cells = pages_seen.cells w.pages in

@@ -6,7 +6,7 @@ use Rattle.lwc_base.specs.declared.cell.Cell.TheVariants.{Own}
 use Rattle.lwc_base.specs.declared.key.TheConstants.{NOBODY}
 use Rattle.lazy_world.specs.Cells.{rows_of}
 use Rattle.lazy_world.specs.Kept.{IsNumbered}
-use Rattle.lazy_world.specs.Seen.{count, frame_count, rights, rows}
+use Rattle.lazy_world.specs.Seen.{frame_count, rights, rows}
 use Rattle.lazy_world.proofs.PlaceLemmas.{numbered-none, rights-none, rows-none}
 use Rattle.lazy_world.proofs.places.Places.open.Goals as goal
 
@@ -29,7 +29,6 @@ unfolding rights
 returns-clause-rights c = ap rights_of c.in_ok-pages.ensures.rights ∙ rights-none c.args.places
 
 pub returns-clause-count : goal.returns-clause-count
-unfolding count
 returns-clause-count c = ap length c.in_ok-pages.ensures.cells ∙ length-replicate c.args.places no_pages
 
 pub returns-clause-frames : goal.returns-clause-frames

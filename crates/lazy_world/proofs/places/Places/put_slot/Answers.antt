@@ -4,16 +4,14 @@ use Rattle.fd_table.specs.Seen as slots_seen
 use Rattle.cow_space.specs.Seen as pages_seen
 use Rattle.lazy_world.specs.Cells.{rows_of}
 use Rattle.lazy_world.specs.Kept.{IsNumbered, target_of}
-use Rattle.lazy_world.specs.Seen.{count, free_nodes, rights, rows, free_frames, pool, frame_count}
+use Rattle.lazy_world.specs.Seen.{free_nodes, rights, rows, free_frames, pool, frame_count}
 use Rattle.lazy_world.proofs.PlaceLemmas.{slot-put, numbered-put, numbered-set}
 use Rattle.lazy_world.proofs.places.Places.put_slot.Goals as goal
 
 pub put-requires-clause-place : goal.put-requires-clause-place
-unfolding count
 put-requires-clause-place c = omega (arith, c.args.self.now.kept.slot_count, c.requires.place)
 
 pub invariant_of-self : goal.invariant_of-self
-unfolding count
 invariant_of-self c =
     let inside : c.args.i < length (slots_seen.slots c.args.self.now.slots) = omega (arith, c.args.self.now.kept.slot_count, c.requires.place) in
     record {
@@ -27,7 +25,7 @@ invariant_of-self c =
     }
 
 pub returns-clause-rows : goal.returns-clause-rows
-unfolding rows count
+unfolding rows
 returns-clause-rows c =
     ap (λ table. rows_of (pages_seen.cells c.args.self.now.pages) table c.args.self.now.uids.items) c.put.ensures
     ∙ slot-put _ _ _ c.args.i c.args.n (record { cell = cell_of c.args.cell; target = c.target_of-target.result }) (omega (arith, c.args.self.now.kept.slot_count, c.requires.place))
@@ -37,7 +35,7 @@ put-requires-clause-named c empty = c.target_of-target.ensures.target ∙ ap tar
 
 pub returns-clause-store : goal.returns-clause-store
 unfolding rights free_nodes free_frames pool
-returns-clause-store c = record { rights = refl; nodes = refl; free = refl; pool = refl }
+returns-clause-store c = record { rights = refl; nodes = refl; steps = refl; free = refl; pool = refl }
 
 pub returns-clause-frames : goal.returns-clause-frames
 unfolding frame_count

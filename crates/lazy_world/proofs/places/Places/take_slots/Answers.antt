@@ -6,7 +6,7 @@ use Rattle.lazy_world.proofs.TakeLemmas.{slot-taken, slots-none}
 use Rattle.lazy_world.proofs.places.Places.take_slots.Goals as goal
 
 pub loop-n-init : goal.loop-n-init
-loop-n-init c = record { rows = slots-none (count c.args.self.now) (rows c.args.self.now) c.args.i c.args.origins.now c.requires.given; count = refl; frames = refl; store = record { rights = refl; nodes = refl; free = refl; pool = refl } }
+loop-n-init c = record { rows = slots-none (count c.args.self.now) (rows c.args.self.now) c.args.i c.args.origins.now c.requires.given; count = refl; frames = refl; store = record { rights = refl; nodes = refl; steps = refl; free = refl; pool = refl } }
 
 pub take_slot-requires-clause-given : goal.take_slot-requires-clause-given
 take_slot-requires-clause-given c =
@@ -21,6 +21,7 @@ loop-n-preserved c = record {
   store = record {
     rights = c.take_slot.ensures.store.rights ∙ c.loop-n.invariant.store.rights;
     nodes = c.take_slot.ensures.store.nodes ∙ c.loop-n.invariant.store.nodes;
+    steps = c.take_slot.ensures.store.steps ∙ c.loop-n.invariant.store.steps;
     free = c.take_slot.ensures.store.free ∙ c.loop-n.invariant.store.free;
     pool = c.take_slot.ensures.store.pool ∙ c.loop-n.invariant.store.pool;
   };

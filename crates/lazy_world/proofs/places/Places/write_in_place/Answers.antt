@@ -5,7 +5,7 @@ use Rattle.cow_space.specs.Cells.{rights_of}
 use Rattle.cow_space.specs.Seen as pages_seen
 use Rattle.lazy_world.specs.Cells.{rows_of}
 use Rattle.lazy_world.specs.Kept.{IsKept}
-use Rattle.lazy_world.specs.Seen.{count, pages, rights, rows}
+use Rattle.lazy_world.specs.Seen.{pages, rights, rows}
 use Rattle.lazy_world.proofs.PlaceLemmas.{page-put}
 use Rattle.lazy_world.proofs.places.Places.write_in_place.Goals as goal
 
@@ -24,7 +24,7 @@ unfolding rights
 returns-clause-may c = λ done. (c.write_in_place.ensures.tells.0 done).1.0
 
 pub returns-clause-rows : goal.returns-clause-rows
-unfolding rows pages count
+unfolding rows pages
 returns-clause-rows c =
     let w = c.args.self.now in
     λ done tag.

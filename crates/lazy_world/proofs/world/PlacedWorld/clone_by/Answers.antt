@@ -4,7 +4,7 @@ use Rattle.lwc_base.specs.declared.key.Key.TheVariants.{Page}
 use Rattle.lwc_base.specs.World.{Context, context}
 use Rattle.lwc_base.specs.Ranges.{ranges_of}
 use Rattle.lazy_world.specs.Cells.{HasNoPages, put_rights, put_row}
-use Rattle.lazy_world.specs.Seen.{rights, rows}
+use Rattle.lazy_world.specs.Seen.{node_steps, rights, rows}
 use Rattle.lazy_world.specs.Sound.{HasOldTags, HasOneHome}
 use Rattle.lazy_world.specs.States.{world_of}
 use Rattle.lazy_world.specs.Worlds.{parts, seen}
@@ -16,7 +16,7 @@ use Rattle.lazy_world.proofs.world.PlacedWorld.clone_by.Goals as goal
 
 pub invariant_of-self : goal.invariant_of-self
 unfolding seen parts world_of
-invariant_of-self g c =
+invariant_of-self c =
     let w = c.args.self.now in
     let to = c.place-to.result in
     let same = c.can_copy.ensures.row c.if-can_copy.true (rows w.places to) in
@@ -36,7 +36,7 @@ invariant_of-self g c =
 
 pub returns-then-can_copy-clause-world : goal.returns-then-can_copy-clause-world
 unfolding seen parts world_of
-returns-then-can_copy-clause-world g c =
+returns-then-can_copy-clause-world c =
     let w = c.args.self.now in
     let to = c.place-to.result in
     let same = c.can_copy.ensures.row c.if-can_copy.true (rows w.places to) in
@@ -46,20 +46,20 @@ returns-then-can_copy-clause-world g c =
 
 pub returns-then-can_copy-clause-store : goal.returns-then-can_copy-clause-store
 unfolding seen parts rows rights
-returns-then-can_copy-clause-store g c =
+returns-then-can_copy-clause-store c =
     let copied = c.copy_place.ensures in
     let empty : HasNoPages ((parts c.args.self.now).rows c.place-to.result) = λ p. sym (ap (λ (x : Context). x.cell (Page p)) c.place-to.ensures.context) ∙ no_page _ p (c.requires.empty (Page p)) in
     record { frames = copied.free_empty empty; pool = copied.pool; nodes = omega (arith, copied.nodes); whole = λ copies own. copied.nodes }
 
 pub returns-then-can_copy-clause-steps : goal.returns-then-can_copy-clause-steps
 unfolding seen parts rows rights
-returns-then-can_copy-clause-steps g c =
+returns-then-can_copy-clause-steps c =
     let w = c.args.self.now in
     let s = parts w in
     let here = ranges-here s w.sound c.args.c c.place-from.result c.place-from.ensures.found in
     let empty : HasNoPages (s.rows c.place-to.result) = λ p. sym (ap (λ (x : Context). x.cell (Page p)) c.place-to.ensures.context) ∙ no_page _ p (c.requires.empty (Page p)) in
-    let steps : c.copy_place.new.steps ≤ c.args.steps.now + min 1 (ranges_of (seen w) c.args.c) = omega (arith, c.copy_place.ensures.cost empty, ap (min 1) here) in
+    let steps : node_steps c.copy_place.new.self ≤ node_steps w.places + min 1 (ranges_of (seen w) c.args.c) = omega (arith, c.copy_place.ensures.cost empty, ap (min 1) here) in
     record { all = omega (arith, steps, min-le_right 1 (ranges_of (seen w) c.args.c)); whole = λ copies own. steps }
 
 pub clone_pieces-requires-clause-empty : goal.clone_pieces-requires-clause-empty
-clone_pieces-requires-clause-empty g c p = no_page _ p (c.requires.empty (Page p))
+clone_pieces-requires-clause-empty c p = no_page _ p (c.requires.empty (Page p))

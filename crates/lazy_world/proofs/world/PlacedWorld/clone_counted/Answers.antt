@@ -11,20 +11,18 @@ use Rattle.world_face.specs.Calls.{HasPlace}
 use Rattle.lazy_world.specs.Cells.{is_nothing}
 use Rattle.lazy_world.specs.Worlds.{parts, seen}
 use Rattle.lazy_world.proofs.CloneLemmas.{clone-few, cloned-is, new-nothing, other_name, same_context, still-settled}
-use Rattle.lazy_world.specs.Costs.{CopySteps}
 use Rattle.lazy_world.specs.Seen.{KeepsStore}
 use Rattle.lazy_world.specs.declared.world.PlacedWorld.{PlacedWorld}
 use Rattle.lazy_world.proofs.CostLemmas.{added-ranges, clone-takes, copy-before, steps-before}
 use Rattle.lwc_base.proofs.Facts.{changes, counts, stays_fresh}
-use Rattle.lazy_world.proofs.world.PlacedWorld.clone_counted.Given.{Over}
 use Rattle.lazy_world.proofs.world.PlacedWorld.clone_counted.Goals as goal
 
 pub share-requires-clause-few : goal.share-requires-clause-few
 unfolding ranges_after_clone
-share-requires-clause-few g c = c.requires.few.0
+share-requires-clause-few c = c.requires.few.0
 
 pub add_context-made-requires-clause-place : goal.add_context-made-requires-clause-place
-add_context-made-requires-clause-place g c =
+add_context-made-requires-clause-place c =
     let w = seen c.args.self.now in
     let s = share w c.args.c c.args.job c.args.spec.now in
     let shared = changes.shared w c.args.c c.args.job c.args.spec.now in
@@ -34,7 +32,7 @@ add_context-made-requires-clause-place g c =
 
 pub clone_by-requires-clause-from : goal.clone_by-requires-clause-from
 unfolding seen parts
-clone_by-requires-clause-from g c =
+clone_by-requires-clause-from c =
     let w = seen c.args.self.now in
     let x = new_context NOBODY c.args.entry.now in
     let s = share w c.args.c c.args.job c.args.spec.now in
@@ -47,7 +45,7 @@ clone_by-requires-clause-from g c =
 
 pub clone_by-requires-clause-fresh : goal.clone_by-requires-clause-fresh
 unfolding seen parts
-clone_by-requires-clause-fresh g c =
+clone_by-requires-clause-fresh c =
     let w = seen c.args.self.now in
     let added = c.add_context-made.ensures.world ∙ ap (λ v. add_context v c.args.job (new_context NOBODY c.args.entry.now)) c.share.ensures.world in
     let named = c.add_context-made.ensures.name ∙ ap (λ v. next_context v c.args.job) c.share.ensures.world in
@@ -58,7 +56,7 @@ clone_by-requires-clause-fresh g c =
 
 pub clone_by-requires-clause-few : goal.clone_by-requires-clause-few
 unfolding seen parts
-clone_by-requires-clause-few g c =
+clone_by-requires-clause-few c =
     let w = seen c.args.self.now in
     let added = c.add_context-made.ensures.world ∙ ap (λ v. add_context v c.args.job (new_context NOBODY c.args.entry.now)) c.share.ensures.world in
     let named = c.add_context-made.ensures.name ∙ ap (λ v. next_context v c.args.job) c.share.ensures.world in
@@ -70,7 +68,7 @@ clone_by-requires-clause-few g c =
 
 pub returns-clause-cloned : goal.returns-clause-cloned
 unfolding seen parts
-returns-clause-cloned g c =
+returns-clause-cloned c =
     let w = seen c.args.self.now in
     let added = c.add_context-made.ensures.world ∙ ap (λ v. add_context v c.args.job (new_context NOBODY c.args.entry.now)) c.share.ensures.world in
     let named = c.add_context-made.ensures.name ∙ ap (λ v. next_context v c.args.job) c.share.ensures.world in
@@ -80,7 +78,7 @@ returns-clause-cloned g c =
 
 pub clone_by-requires-clause-apart : goal.clone_by-requires-clause-apart
 unfolding seen parts
-clone_by-requires-clause-apart g c same =
+clone_by-requires-clause-apart c same =
     let w = seen c.args.self.now in
     let named = c.add_context-made.ensures.name ∙ ap (λ v. next_context v c.args.job) c.share.ensures.world in
     other_name w c.args.c c.args.job c.args.spec.now c.requires.within c.requires.live c.args.self.now.sound.fresh NOBODY c.args.entry.now
@@ -88,7 +86,7 @@ clone_by-requires-clause-apart g c same =
 
 pub clone_by-requires-clause-settled : goal.clone_by-requires-clause-settled
 unfolding seen parts
-clone_by-requires-clause-settled g c =
+clone_by-requires-clause-settled c =
     let w = seen c.args.self.now in
     let added = c.add_context-made.ensures.world ∙ ap (λ v. add_context v c.args.job (new_context NOBODY c.args.entry.now)) c.share.ensures.world in
     still-settled w c.args.c c.args.job c.args.spec.now c.requires.within c.requires.live c.args.self.now.sound.fresh NOBODY c.args.entry.now
@@ -96,7 +94,7 @@ clone_by-requires-clause-settled g c =
 
 pub clone_by-requires-clause-empty : goal.clone_by-requires-clause-empty
 unfolding seen parts
-clone_by-requires-clause-empty g c k =
+clone_by-requires-clause-empty c k =
     let w = seen c.args.self.now in
     let x = new_context NOBODY c.args.entry.now in
     let s = share w c.args.c c.args.job c.args.spec.now in
@@ -105,7 +103,7 @@ clone_by-requires-clause-empty g c k =
     (λ e. is_nothing k ((context (added e) (named e)).cell k)) ∙ ap (λ (y : Context). is_nothing k (y.cell k)) (changes.context_added s c.args.job x).added ∙ new-nothing NOBODY c.args.entry.now k
 
 -- the context has its ranges and its cells once the new one is there
-module _ (g : Over) (c : goal.After-clone_by g) where
+module _ (c : goal.After-clone_by) where
   here : context (seen c.add_context-made.new.self) c.args.c ≡ context (share (seen c.args.self.now) c.args.c c.args.job c.args.spec.now) c.args.c
   unfolding seen parts
   here =
@@ -121,19 +119,19 @@ module _ (g : Over) (c : goal.After-clone_by g) where
   still none = (changes.shared (seen c.args.self.now) c.args.c c.args.job c.args.spec.now).none none
 
 pub returns-clause-store : goal.returns-clause-store
-returns-clause-store g c = record {
-  all = clone-takes c.args.self.now c.share.new.self c.add_context-made.new.self c.clone_by.new.self c.args.c c.args.spec.now _ _ c.share.ensures.store c.add_context-made.ensures.store (ap (λ n. n + length c.args.spec.now) (counted g c)) c.clone_by.ensures.store;
+returns-clause-store c = record {
+  all = clone-takes c.args.self.now c.share.new.self c.add_context-made.new.self c.clone_by.new.self c.args.c c.args.spec.now _ _ c.share.ensures.store c.add_context-made.ensures.store (ap (λ n. n + length c.args.spec.now) (counted c)) c.clone_by.ensures.store;
   alone = λ none.
       copy-before c.args.self.now c.add_context-made.new.self c.clone_by.new.self c.args.c c.args.spec.now
-      (here g c ∙ ap (λ v. context v c.args.c) (still g c none)) (ap (λ n. n + length c.args.spec.now) (counted g c ∙ ap (λ v. ranges_of v c.args.c) (still g c none)))
+      (here c ∙ ap (λ v. context v c.args.c) (still c none)) (ap (λ n. n + length c.args.spec.now) (counted c ∙ ap (λ v. ranges_of v c.args.c) (still c none)))
       (subst (λ (v : PlacedWorld). KeepsStore v.places c.add_context-made.new.self.places) (c.share.ensures.none none) c.add_context-made.ensures.store) c.clone_by.ensures.store;
 }
 
 pub returns-clause-steps : goal.returns-clause-steps
-returns-clause-steps g c = record {
-  all = omega (arith, c.share.ensures.steps, c.clone_by.ensures.steps.all, counted g c);
+returns-clause-steps c = record {
+  all = omega (arith, c.share.ensures.steps, c.add_context-made.ensures.store.steps, c.clone_by.ensures.steps.all, counted c);
   alone = λ none.
-      subst (λ n. CopySteps (seen c.args.self.now) c.args.c c.args.spec.now n c.clone_by.new.steps) (c.share.ensures.none_steps none)
-      (steps-before (seen c.args.self.now) (seen c.add_context-made.new.self) c.args.c c.args.spec.now _ _
-      (here g c ∙ ap (λ v. context v c.args.c) (still g c none)) (counted g c ∙ ap (λ v. ranges_of v c.args.c) (still g c none)) c.clone_by.ensures.steps);
+      steps-before c.args.self.now c.add_context-made.new.self c.clone_by.new.self c.args.c c.args.spec.now
+      (here c ∙ ap (λ v. context v c.args.c) (still c none)) (counted c ∙ ap (λ v. ranges_of v c.args.c) (still c none))
+      (subst (λ (v : PlacedWorld). KeepsStore v.places c.add_context-made.new.self.places) (c.share.ensures.none none) c.add_context-made.ensures.store) c.clone_by.ensures.steps;
 }

@@ -19,22 +19,22 @@ use Rattle.lazy_world.proofs.world.PlacedWorld.clone_pieces.Goals as goal
 
 pub clone_origins-origins-requires-clause-apart : goal.clone_origins-origins-requires-clause-apart
 unfolding parts
-clone_origins-origins-requires-clause-apart g c =
+clone_origins-origins-requires-clause-apart c =
     other-place (parts c.args.self.now).contexts c.args.self.now.placed c.args.c c.args.made c.place-from.result c.place-to.result c.place-from.ensures.found c.place-to.ensures.found c.requires.apart
 
 pub clone_origins-origins-requires-clause-settled : goal.clone_origins-origins-requires-clause-settled
 unfolding rows parts
-clone_origins-origins-requires-clause-settled g c k =
+clone_origins-origins-requires-clause-settled c k =
     sym (ap (λ (x : Context). moves c.args.spec.now k x.cell) c.place-from.ensures.context) ∙ c.requires.settled k
 
 pub clone_origins-origins-requires-clause-empty : goal.clone_origins-origins-requires-clause-empty
 unfolding rows parts
-clone_origins-origins-requires-clause-empty g c p =
+clone_origins-origins-requires-clause-empty c p =
     sym (ap (λ (x : Context). x.cell (Page p)) c.place-to.ensures.context) ∙ c.requires.empty p
 
 pub take-requires-clause-few : goal.take-requires-clause-few
 unfolding seen parts world_of
-take-requires-clause-few g c =
+take-requires-clause-few c =
     let w = c.args.self.now in
     let origins = c.clone_origins-origins.ensures in
     subst (λ (n : ℕ). n ≤ MOST_RANGES)
@@ -43,7 +43,7 @@ take-requires-clause-few g c =
 
 pub invariant_of-self : goal.invariant_of-self
 unfolding seen parts world_of
-invariant_of-self g c =
+invariant_of-self c =
     let w = c.args.self.now in
     let to = c.place-to.result in
     let origins = c.clone_origins-origins.ensures in
@@ -62,7 +62,7 @@ invariant_of-self g c =
 
 pub returns-clause-world : goal.returns-clause-world
 unfolding seen parts world_of
-returns-clause-world g c =
+returns-clause-world c =
     let w = c.args.self.now in
     let to = c.place-to.result in
     let origins = c.clone_origins-origins.ensures in
@@ -71,7 +71,7 @@ returns-clause-world g c =
 
 pub returns-clause-store : goal.returns-clause-store
 unfolding seen parts rows rights
-returns-clause-store g c =
+returns-clause-store c =
     let w = c.args.self.now in
     let s = parts w in
     let bounded = c.clone_origins-origins.ensures.bounded in
@@ -87,7 +87,7 @@ returns-clause-store g c =
 
 pub returns-clause-steps : goal.returns-clause-steps
 unfolding seen parts rows rights
-returns-clause-steps g c =
+returns-clause-steps c =
     let w = c.args.self.now in
     let s = parts w in
     let bounded = c.clone_origins-origins.ensures.bounded in

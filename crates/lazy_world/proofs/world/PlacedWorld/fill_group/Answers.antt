@@ -16,19 +16,21 @@ use Rattle.lazy_world.proofs.FollowLemmas.{origin-homes, origin-tags, ranges-her
 use Rattle.lazy_world.proofs.GroupLemmas.{filled-sound, filled-world}
 use Rattle.lazy_world.proofs.PastLemmas.{transferred-within}
 use Rattle.lazy_world.proofs.PlaceLemmas.{pass}
-use Rattle.lazy_world.proofs.WorldLemmas.{change_group-missed}
+use Rattle.lazy_world.specs.Costs.{pieces}
+use Rattle.lazy_world.proofs.CostLemmas.{fill-less}
+use Rattle.lazy_world.proofs.WorldLemmas.{change_group-missed, no_pages-new}
 use Rattle.lazy_world.proofs.world.PlacedWorld.fill_group.Goals as goal
 
 pub origins-origins-requires-clause-transfer : goal.origins-origins-requires-clause-transfer
 unfolding parts
-origins-origins-requires-clause-transfer g c = λ same. absurd (let low = c.place-from.ensures.low in omega (arith, low, same))
+origins-origins-requires-clause-transfer c = λ same. absurd (let low = c.place-from.ensures.low in omega (arith, low, same))
 
 pub take-requires-clause-place : goal.take-requires-clause-place
-take-requires-clause-place g c = omega (arith, c.in-Some.ensures.within, c.args.self.now.sound.sizes.groups, c.args.self.now.count)
+take-requires-clause-place c = omega (arith, c.in-Some.ensures.within, c.args.self.now.sound.sizes.groups, c.args.self.now.count)
 
 pub take-requires-clause-few : goal.take-requires-clause-few
 unfolding seen parts
-take-requires-clause-few g c =
+take-requires-clause-few c =
     let w = c.args.self.now in
     let origins = c.origins-origins.ensures in
     subst (λ (n : ℕ). n ≤ MOST_RANGES)
@@ -40,7 +42,7 @@ others_kept w to right after is q other = (λ e. is e q) ∙ pass to q right (ri
 
 pub invariant_of-self : goal.invariant_of-self
 unfolding seen parts world_of
-invariant_of-self g c =
+invariant_of-self c =
     let w = c.args.self.now in
     let s = parts w in
     let to = w.size.contexts + c.in-Some.j in
@@ -59,7 +61,7 @@ invariant_of-self g c =
 
 pub returns-in-Some-clause-world : goal.returns-in-Some-clause-world
 unfolding seen parts
-returns-in-Some-clause-world g c =
+returns-in-Some-clause-world c =
     let w = c.args.self.now in
     let s = parts w in
     let to = w.size.contexts + c.in-Some.j in
@@ -69,19 +71,27 @@ returns-in-Some-clause-world g c =
 
 pub returns-in-None-clause-world : goal.returns-in-None-clause-world
 unfolding seen parts
-returns-in-None-clause-world g c = change_group-missed (parts c.args.self.now) c.args.g _ (sym c.place.ensures.place ∙ c.in-None.is)
+returns-in-None-clause-world c = change_group-missed (parts c.args.self.now) c.args.g _ (sym c.place.ensures.place ∙ c.in-None.is)
 
 pub returns-in-Some-clause-store : goal.returns-in-Some-clause-store
 unfolding seen parts rows rights
-returns-in-Some-clause-store g c =
-    let here = ranges-here (parts c.args.self.now) c.args.self.now.sound c.args.c c.place-from.result c.place-from.ensures.found in
-    record { frames = c.take.ensures.free; pool = c.take.ensures.pool; nodes = omega (arith, c.take.ensures.nodes_any, c.origins-origins.ensures.nodes, here) }
+returns-in-Some-clause-store c =
+    let w = c.args.self.now in
+    let s = parts w in
+    let here = ranges-here s w.sound c.args.c c.place-from.result c.place-from.ensures.found in
+    let less = fill-less (rows w.places) (rights w.places) c.origins-origins.result.pages (pieces (seen w) c.args.c c.args.spec.now) (omega (arith, c.origins-origins.ensures.steps, here)) in
+    let empty = no_pages-new s w.sound.own c.args.g c.in-Some.j (sym c.place.ensures.place ∙ c.in-Some.is) c.requires.empty in
+    record { frames = c.take.ensures.free; pool = c.take.ensures.pool; nodes = omega (arith, c.take.ensures.nodes empty, less.0) }
 
 pub returns-in-Some-clause-steps : goal.returns-in-Some-clause-steps
 unfolding seen parts rows rights
-returns-in-Some-clause-steps g c =
-    let here = ranges-here (parts c.args.self.now) c.args.self.now.sound c.args.c c.place-from.result c.place-from.ensures.found in
-    omega (arith, c.take.ensures.cost_any, c.origins-origins.ensures.steps, here)
+returns-in-Some-clause-steps c =
+    let w = c.args.self.now in
+    let s = parts w in
+    let here = ranges-here s w.sound c.args.c c.place-from.result c.place-from.ensures.found in
+    let less = fill-less (rows w.places) (rights w.places) c.origins-origins.result.pages (pieces (seen w) c.args.c c.args.spec.now) (omega (arith, c.origins-origins.ensures.steps, here)) in
+    let empty = no_pages-new s w.sound.own c.args.g c.in-Some.j (sym c.place.ensures.place ∙ c.in-Some.is) c.requires.empty in
+    omega (arith, c.take.ensures.cost empty, less.1)
 
 pub returns-in-None-clause-store : goal.returns-in-None-clause-store
-returns-in-None-clause-store g c = record { frames = omega arith; pool = refl; nodes = omega arith }
+returns-in-None-clause-store c = record { frames = omega arith; pool = refl; nodes = omega arith }

@@ -10,13 +10,13 @@ use Rattle.lazy_world.proofs.FollowLemmas.{followed-few, followed-sound, followe
 use Rattle.lazy_world.proofs.world.PlacedWorld.follow.Goals as goal
 
 pub origins-origins-requires-clause-transfer : goal.origins-origins-requires-clause-transfer
-origins-origins-requires-clause-transfer g c =
+origins-origins-requires-clause-transfer c =
     transfer-for c.args.transfer (parts c.args.self.now).size.contexts c.args.d c.args.c c.place-from.result c.place-to.result c.requires.transfer
     (λ same. same-place (parts c.args.self.now).contexts.map c.args.d c.args.c c.place-from.result c.place-to.result same c.place-from.ensures.found c.place-to.ensures.found) c.place-to.ensures.low
 
 pub take-requires-clause-few : goal.take-requires-clause-few
 unfolding seen parts world_of
-take-requires-clause-few g c =
+take-requires-clause-few c =
     let w = c.args.self.now in
     let origins = c.origins-origins.ensures in
     subst (λ (n : ℕ). n ≤ MOST_RANGES)
@@ -25,7 +25,7 @@ take-requires-clause-few g c =
 
 pub invariant_of-self : goal.invariant_of-self
 unfolding seen parts world_of
-invariant_of-self g c =
+invariant_of-self c =
     let w = c.args.self.now in
     let to = c.place-to.result in
     let origins = c.origins-origins.ensures in
@@ -44,7 +44,7 @@ invariant_of-self g c =
 
 pub returns-clause-world : goal.returns-clause-world
 unfolding seen parts world_of
-returns-clause-world g c =
+returns-clause-world c =
     let w = c.args.self.now in
     let to = c.place-to.result in
     let origins = c.origins-origins.ensures in
@@ -53,12 +53,12 @@ returns-clause-world g c =
 
 pub returns-clause-store : goal.returns-clause-store
 unfolding seen parts rows rights
-returns-clause-store g c =
+returns-clause-store c =
     let here = ranges-here (parts c.args.self.now) c.args.self.now.sound c.args.d c.place-from.result c.place-from.ensures.found in
     record { frames = c.take.ensures.free; pool = c.take.ensures.pool; nodes = omega (arith, c.take.ensures.nodes_any, c.origins-origins.ensures.nodes, here) }
 
 pub returns-clause-steps : goal.returns-clause-steps
 unfolding seen parts rows rights
-returns-clause-steps g c =
+returns-clause-steps c =
     let here = ranges-here (parts c.args.self.now) c.args.self.now.sound c.args.d c.place-from.result c.place-from.ensures.found in
     omega (arith, c.take.ensures.cost_any, c.origins-origins.ensures.steps, here)

@@ -1,23 +1,24 @@
 use Rattle.std.proofs.Common.{length, ap, ◌∙◌, arith}
 use Rattle.std.proofs.Math.ListN.{length-set}
+use Rattle.node_pool.specs.Nodes.{Nodes}
 use Rattle.node_pool.proofs.PoolLemmas.{seen_count, seen_inside, seen_recount, whole-recount}
 use Rattle.node_pool.proofs.pool.NodePool.hold.Goals as goal
 
 pub hold-requires-clause-held : goal.hold-requires-clause-held
-hold-requires-clause-held g c = rw (seen_count _ _ _ c.self.view_is c.self.invariant.whole c.args.node.n) c.requires.held
+hold-requires-clause-held c = rw (seen_count _ _ _ (ap (λ (v : Nodes). v.all) c.self.view_is) c.self.invariant.whole c.args.node.n) c.requires.held
 
 pub hold-requires-clause-fits : goal.hold-requires-clause-fits
-hold-requires-clause-fits g c = rw (seen_count _ _ _ c.self.view_is c.self.invariant.whole c.args.node.n) c.requires.fits
+hold-requires-clause-fits c = rw (seen_count _ _ _ (ap (λ (v : Nodes). v.all) c.self.view_is) c.self.invariant.whole c.args.node.n) c.requires.fits
 
 pub returns-clause-once_more : goal.returns-clause-once_more
-returns-clause-once_more g c =
-    seen_recount _ _ _ c.self.view_is c.self.invariant.whole c.hold.new.self _ _ (seen_inside _ _ _ c.self.view_is c.self.invariant.whole _ c.requires.held)
-    (rw (seen_count _ _ _ c.self.view_is c.self.invariant.whole c.args.node.n) at c.hold.ensures.counts)
+returns-clause-once_more c =
+    seen_recount _ _ _ (ap (λ (v : Nodes). v.all) c.self.view_is) c.self.invariant.whole c.hold.new.self _ _ (seen_inside _ _ _ (ap (λ (v : Nodes). v.all) c.self.view_is) c.self.invariant.whole _ c.requires.held)
+    (rw (seen_count _ _ _ (ap (λ (v : Nodes). v.all) c.self.view_is) c.self.invariant.whole c.args.node.n) at c.hold.ensures.counts)
 
 pub invariant_of-self : goal.invariant_of-self
-invariant_of-self g c =
+invariant_of-self c =
     let size = ap length c.hold.ensures.counts ∙ length-set c.self.inside.counts.counts c.args.node.n _ in
     record {
-      whole = whole-recount _ _ _ c.self.view_is c.self.invariant.whole _ _ _ (seen_inside _ _ _ c.self.view_is c.self.invariant.whole _ c.requires.held) c.hold.ensures.counts c.hold.ensures.taken;
+      whole = whole-recount _ _ _ (ap (λ (v : Nodes). v.all) c.self.view_is) c.self.invariant.whole _ _ _ (seen_inside _ _ _ (ap (λ (v : Nodes). v.all) c.self.view_is) c.self.invariant.whole _ c.requires.held) c.hold.ensures.counts c.hold.ensures.taken;
       room = omega (arith, size);
     }

@@ -6,22 +6,22 @@ use Rattle.page_tree.specs.Steps.{IsOwned, KeepsLone, Moves, none_shared}
 use Rattle.page_tree.proofs.store.Store.+parts.Given as goal
 
 abbrev pub decreases-put : goal.decreases-put
-decreases-put g l = 3 * l.level
+decreases-put l = 3 * l.level
 
 abbrev pub decreases-empty : goal.decreases-empty
-decreases-empty g l = 3 * l.level + 1
+decreases-empty l = 3 * l.level + 1
 
 abbrev pub decreases-release : goal.decreases-release
-decreases-release g l = 3 * l.level + 2
+decreases-release l = 3 * l.level + 2
 
 abbrev pub invariant-empty-entries : goal.invariant-empty-entries
-invariant-empty-entries g l =
+invariant-empty-entries l =
     record {
-      sound : IsSoundTo l.level l.self.nodes l.self.frames;
-      own : IsOwned l.self.nodes l.level l.node.n;
-      moves : Moves l.level l.initial.self.nodes l.self.nodes l.initial.self.frames l.self.frames (is_root (l.node.n + 1)) (is_root (l.node.n + 1));
-      done : (k : ℕ) → k < l.i → entry_of l.self.nodes l.node.n k ≡ 0;
-      free : free_of l.initial.self.nodes ≤ free_of l.self.nodes;
-      lone : KeepsLone l.initial.self.nodes l.self.nodes (is_root (l.node.n + 1)) none_shared;
-      cost : l.steps ≤ l.initial.steps + min l.i (entries_in l.level) * most_nodes (l.level - 1);
+      sound : IsSoundTo l.level l.self.nodes.all l.self.frames;
+      own : IsOwned l.self.nodes.all l.level l.node.n;
+      moves : Moves l.level l.initial.self.nodes.all l.self.nodes.all l.initial.self.frames l.self.frames (is_root (l.node.n + 1)) (is_root (l.node.n + 1));
+      done : (k : ℕ) → k < l.i → entry_of l.self.nodes.all l.node.n k ≡ 0;
+      free : free_of l.initial.self.nodes.all ≤ free_of l.self.nodes.all;
+      lone : KeepsLone l.initial.self.nodes.all l.self.nodes.all (is_root (l.node.n + 1)) none_shared;
+      cost : l.self.nodes.steps ≤ l.initial.self.nodes.steps + min l.i (entries_in l.level) * most_nodes (l.level - 1);
     }

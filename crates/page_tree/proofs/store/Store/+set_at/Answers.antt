@@ -1,4 +1,4 @@
-use Rattle.std.proofs.Common.{rules, ℕ, ◌≡◌, ◌≢◌, ◌+◌, ◌-◌, ◌/◌, ◌%◌, ◌^◌, ◌<◌, ◌≤◌, ⊎_elim, eqb, ap, sym, subst, ◌∙◌, arith}
+use Rattle.std.proofs.Common.{ℕ, ◌≡◌, ◌≢◌, ◌+◌, ◌-◌, ◌/◌, ◌%◌, ◌^◌, ◌<◌, ◌≤◌, ⊎_elim, eqb, ap, sym, subst, ◌∙◌, arith}
 use Rattle.std.proofs.lemmas.Nat.{mod_below}
 use Rattle.frame_pool.specs.Frame.{frame_count}
 use Rattle.node_pool.specs.Nodes.{entry_of, free_of}
@@ -13,19 +13,18 @@ use Rattle.page_tree.proofs.NodeLemmas.{loose-own}
 use Rattle.page_tree.proofs.UsesLemmas.{free_of-enter, inside-count}
 use Rattle.page_tree.proofs.CostLemmas.{page-place, pow-pos, way-step}
 use Rattle.page_tree.proofs.ChildLemmas.{entry-leaf, entry-step, entry-swapped, set-page, set-pages, apart-within, short-own, short-whole, short-leaf, short-swapped, left-short, all-short, child-changed, ChildChanged}
-use Rattle.page_tree.proofs.store.Store.+set_at.Given.{Over}
 use Rattle.page_tree.proofs.store.Store.+set_at.Goals as goal
 
 pub own-node-requires-clause-free : goal.own-node-requires-clause-free
-own-node-requires-clause-free g t c =
-    let old = c.args.self.now.nodes in
+own-node-requires-clause-free t c =
+    let old = c.args.self.now.nodes.all in
     ⊎_elim
     (λ own. omega (arith, own.0))
     (λ short. let all = short-whole c.args.level old c.args.link c.args.p (omega (arith, c.requires.low)) short in omega (arith, short, all, c.requires.free, c.requires.low))
     (link_short-cases old c.args.link)
 
 pub set_at-child-requires : goal.set_at-child-requires
-set_at-child-requires g t c =
+set_at-child-requires t c =
     let up : 1 < c.args.level = omega (arith, c.requires.low, c.if-level-eq-LEAF_LEVEL.false) in
     let some : 0 < c.args.level = omega (arith, up) in
     let w = c.width-width.ensures in
@@ -33,30 +32,26 @@ set_at-child-requires g t c =
     let within : c.args.p % c.width-width.result ≡ c.args.p % 32 ^ (c.args.level - 1) = ap (λ x. c.args.p % x) w in
     let one = c.swap-child.ensures in
     let r = c.args.p % c.width-width.result in
-    let short = left-short c.args.level c.args.self.now.nodes c.own-node.new.self.nodes c.swap-child.new.self.nodes c.args.link c.own-node.result.n c.args.p c.swap-child.result some c.own-node.ensures.same
-    (λ own. sym (c.own-node.ensures.entries (c.args.p / 32 ^ (c.args.level - 1))) ∙ ap (entry_of c.own-node.new.self.nodes c.own-node.result.n) (sym at) ∙ sym one.was)
-    (rw one.was (short-swapped c.args.level c.own-node.new.self.nodes c.swap-child.new.self.nodes _ c.own-node.result.n (c.args.p / c.width-width.result) up (page-place c.args.level c.args.p c.width-width.result some w c.requires.page) c.own-node.ensures.sound c.own-node.ensures.own one.nodes))
-    c.own-node.ensures.free one.free c.requires.free in
-    λ κs le. (
+    let short = left-short c.args.level c.args.self.now.nodes.all c.own-node.new.self.nodes.all c.swap-child.new.self.nodes.all c.args.link c.own-node.result.n c.args.p c.swap-child.result some c.own-node.ensures.same
+    (λ own. sym (c.own-node.ensures.entries (c.args.p / 32 ^ (c.args.level - 1))) ∙ ap (entry_of c.own-node.new.self.nodes.all c.own-node.result.n) (sym at) ∙ sym one.was)
+    (rw one.was (short-swapped c.args.level c.own-node.new.self.nodes.all c.swap-child.new.self.nodes.all _ c.own-node.result.n (c.args.p / c.width-width.result) up (page-place c.args.level c.args.p c.width-width.result some w c.requires.page) c.own-node.ensures.sound c.own-node.ensures.own one.nodes))
+    c.own-node.ensures.free one.free c.requires.free in (
       omega (arith, c.decreases, up),
       (
-        search rules,
+        omega (arith, up),
         (
-          omega (arith, up),
+          omega (arith, c.requires.high),
           (
-            omega (arith, c.requires.high),
+            one.sound,
             (
-              one.sound,
+              one.loose,
               (
-                one.loose,
+                omega (arith, within, mod_below c.args.p (32 ^ (c.args.level - 1)) (pow-pos (c.args.level - 1))),
                 (
-                  omega (arith, within, mod_below c.args.p (32 ^ (c.args.level - 1)) (pow-pos (c.args.level - 1))),
+                  λ is. absurd (omega (arith, is, c.requires.high, up)),
                   (
-                    λ is. absurd (omega (arith, is, c.requires.high, up)),
-                    (
-                      λ f is. let held = c.requires.held f is in let grows = c.own-node.ensures.grows f in let same = ap (λ fs. frame_count fs f) one.frames in omega (arith, held, grows, same),
-                      subst (λ x. short_below c.swap-child.new.self.nodes (c.args.level - 1) c.swap-child.result x ≤ free_of c.swap-child.new.self.nodes) (sym within) short,
-                    ),
+                    λ f is. let held = c.requires.held f is in let grows = c.own-node.ensures.grows f in let same = ap (λ fs. frame_count fs f) one.frames in omega (arith, held, grows, same),
+                    subst (λ x. short_below c.swap-child.new.self.nodes.all (c.args.level - 1) c.swap-child.result x ≤ free_of c.swap-child.new.self.nodes.all) (sym within) short,
                   ),
                 ),
               ),
@@ -67,22 +62,22 @@ set_at-child-requires g t c =
     )
 
 pub nonzero_div-p-else-level-eq-LEAF_LEVEL : goal.nonzero_div-p-else-level-eq-LEAF_LEVEL
-nonzero_div-p-else-level-eq-LEAF_LEVEL g t c = let pos = pow-pos (c.args.level - 1) in omega (arith, pos, c.width-width.ensures)
+nonzero_div-p-else-level-eq-LEAF_LEVEL t c = let pos = pow-pos (c.args.level - 1) in omega (arith, pos, c.width-width.ensures)
 
 pub overflow_add-child : goal.overflow_add-child
-overflow_add-child g t c =
+overflow_add-child t c =
     let rec = c.set_at-child.ensures in
-    let inside = inside-count c.set_at-child.new.self.nodes c.set_at-child.result.n (omega (arith, rec.own.once)) in
+    let inside = inside-count c.set_at-child.new.self.nodes.all c.set_at-child.result.n (omega (arith, rec.own.once)) in
     omega (arith, inside, rec.sound.few)
 
 pub swap-requires-clause-place : goal.swap-requires-clause-place
-swap-requires-clause-place g t c = page-place c.args.level c.args.p c.width-width.result (omega (arith, c.requires.low)) c.width-width.ensures c.requires.page
+swap-requires-clause-place t c = page-place c.args.level c.args.p c.width-width.result (omega (arith, c.requires.low)) c.width-width.ensures c.requires.page
 
 pub swap-requires-clause-loose : goal.swap-requires-clause-loose
-swap-requires-clause-loose g t c = loose-own _ _ _ c.set_at-child.ensures.own
+swap-requires-clause-loose t c = loose-own _ _ _ c.set_at-child.ensures.own
 
 -- after the last swap: where the page is below its entry, and what the change of the child made of the node
-module _ (g : Over) (t : ℕ) (c : goal.After-swap g t) where
+module _ (t : ℕ) (c : goal.After-swap t) where
   up : 1 < c.args.level
   up = omega (arith, c.requires.low, c.if-level-eq-LEAF_LEVEL.false)
 
@@ -98,91 +93,91 @@ module _ (g : Over) (t : ℕ) (c : goal.After-swap g t) where
   place : c.args.p / c.width-width.result < 32
   place = page-place c.args.level c.args.p c.width-width.result some c.width-width.ensures c.requires.page
 
-  changed : ChildChanged c.args.level c.own-node.new.self.nodes c.swap-child.new.self.nodes c.set_at-child.new.self.nodes c.swap.new.self.nodes c.own-node.new.self.frames c.swap.new.self.frames c.own-node.result.n (c.args.p / c.width-width.result) (c.set_at-child.result.n + 1)
+  changed : ChildChanged c.args.level c.own-node.new.self.nodes.all c.swap-child.new.self.nodes.all c.set_at-child.new.self.nodes.all c.swap.new.self.nodes.all c.own-node.new.self.frames c.swap.new.self.frames c.own-node.result.n (c.args.p / c.width-width.result) (c.set_at-child.result.n + 1)
   changed =
       let one = c.swap-child.ensures in
       let two = c.swap.ensures in
       let rec = c.set_at-child.ensures in
-      child-changed c.args.level c.own-node.new.self.nodes c.swap-child.new.self.nodes c.set_at-child.new.self.nodes c.swap.new.self.nodes _ _ _ _ c.own-node.result.n (c.args.p / c.width-width.result) (c.set_at-child.result.n + 1) up place
+      child-changed c.args.level c.own-node.new.self.nodes.all c.swap-child.new.self.nodes.all c.set_at-child.new.self.nodes.all c.swap.new.self.nodes.all _ _ _ _ c.own-node.result.n (c.args.p / c.width-width.result) (c.set_at-child.result.n + 1) up place
       c.own-node.ensures.sound c.own-node.ensures.own one.nodes one.sound one.own (rw one.was at one.loose) (rw one.was at one.moves)
       rec.sound (loose-own _ _ _ rec.own) (rw one.was at rec.moves) two.nodes two.sound two.own (rw two.was at two.moves)
 
 pub returns-else-level-eq-LEAF_LEVEL-clause-sound : goal.returns-else-level-eq-LEAF_LEVEL-clause-sound
-returns-else-level-eq-LEAF_LEVEL-clause-sound g t c =
-    let ch = changed g t c in
+returns-else-level-eq-LEAF_LEVEL-clause-sound t c =
+    let ch = changed t c in
     ch.sound
 
 pub returns-else-level-eq-LEAF_LEVEL-clause-moves : goal.returns-else-level-eq-LEAF_LEVEL-clause-moves
-returns-else-level-eq-LEAF_LEVEL-clause-moves g t c =
-    let ch = changed g t c in
+returns-else-level-eq-LEAF_LEVEL-clause-moves t c =
+    let ch = changed t c in
     Moves-trans _ _ _ _ _ _ _ _ _ _ _ c.requires.sound c.own-node.ensures.moves ch.moves
 
 pub returns-else-level-eq-LEAF_LEVEL-clause-page : goal.returns-else-level-eq-LEAF_LEVEL-clause-page
-returns-else-level-eq-LEAF_LEVEL-clause-page g t c =
+returns-else-level-eq-LEAF_LEVEL-clause-page t c =
     let rec = c.set_at-child.ensures in
-    let ch = changed g t c in
-    set-page c.args.level c.swap.new.self.nodes c.own-node.result.n (c.args.p / c.width-width.result) c.args.p (c.set_at-child.result.n + 1) _ (some g t c) (at g t c) ch.here
-    (ch.after (c.args.p % 32 ^ (c.args.level - 1)) ∙ ap (entry_below c.set_at-child.new.self.nodes (c.args.level - 1) (c.set_at-child.result.n + 1)) (sym (within g t c)) ∙ rec.page)
+    let ch = changed t c in
+    set-page c.args.level c.swap.new.self.nodes.all c.own-node.result.n (c.args.p / c.width-width.result) c.args.p (c.set_at-child.result.n + 1) _ (some t c) (at t c) ch.here
+    (ch.after (c.args.p % 32 ^ (c.args.level - 1)) ∙ ap (entry_below c.set_at-child.new.self.nodes.all (c.args.level - 1) (c.set_at-child.result.n + 1)) (sym (within t c)) ∙ rec.page)
 
 pub returns-else-level-eq-LEAF_LEVEL-clause-pages : goal.returns-else-level-eq-LEAF_LEVEL-clause-pages
-returns-else-level-eq-LEAF_LEVEL-clause-pages g t c =
+returns-else-level-eq-LEAF_LEVEL-clause-pages t c =
     let one = c.swap-child.ensures in
     let rec = c.set_at-child.ensures in
-    let ch = changed g t c in
+    let ch = changed t c in
     λ q lt off.
-    set-pages c.args.level c.own-node.new.self.nodes c.swap.new.self.nodes c.own-node.result.n (c.args.p / c.width-width.result) (c.set_at-child.result.n + 1) q (some g t c) ch.here ch.there
+    set-pages c.args.level c.own-node.new.self.nodes.all c.swap.new.self.nodes.all c.own-node.result.n (c.args.p / c.width-width.result) (c.set_at-child.result.n + 1) q (some t c) ch.here ch.there
     (λ is.
     let r = q % 32 ^ (c.args.level - 1) in
-    let apart : r ≢ c.args.p % c.width-width.result = λ same. apart-within (32 ^ (c.args.level - 1)) c.args.p q off (is ∙ (at g t c)) (same ∙ (within g t c)) in
+    let apart : r ≢ c.args.p % c.width-width.result = λ same. apart-within (32 ^ (c.args.level - 1)) c.args.p q off (is ∙ (at t c)) (same ∙ (within t c)) in
     ch.after r ∙ rec.pages r (mod_below q (32 ^ (c.args.level - 1)) (pow-pos (c.args.level - 1))) apart
-    ∙ ap (λ l. entry_below c.swap-child.new.self.nodes (c.args.level - 1) l r) one.was ∙ ch.before r)
+    ∙ ap (λ l. entry_below c.swap-child.new.self.nodes.all (c.args.level - 1) l r) one.was ∙ ch.before r)
     ∙ c.own-node.ensures.maps q
 
 pub returns-else-level-eq-LEAF_LEVEL-clause-alone : goal.returns-else-level-eq-LEAF_LEVEL-clause-alone
-returns-else-level-eq-LEAF_LEVEL-clause-alone g t c =
+returns-else-level-eq-LEAF_LEVEL-clause-alone t c =
     let two = c.swap.ensures in
     let rec = c.set_at-child.ensures in
-    let ch = changed g t c in
-    let own = link_short-once c.swap.new.self.nodes c.own-node.result.n two.own.once in
-    short-own c.args.level c.swap.new.self.nodes (c.own-node.result.n + 1) c.args.p (some g t c) own
-    ∙ ap (λ l. short_below c.swap.new.self.nodes (c.args.level - 1) l (c.args.p % 32 ^ (c.args.level - 1))) (link_of-node c.swap.new.self.nodes c.own-node.result.n (c.args.p / 32 ^ (c.args.level - 1)) ∙ ap (entry_of c.swap.new.self.nodes c.own-node.result.n) (sym (at g t c)) ∙ ch.here)
+    let ch = changed t c in
+    let own = link_short-once c.swap.new.self.nodes.all c.own-node.result.n two.own.once in
+    short-own c.args.level c.swap.new.self.nodes.all (c.own-node.result.n + 1) c.args.p (some t c) own
+    ∙ ap (λ l. short_below c.swap.new.self.nodes.all (c.args.level - 1) l (c.args.p % 32 ^ (c.args.level - 1))) (link_of-node c.swap.new.self.nodes.all c.own-node.result.n (c.args.p / 32 ^ (c.args.level - 1)) ∙ ap (entry_of c.swap.new.self.nodes.all c.own-node.result.n) (sym (at t c)) ∙ ch.here)
     ∙ ch.short_after (c.args.p % 32 ^ (c.args.level - 1))
-    ∙ ap (short_below c.set_at-child.new.self.nodes (c.args.level - 1) (c.set_at-child.result.n + 1)) (sym (within g t c)) ∙ rec.alone
+    ∙ ap (short_below c.set_at-child.new.self.nodes.all (c.args.level - 1) (c.set_at-child.result.n + 1)) (sym (within t c)) ∙ rec.alone
 
 pub returns-else-level-eq-LEAF_LEVEL-clause-free : goal.returns-else-level-eq-LEAF_LEVEL-clause-free
-returns-else-level-eq-LEAF_LEVEL-clause-free g t c =
+returns-else-level-eq-LEAF_LEVEL-clause-free t c =
     let one = c.swap-child.ensures in
     let two = c.swap.ensures in
     let rec = c.set_at-child.ensures in
-    let ch = changed g t c in
-    let all = all-short c.args.level c.args.self.now.nodes c.own-node.new.self.nodes c.swap-child.new.self.nodes c.set_at-child.new.self.nodes c.args.link c.args.p c.swap-child.result (some g t c) c.own-node.ensures.same
-    (λ own. sym (c.own-node.ensures.entries (c.args.p / 32 ^ (c.args.level - 1))) ∙ ap (entry_of c.own-node.new.self.nodes c.own-node.result.n) (sym (at g t c)) ∙ sym one.was)
+    let ch = changed t c in
+    let all = all-short c.args.level c.args.self.now.nodes.all c.own-node.new.self.nodes.all c.swap-child.new.self.nodes.all c.set_at-child.new.self.nodes.all c.args.link c.args.p c.swap-child.result (some t c) c.own-node.ensures.same
+    (λ own. sym (c.own-node.ensures.entries (c.args.p / 32 ^ (c.args.level - 1))) ∙ ap (entry_of c.own-node.new.self.nodes.all c.own-node.result.n) (sym (at t c)) ∙ sym one.was)
     (rw one.was ch.short_before)
-    c.own-node.ensures.free one.free (subst (λ x. free_of c.swap-child.new.self.nodes ≤ free_of c.set_at-child.new.self.nodes + short_below c.swap-child.new.self.nodes (c.args.level - 1) c.swap-child.result x) (within g t c) rec.free) in
+    c.own-node.ensures.free one.free (subst (λ x. free_of c.swap-child.new.self.nodes.all ≤ free_of c.set_at-child.new.self.nodes.all + short_below c.swap-child.new.self.nodes.all (c.args.level - 1) c.swap-child.result x) (within t c) rec.free) in
     omega (arith, all, two.free)
 
 pub returns-then-level-eq-LEAF_LEVEL-clause-moves : goal.returns-then-level-eq-LEAF_LEVEL-clause-moves
-returns-then-level-eq-LEAF_LEVEL-clause-moves g t c =
-    Moves-trans c.args.level c.args.level c.args.self.now.nodes c.own-node.new.self.nodes c.write.new.self.nodes c.args.self.now.frames c.own-node.new.self.frames c.write.new.self.frames _ _ _ c.requires.sound c.own-node.ensures.moves
+returns-then-level-eq-LEAF_LEVEL-clause-moves t c =
+    Moves-trans c.args.level c.args.level c.args.self.now.nodes.all c.own-node.new.self.nodes.all c.write.new.self.nodes.all c.args.self.now.frames c.own-node.new.self.frames c.write.new.self.frames _ _ _ c.requires.sound c.own-node.ensures.moves
     (Moves-raise 1 c.args.level _ _ _ _ _ _ c.requires.low c.write.ensures.moves)
 
 pub returns-then-level-eq-LEAF_LEVEL-clause-page : goal.returns-then-level-eq-LEAF_LEVEL-clause-page
-returns-then-level-eq-LEAF_LEVEL-clause-page g t c =
+returns-then-level-eq-LEAF_LEVEL-clause-page t c =
     let leaf : c.args.level ≡ 1 = c.if-level-eq-LEAF_LEVEL.true in
-    let old = c.args.self.now.nodes in
-    let mid = c.own-node.new.self.nodes in
-    let new = c.write.new.self.nodes in
+    let old = c.args.self.now.nodes.all in
+    let mid = c.own-node.new.self.nodes.all in
+    let new = c.write.new.self.nodes.all in
     let n = c.own-node.result.n in
     let place : c.args.p < 32 = let power = ap (λ l. 32 ^ l) leaf in omega (arith, power, c.requires.page) in
     ap (λ l. entry_below new l (n + 1) c.args.p) leaf ∙ entry-leaf new (n + 1) c.args.p ∙ link_of-node new n c.args.p ∙ ap (λ ns. entry_of ns n c.args.p) c.write.ensures.nodes
     ∙ here-entered c.args.level 1 mid _ c.own-node.ensures.sound n c.args.p _ (subst (λ l. IsOwned mid l n) leaf c.own-node.ensures.own) place
 
 pub returns-then-level-eq-LEAF_LEVEL-clause-pages : goal.returns-then-level-eq-LEAF_LEVEL-clause-pages
-returns-then-level-eq-LEAF_LEVEL-clause-pages g t c =
+returns-then-level-eq-LEAF_LEVEL-clause-pages t c =
     let leaf : c.args.level ≡ 1 = c.if-level-eq-LEAF_LEVEL.true in
-    let old = c.args.self.now.nodes in
-    let mid = c.own-node.new.self.nodes in
-    let new = c.write.new.self.nodes in
+    let old = c.args.self.now.nodes.all in
+    let mid = c.own-node.new.self.nodes.all in
+    let new = c.write.new.self.nodes.all in
     let n = c.own-node.result.n in
     let place : c.args.p < 32 = let power = ap (λ l. 32 ^ l) leaf in omega (arith, power, c.requires.page) in
     λ q lt off.
@@ -191,21 +186,21 @@ returns-then-level-eq-LEAF_LEVEL-clause-pages g t c =
     ∙ sym (link_of-node mid n q) ∙ sym (entry-leaf mid (n + 1) q) ∙ ap (λ l. entry_below mid l (n + 1) q) (sym leaf) ∙ c.own-node.ensures.maps q
 
 pub returns-then-level-eq-LEAF_LEVEL-clause-alone : goal.returns-then-level-eq-LEAF_LEVEL-clause-alone
-returns-then-level-eq-LEAF_LEVEL-clause-alone g t c =
+returns-then-level-eq-LEAF_LEVEL-clause-alone t c =
     let leaf : c.args.level ≡ 1 = c.if-level-eq-LEAF_LEVEL.true in
-    let old = c.args.self.now.nodes in
-    let mid = c.own-node.new.self.nodes in
-    let new = c.write.new.self.nodes in
+    let old = c.args.self.now.nodes.all in
+    let mid = c.own-node.new.self.nodes.all in
+    let new = c.write.new.self.nodes.all in
     let n = c.own-node.result.n in
     let place : c.args.p < 32 = let power = ap (λ l. 32 ^ l) leaf in omega (arith, power, c.requires.page) in
     ap (λ l. short_below new l (n + 1) c.args.p) leaf ∙ short-leaf new (n + 1) c.args.p (link_short-once new n c.write.ensures.own.once)
 
 pub returns-then-level-eq-LEAF_LEVEL-clause-free : goal.returns-then-level-eq-LEAF_LEVEL-clause-free
-returns-then-level-eq-LEAF_LEVEL-clause-free g t c =
+returns-then-level-eq-LEAF_LEVEL-clause-free t c =
     let leaf : c.args.level ≡ 1 = c.if-level-eq-LEAF_LEVEL.true in
-    let old = c.args.self.now.nodes in
-    let mid = c.own-node.new.self.nodes in
-    let new = c.write.new.self.nodes in
+    let old = c.args.self.now.nodes.all in
+    let mid = c.own-node.new.self.nodes.all in
+    let new = c.write.new.self.nodes.all in
     let n = c.own-node.result.n in
     let place : c.args.p < 32 = let power = ap (λ l. 32 ^ l) leaf in omega (arith, power, c.requires.page) in
     let kept = ap (λ ns. free_of ns) c.write.ensures.nodes ∙ free_of-enter mid n c.args.p _ in
@@ -215,10 +210,10 @@ returns-then-level-eq-LEAF_LEVEL-clause-free g t c =
     (link_short-cases old c.args.link)
 
 pub returns-then-level-eq-LEAF_LEVEL-clause-grows : goal.returns-then-level-eq-LEAF_LEVEL-clause-grows
-returns-then-level-eq-LEAF_LEVEL-clause-grows g t c = λ same f.
+returns-then-level-eq-LEAF_LEVEL-clause-grows t c = λ same f.
     let leaf : c.args.level ≡ 1 = c.if-level-eq-LEAF_LEVEL.true in
-    let old = c.args.self.now.nodes in
-    let mid = c.own-node.new.self.nodes in
+    let old = c.args.self.now.nodes.all in
+    let mid = c.own-node.new.self.nodes.all in
     let n = c.own-node.result.n in
     let here : entry_of mid n c.args.p ≡ entry_for c.args.cell =
     sym (link_of-node mid n c.args.p) ∙ sym (entry-leaf mid (n + 1) c.args.p) ∙ ap (λ l. entry_below mid l (n + 1) c.args.p) (sym leaf) ∙ c.own-node.ensures.maps c.args.p ∙ sym same in
@@ -228,15 +223,15 @@ returns-then-level-eq-LEAF_LEVEL-clause-grows g t c = λ same f.
     omega (arith, grown, holds, even)
 
 pub returns-else-level-eq-LEAF_LEVEL-clause-grows : goal.returns-else-level-eq-LEAF_LEVEL-clause-grows
-returns-else-level-eq-LEAF_LEVEL-clause-grows g t c = λ same f.
+returns-else-level-eq-LEAF_LEVEL-clause-grows t c = λ same f.
     let w = c.width-width.ensures in
-    let a = c.own-node.new.self.nodes in
-    let b = c.swap-child.new.self.nodes in
+    let a = c.own-node.new.self.nodes.all in
+    let b = c.swap-child.new.self.nodes.all in
     let n = c.own-node.result.n in
     let one = c.swap-child.ensures in
-    let before = entry-swapped c.args.level a b _ n (c.args.p / c.width-width.result) (up g t c) (place g t c) c.own-node.ensures.sound c.own-node.ensures.own one.nodes (c.args.p % c.width-width.result) in
+    let before = entry-swapped c.args.level a b _ n (c.args.p / c.width-width.result) (up t c) (place t c) c.own-node.ensures.sound c.own-node.ensures.own one.nodes (c.args.p % c.width-width.result) in
     let there : entry_for c.args.cell ≡ entry_below b (c.args.level - 1) c.swap-child.result (c.args.p % c.width-width.result) =
-    same ∙ sym (c.own-node.ensures.maps c.args.p) ∙ entry-step a c.args.level (n + 1) c.args.p (some g t c)
+    same ∙ sym (c.own-node.ensures.maps c.args.p) ∙ entry-step a c.args.level (n + 1) c.args.p (some t c)
     ∙ ap (λ l. entry_below a (c.args.level - 1) l (c.args.p % 32 ^ (c.args.level - 1))) (link_of-node a n (c.args.p / 32 ^ (c.args.level - 1)))
     ∙ ap (λ x. entry_below a (c.args.level - 1) (entry_of a n (c.args.p / x)) (c.args.p % x)) (sym w)
     ∙ sym before ∙ ap (λ l. entry_below b (c.args.level - 1) l (c.args.p % c.width-width.result)) (sym one.was) in
@@ -247,6 +242,6 @@ returns-else-level-eq-LEAF_LEVEL-clause-grows g t c = λ same f.
     omega (arith, grown, below, first, last)
 
 pub returns-else-level-eq-LEAF_LEVEL-clause-cost : goal.returns-else-level-eq-LEAF_LEVEL-clause-cost
-returns-else-level-eq-LEAF_LEVEL-clause-cost g t c =
-    let step = way-step c.args.level (some g t c) in
+returns-else-level-eq-LEAF_LEVEL-clause-cost t c =
+    let step = way-step c.args.level (some t c) in
     omega (arith, step, c.own-node.ensures.cost, c.set_at-child.ensures.cost)

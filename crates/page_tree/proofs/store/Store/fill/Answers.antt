@@ -13,30 +13,30 @@ use Rattle.page_tree.proofs.store.Store.fill.Goals.{then-link-ne0, else-link-ne0
 use Rattle.page_tree.proofs.store.Store.fill.Goals as goal
 
 pub entry-link-requires-clause-node : goal.entry-link-requires-clause-node
-entry-link-requires-clause-node g c =
+entry-link-requires-clause-node c =
     let loose = c.requires.loose c.args.node.n refl in
-    let in_old = inside-count c.args.self.now.nodes c.args.node.n (omega (arith, loose.1)) in
+    let in_old = inside-count c.args.self.now.nodes.all c.args.node.n (omega (arith, loose.1)) in
     omega (arith, in_old, c.entries.invariant.moves.size)
 
 pub put-requires-clause-cell : goal.put-requires-clause-cell
-put-requires-clause-cell g c = λ leaf f is.
+put-requires-clause-cell c = λ leaf f is.
     let inv = c.entries.invariant in
     let loose = c.requires.loose c.args.node.n refl in
     let l = ap (λ y. y.level) inv.peer in
-    named-held c.args.level c.entries.self.nodes c.entries.self.frames c.args.node.n c.entries.i f inv.sound (omega (arith, l, loose.0, leaf)) (sym c.entry-link.ensures ∙ is)
+    named-held c.args.level c.entries.self.nodes.all c.entries.self.frames c.args.node.n c.entries.i f inv.sound (omega (arith, l, loose.0, leaf)) (sym c.entry-link.ensures ∙ is)
 
 pub put-requires-clause-held : goal.put-requires-clause-held
-put-requires-clause-held g c = λ up m is.
+put-requires-clause-held c = λ up m is.
     let inv = c.entries.invariant in
     let loose = c.requires.loose c.args.node.n refl in
     let l = ap (λ y. y.level) inv.peer in
-    let high : 1 < level_of c.entries.self.nodes c.args.node.n = omega (arith, l, loose.0, up) in
+    let high : 1 < level_of c.entries.self.nodes.all c.args.node.n = omega (arith, l, loose.0, up) in
     let e = sym c.entry-link.ensures ∙ is in
     let next = inv.sound.below c.args.node.n c.entries.i m high e in
     (omega (arith, next, l, loose.0), inv.sound.held c.args.node.n c.entries.i m high e)
 
 pub entries-init : goal.entries-init
-entries-init g c =
+entries-init c =
     record {
       sound = c.requires.sound;
       own = c.requires.own;
@@ -52,7 +52,7 @@ entries-init g c =
     }
 
 pub entries-preserved : goal.entries-preserved
-entries-preserved g c =
+entries-preserved c =
     let inv = c.entries.invariant in
     let loose = c.requires.loose c.args.node.n refl in
     let none = inv.rest c.entries.i (omega arith) in
@@ -65,32 +65,32 @@ entries-preserved g c =
           let put = w.put.ensures in
           let grows = put.grows none in
           let cost = put.cost_absent none in
-          rw (w.self-is, w.steps-is) (record {
+          rw (w.self-is) (record {
             sound = put.sound;
             own = put.own;
             moves = Moves-trans _ _ _ _ _ _ _ _ _ _ _ c.requires.sound inv.moves put.moves;
             done = λ k lt.
                 ⊎_elim
-                (λ is. ap (entry_of w.put.new.self.nodes c.args.copy.n) is ∙ put.here ∙ there ∙ ap (entry_of c.args.self.now.nodes c.args.node.n) (sym is))
+                (λ is. ap (entry_of w.put.new.self.nodes.all c.args.copy.n) is ∙ put.here ∙ there ∙ ap (entry_of c.args.self.now.nodes.all c.args.node.n) (sym is))
                 (λ away. put.others k away ∙ inv.done k (omega (arith, lt, away)))
                 (cases_eq k c.entries.i);
             rest = λ k past. put.others k (λ is. absurd (omega (arith, is, past))) ∙ inv.rest k (omega (arith, past));
             peer = put.peers c.args.node.n c.requires.apart (omega (arith, count_is, loose.1)) (omega (arith, level_is, loose.0)) ∙ inv.peer;
             free = omega (arith, inv.free, put.free);
             grows = λ f. let a = inv.grows f in let b = grows f in omega (arith, a, b);
-            lone = lone-trans _ _ _ c.entries.self.nodes _ _ _ (is_root (c.args.copy.n + 1)) (is_root (c.args.copy.n + 1)) none_shared _ c.requires.sound inv.moves inv.lone put.lone
-                (λ t m other way shared. c.requires.shared (sym count_is ∙ lone-leader c.args.level c.entries.self.nodes _ (is_root (c.args.copy.n + 1)) t c.args.node.n c.entries.i m inv.sound other way (omega (arith, level_is, loose.0, shared.0)) (sym c.entry-link.ensures ∙ shared.1)));
-            cost = more-steps c.entries.i (entries_in c.args.level) 1 c.args.steps.now c.entries.steps w.put.new.steps inv.cost (omega (arith, cost)) (λ past. absurd (w.if-link-ne0.true (unused c.args.level c.entries.i c.entry-link.result narrow (omega (arith, c.entries-test.true)) past)));
+            lone = lone-trans _ _ _ c.entries.self.nodes.all _ _ _ (is_root (c.args.copy.n + 1)) (is_root (c.args.copy.n + 1)) none_shared _ c.requires.sound inv.moves inv.lone put.lone
+                (λ t m other way shared. c.requires.shared (sym count_is ∙ lone-leader c.args.level c.entries.self.nodes.all _ (is_root (c.args.copy.n + 1)) t c.args.node.n c.entries.i m inv.sound other way (omega (arith, level_is, loose.0, shared.0)) (sym c.entry-link.ensures ∙ shared.1)));
+            cost = more-steps c.entries.i (entries_in c.args.level) 1 c.args.self.now.nodes.steps c.entries.self.nodes.steps w.put.new.self.nodes.steps inv.cost (omega (arith, cost)) (λ past. absurd (w.if-link-ne0.true (unused c.args.level c.entries.i c.entry-link.result narrow (omega (arith, c.entries-test.true)) past)));
             cost_leaf = λ leaf. let a = inv.cost_leaf leaf in let b = put.cost_leaf leaf in omega (arith, a, b);
           })
       | else-link-ne0 w ↦
-          rw (w.self-is, w.steps-is) (record {
+          rw (w.self-is) (record {
             sound = inv.sound;
             own = inv.own;
             moves = inv.moves;
             done = λ k lt.
                 ⊎_elim
-                (λ is. ap (entry_of c.entries.self.nodes c.args.copy.n) is ∙ none ∙ sym w.if-link-ne0.false ∙ there ∙ ap (entry_of c.args.self.now.nodes c.args.node.n) (sym is))
+                (λ is. ap (entry_of c.entries.self.nodes.all c.args.copy.n) is ∙ none ∙ sym w.if-link-ne0.false ∙ there ∙ ap (entry_of c.args.self.now.nodes.all c.args.node.n) (sym is))
                 (λ away. inv.done k (omega (arith, lt, away)))
                 (cases_eq k c.entries.i);
             rest = λ k past. inv.rest k (omega (arith, past));
@@ -98,10 +98,10 @@ entries-preserved g c =
             free = inv.free;
             grows = inv.grows;
             lone = inv.lone;
-            cost = more-steps c.entries.i (entries_in c.args.level) 1 c.args.steps.now c.entries.steps c.entries.steps inv.cost (omega arith) (λ past. refl);
+            cost = more-steps c.entries.i (entries_in c.args.level) 1 c.args.self.now.nodes.steps c.entries.self.nodes.steps c.entries.self.nodes.steps inv.cost (omega arith) (λ past. refl);
             cost_leaf = inv.cost_leaf;
           })
     ]
 
 pub returns-clause-cost : goal.returns-clause-cost
-returns-clause-cost g c = omega (arith, c.entries.invariant.cost)
+returns-clause-cost c = omega (arith, c.entries.invariant.cost)

@@ -7,17 +7,17 @@ use Rattle.page_tree.specs.Steps.{IsOwned, KeepsLone, Moves, none_shared}
 use Rattle.page_tree.proofs.store.Store.fill.Given as goal
 
 abbrev pub invariant-entries : goal.invariant-entries
-invariant-entries g l =
+invariant-entries l =
     record {
-      sound : IsSoundTo l.level l.self.nodes l.self.frames;
-      own : IsOwned l.self.nodes l.level l.copy.n;
-      moves : Moves l.level l.initial.self.nodes l.self.nodes l.initial.self.frames l.self.frames (is_root (l.copy.n + 1)) (is_root (l.copy.n + 1));
-      done : (k : ℕ) → k < l.i → entry_of l.self.nodes l.copy.n k ≡ entry_of l.initial.self.nodes l.node.n k;
-      rest : (k : ℕ) → l.i ≤ k → entry_of l.self.nodes l.copy.n k ≡ 0;
-      peer : node_at l.self.nodes l.node.n ≡ node_at l.initial.self.nodes l.node.n;
-      free : free_of l.initial.self.nodes ≤ free_of l.self.nodes;
+      sound : IsSoundTo l.level l.self.nodes.all l.self.frames;
+      own : IsOwned l.self.nodes.all l.level l.copy.n;
+      moves : Moves l.level l.initial.self.nodes.all l.self.nodes.all l.initial.self.frames l.self.frames (is_root (l.copy.n + 1)) (is_root (l.copy.n + 1));
+      done : (k : ℕ) → k < l.i → entry_of l.self.nodes.all l.copy.n k ≡ entry_of l.initial.self.nodes.all l.node.n k;
+      rest : (k : ℕ) → l.i ≤ k → entry_of l.self.nodes.all l.copy.n k ≡ 0;
+      peer : node_at l.self.nodes.all l.node.n ≡ node_at l.initial.self.nodes.all l.node.n;
+      free : free_of l.initial.self.nodes.all ≤ free_of l.self.nodes.all;
       grows : (f : ℕ) → frame_count l.initial.self.frames f ≤ frame_count l.self.frames f;
-      lone : KeepsLone l.initial.self.nodes l.self.nodes (is_root (l.copy.n + 1)) none_shared;
-      cost : l.steps ≤ l.initial.steps + min l.i (entries_in l.level) * 1;
-      cost_leaf : l.level ≡ 1 → l.steps ≡ l.initial.steps;
+      lone : KeepsLone l.initial.self.nodes.all l.self.nodes.all (is_root (l.copy.n + 1)) none_shared;
+      cost : l.self.nodes.steps ≤ l.initial.self.nodes.steps + min l.i (entries_in l.level) * 1;
+      cost_leaf : l.level ≡ 1 → l.self.nodes.steps ≡ l.initial.self.nodes.steps;
     }

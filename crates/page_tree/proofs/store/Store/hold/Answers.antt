@@ -6,20 +6,20 @@ use Rattle.page_tree.proofs.RenodeLemmas.{IsSound-recount, Moves-recount, leadin
 use Rattle.page_tree.proofs.store.Store.hold.Goals as goal
 
 pub returns-clause-sound : goal.returns-clause-sound
-returns-clause-sound g c =
+returns-clause-sound c =
     rw c.hold.ensures.once_more
     (IsSound-recount _ _ _ c.requires.sound c.args.node.n _ c.requires.held (λ none. absurd (omega (arith, none))) (let l = c.requires.sound.led c.args.node.n in omega (arith, l)) (omega (arith, c.requires.level)))
 
 pub returns-clause-moves : goal.returns-clause-moves
-returns-clause-moves g c =
+returns-clause-moves c =
     rw c.hold.ensures.once_more
     (Moves-recount _ _ _ c.requires.sound c.args.node.n _ c.requires.held _ _ _ (omega (arith, c.requires.level)) (let h = is_root-here c.args.node.n in omega (arith, h)) (λ x off. sym (is_root-there c.args.node.n x off)))
 
 pub returns-clause-loose : goal.returns-clause-loose
-returns-clause-loose g c =
+returns-clause-loose c =
     rw c.hold.ensures.once_more
     (λ n is.
-    let old = c.args.self.now.nodes in
+    let old = c.args.self.now.nodes.all in
     let same : n ≡ c.args.node.n = omega (arith, is) in
     let more = count_of old c.args.node.n + 1 in
     let at = at-recount _ old _ c.requires.sound c.args.node.n more c.requires.held in

@@ -38,12 +38,12 @@ step-shared nodes level link n p width entry s more =
 
 pub returns-then-link-eq0-clause-entry : goal.returns-then-link-eq0-clause-entry
 returns-then-link-eq0-clause-entry c =
-    let nodes = c.args.self.now.nodes in
+    let nodes = c.args.self.now.nodes.all in
     sym (ap (λ l. entry_below nodes c.levels.level l c.levels.p) c.if-link-eq0.true ∙ entry-none nodes c.levels.level c.levels.p) ∙ c.levels.invariant.entry
 
 pub returns-then-link-eq0-clause-alone : goal.returns-then-link-eq0-clause-alone
 returns-then-link-eq0-clause-alone c =
-    let nodes = c.args.self.now.nodes in
+    let nodes = c.args.self.now.nodes.all in
     let some : 0 < c.levels.level = omega (arith, c.levels-test.true) in
     let all = short-whole c.levels.level nodes c.levels.link c.levels.p some (ap (link_short nodes) c.if-link-eq0.true ∙ link_short-none nodes) in (
       (λ is. absurd cc),
@@ -55,11 +55,11 @@ returns-then-link-eq0-clause-alone c =
 
 pub count-once-requires : goal.count-once-requires
 count-once-requires c =
-    inside-count c.args.self.now.nodes c.node_of-node.result.n (c.levels.invariant.held c.node_of-node.result.n (omega (arith, c.levels-test.true)) (sym c.node_of-node.ensures)).1
+    inside-count c.args.self.now.nodes.all c.node_of-node.result.n (c.levels.invariant.held c.node_of-node.result.n (omega (arith, c.levels-test.true)) (sym c.node_of-node.ensures)).1
 
 pub entry-link-requires-clause-node : goal.entry-link-requires-clause-node
 entry-link-requires-clause-node c =
-    inside-count c.args.self.now.nodes c.node_of-node.result.n (c.levels.invariant.held c.node_of-node.result.n (omega (arith, c.levels-test.true)) (sym c.node_of-node.ensures)).1
+    inside-count c.args.self.now.nodes.all c.node_of-node.result.n (c.levels.invariant.held c.node_of-node.result.n (omega (arith, c.levels-test.true)) (sym c.node_of-node.ensures)).1
 
 -- the way is alone so far, and the node is held once
 record IsJoined (alone : Bool) (count : ℕ) (joined : Bool) : Type 0 where
@@ -80,7 +80,7 @@ joined-else alone count joined off is = record {
 
 pub levels-preserved : goal.levels-preserved
 levels-preserved c =
-    let nodes = c.args.self.now.nodes in
+    let nodes = c.args.self.now.nodes.all in
     let n = c.node_of-node.result.n in
     let here = c.levels.invariant.held n (omega (arith, c.levels-test.true)) (sym c.node_of-node.ensures) in
     let at = c.entry-link.ensures in
@@ -111,13 +111,13 @@ pub returns-clause-entry : goal.returns-clause-entry
 unfolding entry_below
 returns-clause-entry c =
     let done : c.levels.level ≡ 0 = omega (arith, c.levels-test.false) in
-    sym (ap (λ l. entry_below c.args.self.now.nodes l c.levels.link c.levels.p) done) ∙ c.levels.invariant.entry
+    sym (ap (λ l. entry_below c.args.self.now.nodes.all l c.levels.link c.levels.p) done) ∙ c.levels.invariant.entry
 
 pub returns-clause-alone : goal.returns-clause-alone
 unfolding short_below
 returns-clause-alone c =
     let done : c.levels.level ≡ 0 = omega (arith, c.levels-test.false) in
-    let none : short_below c.args.self.now.nodes c.levels.level c.levels.link c.levels.p ≡ 0 = ap (λ l. short_below c.args.self.now.nodes l c.levels.link c.levels.p) done in (
+    let none : short_below c.args.self.now.nodes.all c.levels.level c.levels.link c.levels.p ≡ 0 = ap (λ l. short_below c.args.self.now.nodes.all l c.levels.link c.levels.p) done in (
       (λ is. sym (c.levels.invariant.alone is) ∙ none),
       (λ is. true_from_ne_false c.levels.alone (λ off. absurd (let more = c.levels.invariant.shared off in omega (arith, more, is)))),
     )

@@ -8,11 +8,11 @@ use Rattle.page_tree.proofs.store.Store.look_at.Given as goal
 abbrev pub invariant-levels : goal.invariant-levels
 invariant-levels l = record {
   high : l.level ≤ 3;
-  held : (n : ℕ) → 0 < l.level → l.link ≡ n + 1 → (level_of l.self.nodes n ≡ l.level) × (0 < count_of l.self.nodes n);
+  held : (n : ℕ) → 0 < l.level → l.link ≡ n + 1 → (level_of l.self.nodes.all n ≡ l.level) × (0 < count_of l.self.nodes.all n);
   within : l.p < 32 ^ l.level;
-  entry : entry_below l.self.nodes l.level l.link l.p ≡ entry_below l.self.nodes 3 l.root l.page;
-  alone : l.alone ≡ true → short_below l.self.nodes l.level l.link l.p ≡ short_below l.self.nodes 3 l.root l.page;
-  shared : l.alone ≡ false → 0 < short_below l.self.nodes 3 l.root l.page;
+  entry : entry_below l.self.nodes.all l.level l.link l.p ≡ entry_below l.self.nodes.all 3 l.root l.page;
+  alone : l.alone ≡ true → short_below l.self.nodes.all l.level l.link l.p ≡ short_below l.self.nodes.all 3 l.root l.page;
+  shared : l.alone ≡ false → 0 < short_below l.self.nodes.all 3 l.root l.page;
 }
 
 abbrev pub decreases-levels : goal.decreases-levels

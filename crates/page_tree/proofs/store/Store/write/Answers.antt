@@ -16,17 +16,17 @@ drop_cell-requires c = λ f is.
 pub returns-clause-sound : goal.returns-clause-sound
 returns-clause-sound c =
     let less = rw (c.cell_from-old.ensures.entry, c.entry.ensures) at c.drop_cell.ensures in
-    rw (c.set_entry.ensures, c.entry_from.ensures)
+    rw (c.set_entry.ensures.entered, c.entry_from.ensures)
     (IsSound-written _ _ _ _ c.requires.sound _ _ _ c.requires.own c.requires.place c.requires.held c.hold_cell.ensures less)
 
 pub returns-clause-own : goal.returns-clause-own
 returns-clause-own c =
     let less = rw (c.cell_from-old.ensures.entry, c.entry.ensures) at c.drop_cell.ensures in
-    rw (c.set_entry.ensures, c.entry_from.ensures)
+    rw (c.set_entry.ensures.entered, c.entry_from.ensures)
     (IsOwned-written _ _ _ _ c.requires.sound _ _ _ c.requires.own c.requires.place c.requires.held c.hold_cell.ensures less)
 
 pub returns-clause-moves : goal.returns-clause-moves
 returns-clause-moves c =
     let less = rw (c.cell_from-old.ensures.entry, c.entry.ensures) at c.drop_cell.ensures in
-    rw (c.set_entry.ensures, c.entry_from.ensures)
+    rw (c.set_entry.ensures.entered, c.entry_from.ensures)
     (Moves-written _ _ _ _ c.requires.sound _ _ _ c.requires.own c.requires.place c.requires.held c.hold_cell.ensures less)

@@ -8,24 +8,23 @@ use Rattle.cow_space.specs.Changes.{IsPageRun, changed_place, changed_rights, ch
 use Rattle.cow_space.specs.Seen as pages_seen
 use Rattle.cow_space.specs.declared.page_runs.PageRun.{PageRun}
 use Rattle.lazy_world.specs.Cells.{put_rights, rows_of}
-use Rattle.lazy_world.specs.Seen.{count, frame_count, rights, rows}
+use Rattle.lazy_world.specs.Seen.{frame_count, rights, rows}
 use Rattle.lazy_world.proofs.AbsentLemmas.{absent-right, rights-in}
 use Rattle.lazy_world.proofs.MapLemmas.{is_page_run, rights-row, row-set, states-row}
 use Rattle.lazy_world.proofs.PlaceLemmas.{rights-set}
-use Rattle.lazy_world.proofs.places.Places.set_pages_counted.Goals as goal
+use Rattle.lazy_world.proofs.places.Places.set_pages.Goals as goal
 
 pub change-requires-clause-place : goal.change-requires-clause-place
-unfolding count
-change-requires-clause-place g c = c.requires.place
+change-requires-clause-place c = c.requires.place
 
 pub change-requires-clause-page_runs : goal.change-requires-clause-page_runs
-change-requires-clause-page_runs g c =
+change-requires-clause-page_runs c =
     subst (λ (page_run : PageRun). All (IsPageRun (length (pages_seen.cells c.args.self.now.pages)) c.args.i) (page_run ∷ [])) (sym c.page_run_of-page_run.ensures)
     (is_page_run (length (pages_seen.cells c.args.self.now.pages)) c.args.i c.args.range.from c.args.range.to c.args.present c.requires.order c.requires.inside)
 
 pub change-requires-clause-ranges : goal.change-requires-clause-ranges
 unfolding rows rights
-change-requires-clause-ranges g c =
+change-requires-clause-ranges c =
     let w = c.args.self.now in
     let cells = pages_seen.cells w.pages in
     let olds = pages_seen.rights w.pages in
@@ -35,14 +34,14 @@ change-requires-clause-ranges g c =
     (states-row cells (slots_seen.slots w.slots) w.uids.items c.args.i c.args.range.from c.args.range.to c.args.present olds (absent-right w c.args.i)))) c.requires.few
 
 pub invariant_of-self : goal.invariant_of-self
-invariant_of-self g c =
+invariant_of-self c =
     let w = c.args.self.now in
     let same = ap length c.change.ensures.cells ∙ length-set (pages_seen.cells w.pages) c.args.i _ in
     record { kept = record { slot_count = w.kept.slot_count ∙ sym same; uid_count = w.kept.uid_count ∙ sym same; targets = w.kept.targets } }
 
 pub returns-clause-rows : goal.returns-clause-rows
-unfolding rows count
-returns-clause-rows g c =
+unfolding rows
+returns-clause-rows c =
     let w = c.args.self.now in
     ap (λ cells. rows_of cells (slots_seen.slots w.slots) w.uids.items)
     (c.change.ensures.cells
@@ -50,8 +49,8 @@ returns-clause-rows g c =
     ∙ row-set (pages_seen.cells w.pages) (slots_seen.slots w.slots) w.uids.items c.args.i c.args.range.from c.args.range.to c.args.present c.requires.place
 
 pub returns-clause-rights : goal.returns-clause-rights
-unfolding rows rights count
-returns-clause-rights g c =
+unfolding rows rights
+returns-clause-rights c =
     let w = c.args.self.now in
     let cells = pages_seen.cells w.pages in
     let olds = pages_seen.rights w.pages in
@@ -62,9 +61,8 @@ returns-clause-rights g c =
     ∙ rights-row cells (slots_seen.slots w.slots) w.uids.items c.args.i c.args.range.from c.args.range.to c.args.present olds (absent-right w c.args.i))
 
 pub returns-clause-count : goal.returns-clause-count
-unfolding count
-returns-clause-count g c = ap length c.change.ensures.cells ∙ length-set (pages_seen.cells c.args.self.now.pages) c.args.i _
+returns-clause-count c = ap length c.change.ensures.cells ∙ length-set (pages_seen.cells c.args.self.now.pages) c.args.i _
 
 pub returns-clause-frames : goal.returns-clause-frames
 unfolding frame_count
-returns-clause-frames g c = c.change.ensures.frames
+returns-clause-frames c = c.change.ensures.frames
