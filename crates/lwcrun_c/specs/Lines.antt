@@ -4,17 +4,9 @@ use Rattle.lwc_io.specs.Memory.{Named, bytes_of}
 use Rattle.lwcrun_core.specs.Calls.{CallEnded}
 use Rattle.lwcrun_core.specs.Statuses.{exit_number, message_of, status_of}
 use Rattle.lwcrun_core.specs.declared.status.ExitStatus.{ExitStatus}
-use Rattle.lwcrun_line.specs.Lines.{Command, Gen, Run, Serve, Stream, command_of}
+use Rattle.lwcrun_line.specs.Lines.{command_of}
 use Rattle.lwcrun_modes.specs.declared.ending.Rejection.{Rejection}
 use Rattle.lwcrun_modes.specs.Ends.{End, Outside}
-
--- the command runs threads
-abbrev pub RunsThreads : Command → Type 0
-RunsThreads (Run image settings) = Unit {0}
-RunsThreads (Serve image requests settings) = Unit {0}
-RunsThreads (Gen number) = Unit {0}
-RunsThreads (Stream image requests settings) = Unit {0}
-RunsThreads command = ⊥
 
 -- a call over these files, whose output took these bytes and nothing before them, ended so
 pub record EndedOver (words : List (List ℕ)) (files : List Named) (e : End Rejection) (output : List ℕ) : Type 0 where

@@ -20,7 +20,7 @@ ghost use Rattle.std.specs.Option.{option_map};
 ghost use Rattle.kernel_core.specs.Kernel.{machine_of, view_of};
 ghost use Rattle.lwc_base.specs.declared.page.TheConstants.{PAGE_BYTES};
 ghost use Rattle.lwcrun_c.specs.Border.{AreText, line_of, named};
-ghost use Rattle.lwcrun_c.specs.Lines.{IsAnswer, IsOutcome, RunsThreads};
+ghost use Rattle.lwcrun_c.specs.Lines.{IsAnswer, IsOutcome};
 ghost use Rattle.lwcrun_c.specs.Runs.{
   MayRefuse,
   Sees,
@@ -34,7 +34,7 @@ ghost use Rattle.lwcrun_c.specs.Runs.{
 };
 ghost use Rattle.lwcrun_core.specs.Statuses.{exit_number};
 ghost use Rattle.lwcrun_core.specs.declared.status.ExitStatus.{ExitStatus};
-ghost use Rattle.lwcrun_line.specs.Lines.{command_of};
+ghost use Rattle.lwcrun_line.specs.Lines.{RunsThreads, command_of};
 
 use crate::border::{Bytes, FileBytes, LineError, files_from, left_to_caller, words_from};
 use crate::lines::{Outcome, carry_out_line};

@@ -1,17 +1,15 @@
 //! A line that is carried out over files in memory.
 
-ghost use Rattle.std.specs.Prelude.{◌≡◌, ◌≢◌, [], Err, IfErr, IfNone, IfOk, IfSome, map, string_bytes};
-ghost use Rattle.lwcrun_c.specs.Lines.{IsOutcome, RunsThreads};
+ghost use Rattle.std.specs.Prelude.{◌≡◌, ◌≢◌, [], Err, IfErr, IfOk, IfSome, map, string_bytes};
+ghost use Rattle.lwcrun_c.specs.Lines.{IsOutcome};
 ghost use Rattle.lwcrun_core.specs.Statuses.{message_of, status_of};
-ghost use Rattle.lwcrun_line.specs.Lines.{IsWithinLimits, asked_by, command_of};
-ghost use Rattle.lwcrun_modes.specs.Ends.{Ended};
-ghost use Rattle.lwcrun_modes.specs.Views.{end_of, outside};
-ghost use Rattle.lwcrun_modes.specs.Works.{IsText, plan_of};
+ghost use Rattle.lwcrun_line.specs.Lines.{RunsThreads, command_of};
+ghost use Rattle.lwcrun_modes.specs.Views.{end_of};
 
 use crate::border::LineError;
-use lwc_io::{Files, MemoryFiles, MemorySink, NamedFile, Sink};
-use lwcrun_core::{Ending, ExitStatus, Line, LineFault, message_of, read_line, status_of};
-use lwcrun_modes::{asm, debug_run, dis, lift, monitor, replay, replay_with_vault};
+use lwc_io::{MemoryFiles, MemorySink, NamedFile};
+use lwcrun_core::{Ending, ExitStatus, LineFault, message_of, read_line, status_of};
+use lwcrun_modes::carry_out_without_threads;
 use std::alloc::Global;
 
 /// What came of a line: its exit status, what it wrote, and its message.
@@ -48,67 +46,9 @@ pub fn carry_out_line(
         Err(LineFault::OutOfMemory) => return Err(LineError::OutOfMemory),
         Err(LineFault::Usage) => return outcome_of(alloc, &out, &Ending::Usage),
     };
-    match carry_out(alloc, &line, &mut files, &mut out) {
+    match carry_out_without_threads(alloc, &line, &mut files, &mut out) {
         Some(ending) => outcome_of(alloc, &out, &ending),
         None => Err(LineError::NeedsThreads),
-    }
-}
-
-/// Does what a line asks for, unless it runs threads.
-fn carry_out<'a, F: Files, O: Sink>(
-    alloc: Global,
-    line: &'a Line,
-    files: &mut F,
-    out: &mut O,
-) -> Option<Ending<'a>>
-    requires limits { IsWithinLimits (asked_by line.now) }
-    ensures ended { IfSome result (λ ending. Ended IsText
-        (outside (F.seen files.old) (F.seen files.new) (O.seen out.old) (O.seen out.new))
-        (plan_of (asked_by line.entry.now)) (end_of ending)) }
-    ensures threads { IfNone result (RunsThreads (asked_by line.entry.now)) }
-{
-    match line {
-        Line::Replay {
-            image,
-            schedule,
-            requests: None,
-            settings,
-        } => Some(replay(alloc, files, out, image, schedule, None, settings)),
-        Line::Replay {
-            image,
-            schedule,
-            requests: Some(requests),
-            settings,
-        } => Some(replay(
-            alloc,
-            files,
-            out,
-            image,
-            schedule,
-            Some(requests.as_str()),
-            settings,
-        )),
-        Line::Asm { source } => Some(asm(alloc, files, out, source)),
-        Line::Dis { image } => Some(dis(alloc, files, out, image)),
-        Line::Lift { image } => Some(lift(alloc, files, out, image)),
-        Line::Monitor {
-            image,
-            schedule,
-            settings,
-        } => Some(monitor(alloc, files, out, image, schedule, settings)),
-        Line::Vault {
-            image,
-            vault,
-            schedule,
-            settings,
-        } => Some(replay_with_vault(alloc, files, out, image, vault, schedule, settings)),
-        Line::Debug {
-            image,
-            schedule,
-            script,
-            settings,
-        } => Some(debug_run(alloc, files, out, image, schedule, script, settings)),
-        Line::Run { .. } | Line::Serve { .. } | Line::Gen { .. } | Line::Stream { .. } => None,
     }
 }
 

@@ -17,10 +17,7 @@ use crate::messages::write_message;
 use crate::status::ExitStatus;
 use lwc_io::{Files, Gate, Sink};
 use lwcrun_line::{Line, LineFault, read_line};
-use lwcrun_modes::{
-    Ending, asm, debug_run, dis, lift, monitor, replay, replay_with_vault, run, serve,
-    serve_generated, stream,
-};
+use lwcrun_modes::{Ending, carry_out_without_threads, run, serve, serve_generated, stream};
 use std::alloc::Global;
 use std::sync::Wait;
 use std::thread::Threads;
@@ -166,57 +163,27 @@ fn carry_out<'a, R: Threads + Wait + Sync, F: Files, O: Sink, G: Gate>(
         (F.seen files.old).fetches (F.seen files.new).fetches }
 {
     match line {
-        Line::Replay {
-            image,
-            schedule,
-            requests: None,
-            settings,
-        } => replay(alloc, files, out, image, schedule, None, settings),
-        Line::Replay {
-            image,
-            schedule,
-            requests: Some(requests),
-            settings,
-        } => replay(
-            alloc,
-            files,
-            out,
-            image,
-            schedule,
-            Some(requests.as_str()),
-            settings,
-        ),
         Line::Run { image, settings } => run(rt, alloc, files, out, gate, image, settings),
         Line::Serve {
             image,
             requests,
             settings,
         } => serve(rt, alloc, files, out, gate, image, requests, settings),
-        Line::Asm { source } => asm(alloc, files, out, source),
-        Line::Dis { image } => dis(alloc, files, out, image),
         Line::Gen { number } => serve_generated(rt, alloc, out, gate, *number),
-        Line::Lift { image } => lift(alloc, files, out, image),
-        Line::Monitor {
-            image,
-            schedule,
-            settings,
-        } => monitor(alloc, files, out, image, schedule, settings),
-        Line::Vault {
-            image,
-            vault,
-            schedule,
-            settings,
-        } => replay_with_vault(alloc, files, out, image, vault, schedule, settings),
-        Line::Debug {
-            image,
-            schedule,
-            script,
-            settings,
-        } => debug_run(alloc, files, out, image, schedule, script, settings),
         Line::Stream {
             image,
             requests,
             settings,
         } => stream(rt, alloc, files, out, gate, image, requests, settings),
+        Line::Replay { .. }
+        | Line::Asm { .. }
+        | Line::Dis { .. }
+        | Line::Lift { .. }
+        | Line::Monitor { .. }
+        | Line::Vault { .. }
+        | Line::Debug { .. } => match carry_out_without_threads(alloc, line, files, out) {
+            Some(ending) => ending,
+            None => unreachable!(),
+        },
     }
 }

@@ -192,3 +192,11 @@ IsWithinLimits (Stream image requests settings) = AreServeSettings settings
 abbrev pub IsStream : Command → Type 0
 IsStream (Stream image requests settings) = Unit {0}
 IsStream command = ⊥
+
+-- the command runs threads
+abbrev pub RunsThreads : Command → Type 0
+RunsThreads (Run image settings) = Unit {0}
+RunsThreads (Serve image requests settings) = Unit {0}
+RunsThreads (Gen number) = Unit {0}
+RunsThreads (Stream image requests settings) = Unit {0}
+RunsThreads command = ⊥

@@ -2,6 +2,7 @@
 //! makes what is asked for, and writes it.
 #![tactic(auto)]
 
+mod carrying;
 mod debugging;
 mod ending;
 mod inputs;
@@ -14,11 +15,8 @@ mod streaming;
 mod vaulting;
 mod writing;
 
-pub use debugging::debug_run;
+pub use carrying::carry_out_without_threads;
 pub use ending::{Ending, Rejection};
-pub use monitoring::monitor;
 pub use replaying::replay;
 pub use running::{open_process, run, serve, serve_generated};
-pub use sources::{asm, dis, lift};
 pub use streaming::stream;
-pub use vaulting::replay_with_vault;
