@@ -51,11 +51,6 @@ abbrev pub AreRequestsOf : Job → List ℕ → List (List ℕ) → Type 0
 AreRequestsOf jobs.Run bytes requests = (bytes ≡ []) × (requests ≡ [])
 AreRequestsOf (jobs.Serve workers) bytes requests = requests_at bytes ≡ Ok requests
 
--- what a kernel is opened with, without a vault
-abbrev pub inputs_of : Image → List (List ℕ) → Settings → Inputs
-inputs_of image requests settings =
-    record { image = image; vault = None; requests = requests; settings = settings }
-
 -- a run is opened with this: the image and the requests that its bytes spell, and its settings
 pub record IsOpenedBy (run : Run) (inputs : Inputs) : Type 0 where
   pub image : image_at run.image.now ≡ Ok inputs.image

@@ -14,11 +14,11 @@ ghost use Rattle.lwcrun_c.specs.Runs.{
   IsAt,
   IsOpenedBy,
   MayRefuse,
-  inputs_of,
   job_for,
   run_error_number,
   settings_of,
 };
+ghost use Rattle.lwcrun_modes.specs.Works.{inputs_of};
 
 use guest_image::{Image, ImageFault, read_image};
 use kernel_core::{Job, Kernel, OpenFault, Settings};
