@@ -17,7 +17,8 @@ pub enum Range {
 /// schedule, the file of requests, the vault's file, the script, the source of the guest, the guest itself where it
 /// is not made from the source, where a guest that is made is cut off and what it gets in front and behind, how the
 /// outside behaves, what is gone through, whether what is written is not printed, and whether it is printed of the
-/// steps how many there are, by whom the first one is made, and how many each thread makes.
+/// steps how many there are, by whom the first one is made, how many each thread makes, and how often threads came to
+/// the gate.
 #[derive(Drop)]
 pub struct Case {
     pub title: String,
@@ -37,6 +38,7 @@ pub struct Case {
     pub shows_count: bool,
     pub shows_first: bool,
     pub shows_each: bool,
+    pub shows_turns: bool,
 }
 
 impl Case {
@@ -60,6 +62,7 @@ impl Case {
             shows_count: false,
             shows_first: false,
             shows_each: false,
+            shows_turns: false,
         })
     }
 
@@ -90,13 +93,14 @@ impl Case {
         Ok(())
     }
 
-    /// Takes what is to be printed of the steps.
+    /// Takes what is to be printed of the steps, or of the turns.
     fn show(&mut self, words: &str) {
         for word in words.split(' ') {
             match word {
                 "count" => self.shows_count = true,
                 "first" => self.shows_first = true,
                 "each" => self.shows_each = true,
+                "turns" => self.shows_turns = true,
                 _ => {}
             }
         }

@@ -10,8 +10,8 @@
 //! empty requests there are; `fetch` and `write` the number of the one that fails; `most` how many bytes a write takes
 //! at most; `hold` the thread that is held at its first turn, and the one that has to come for its second before, or
 //! `line` for a line of the output; `each` what is gone through, `cut`, `write` or `fetch`; `show` what is printed of
-//! the steps, `count`, `first` or `each`; `quiet` that what is written is not printed. Every other line is one of the
-//! guest's source. The first file of a run or a serve is `guest`.
+//! the steps, `count`, `first` or `each`, or `turns`, how often threads came to the gate; `quiet` that what is written
+//! is not printed. Every other line is one of the guest's source. The first file of a run or a serve is `guest`.
 //!
 //! The output has each title; where a case has several lines, the words of each behind `> `; what was written, bytes
 //! with a zero in hexadecimal digits; the message; the status if it is not 0; and a sentence for each difference.
@@ -146,7 +146,8 @@ fn answer<R: AllocGlobal + Threads + Wait + Sync>(
         let is_by_threads = is_by_threads(words, left.out.bytes());
         append_shown(alloc, &mut lines, left.out.bytes(), is_by_threads)?;
     }
-    append_steps(alloc, &mut lines, case, left.out.bytes())?;
+    let turns = left.visits.total();
+    append_steps(alloc, &mut lines, case, left.out.bytes(), turns)?;
     if left.has_run_out {
         lines.push(String::from_str(alloc, "the looks ran out")?)?;
     }

@@ -70,6 +70,15 @@ impl Visits {
         }
     }
 
+    /// How often threads came.
+    pub fn total(&self) -> u64 {
+        let mut total = 0_u64;
+        for count in &self.counts {
+            total = total.saturating_add(count.load(Ordering::SeqCst));
+        }
+        total
+    }
+
     /// Whether each thread came before its turns in their order.
     pub fn are_in_order(&self) -> bool {
         !self.left_order.load(Ordering::SeqCst)

@@ -57,12 +57,13 @@ fn digits_of(alloc: Global, bytes: &[u8]) -> Result<String, AllocError> {
 }
 
 /// Appends what a case shows of the steps that a report lists: how many there are, the first digit, and how many
-/// digits each thread has.
+/// digits each thread has; and at how many turns threads came to the gate.
 pub fn append_steps(
     alloc: Global,
     lines: &mut Vec<String>,
     case: &Case,
     report: &[u8],
+    turns: u64,
 ) -> Result<(), AllocError> {
     let digits = last_word(report).trim_ascii();
     if case.shows_count {
@@ -79,6 +80,9 @@ pub fn append_steps(
             line.push_str(format!(in alloc; " {count}")?.as_str())?;
         }
         lines.push(line)?;
+    }
+    if case.shows_turns {
+        lines.push(format!(in alloc; "turns {turns}")?)?;
     }
     Ok(())
 }
