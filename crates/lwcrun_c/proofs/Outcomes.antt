@@ -6,14 +6,14 @@ use Rattle.lwcrun_c.specs.Lines.{IsOutcome}
 use Rattle.lwcrun_c.specs.declared.border.LineError.{LineError}
 use Rattle.lwcrun_c.specs.declared.lines.Outcome.{Outcome}
 use Rattle.lwcrun_core.specs.Calls.{CallEnded}
-use Rattle.lwcrun_core.specs.Statuses.{message_of, status_of}
-use Rattle.lwcrun_core.specs.declared.status.ExitStatus.{ExitStatus}
+use Rattle.lwcrun_inputs.specs.Statuses.{message_of, status_of}
+use Rattle.lwcrun_inputs.specs.declared.status.ExitStatus.{ExitStatus}
 use Rattle.lwcrun_line.specs.Lines.{Command, command_of}
-use Rattle.lwcrun_modes.specs.declared.ending.Rejection.{Rejection}
-use Rattle.lwcrun_modes.specs.Ends.{End, Ended}
-use Rattle.lwcrun_modes.specs.Ends as ends
-use Rattle.lwcrun_modes.specs.Views.{outside}
-use Rattle.lwcrun_modes.specs.Works.{IsText, plan_of}
+use Rattle.lwcrun_inputs.specs.declared.ending.Rejection.{Rejection}
+use Rattle.lwcrun_inputs.specs.Ends.{End, Ended}
+use Rattle.lwcrun_inputs.specs.Ends as ends
+use Rattle.lwcrun_inputs.specs.Views.{outside}
+use Rattle.lwcrun_core.specs.Works.{IsText, plan_of}
 
 -- a line that was carried out
 of_command : (words : List (List ℕ)) (files : List Named) (command : Command) (before after : FilesView) (out out_after : SinkView) (e : End Rejection) (status : ExitStatus) (output text : List ℕ) → command_of words ≡ Some command → before.contents ≡ bytes_of files → out.taken ≡ Some [] → out_after.taken ≡ Some output → Ended IsText (outside before after out out_after) (plan_of command) e → status ≡ status_of e → text ≡ message_of e → IsOutcome words files status output text

@@ -2,11 +2,11 @@
 use Rattle.std.specs.Prelude.{◌≡◌, ℕ, List, [], Some}
 use Rattle.lwc_io.specs.Memory.{Named, bytes_of}
 use Rattle.lwcrun_core.specs.Calls.{CallEnded}
-use Rattle.lwcrun_core.specs.Statuses.{exit_number, message_of, status_of}
-use Rattle.lwcrun_core.specs.declared.status.ExitStatus.{ExitStatus}
+use Rattle.lwcrun_inputs.specs.Statuses.{exit_number, message_of, status_of}
+use Rattle.lwcrun_inputs.specs.declared.status.ExitStatus.{ExitStatus}
 use Rattle.lwcrun_line.specs.Lines.{command_of}
-use Rattle.lwcrun_modes.specs.declared.ending.Rejection.{Rejection}
-use Rattle.lwcrun_modes.specs.Ends.{End, Outside}
+use Rattle.lwcrun_inputs.specs.declared.ending.Rejection.{Rejection}
+use Rattle.lwcrun_inputs.specs.Ends.{End, Outside}
 
 -- a call over these files, whose output took these bytes and nothing before them, ended so
 pub record EndedOver (words : List (List ℕ)) (files : List Named) (e : End Rejection) (output : List ℕ) : Type 0 where

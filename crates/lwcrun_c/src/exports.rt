@@ -32,8 +32,8 @@ ghost use Rattle.lwcrun_c.specs.Runs.{
   totals_of,
   world_of,
 };
-ghost use Rattle.lwcrun_core.specs.Statuses.{exit_number};
-ghost use Rattle.lwcrun_core.specs.declared.status.ExitStatus.{ExitStatus};
+ghost use Rattle.lwcrun_inputs.specs.Statuses.{exit_number};
+ghost use Rattle.lwcrun_inputs.specs.declared.status.ExitStatus.{ExitStatus};
 ghost use Rattle.lwcrun_line.specs.Lines.{RunsThreads, command_of};
 
 use crate::border::{Bytes, FileBytes, LineError, files_from, left_to_caller, words_from};

@@ -2,14 +2,15 @@
 
 ghost use Rattle.std.specs.Prelude.{◌≡◌, ◌≢◌, [], Err, IfErr, IfOk, IfSome, map, string_bytes};
 ghost use Rattle.lwcrun_c.specs.Lines.{IsOutcome};
-ghost use Rattle.lwcrun_core.specs.Statuses.{message_of, status_of};
+ghost use Rattle.lwcrun_inputs.specs.Statuses.{message_of, status_of};
 ghost use Rattle.lwcrun_line.specs.Lines.{RunsThreads, command_of};
-ghost use Rattle.lwcrun_modes.specs.Views.{end_of};
+ghost use Rattle.lwcrun_inputs.specs.Views.{end_of};
 
 use crate::border::LineError;
 use lwc_io::{MemoryFiles, MemorySink, NamedFile};
-use lwcrun_core::{Ending, ExitStatus, LineFault, message_of, read_line, status_of};
-use lwcrun_modes::carry_out_without_threads;
+use lwcrun_core::{
+    Ending, ExitStatus, LineFault, carry_out_without_threads, message_of, read_line, status_of,
+};
 use std::alloc::Global;
 
 /// What came of a line: its exit status, what it wrote, and its message.

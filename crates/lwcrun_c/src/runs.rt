@@ -18,7 +18,7 @@ ghost use Rattle.lwcrun_c.specs.Runs.{
   run_error_number,
   settings_of,
 };
-ghost use Rattle.lwcrun_modes.specs.Works.{inputs_of};
+ghost use Rattle.lwcrun_core.specs.Works.{inputs_of};
 
 use guest_image::{Image, ImageFault, read_image};
 use kernel_core::{Job, Kernel, OpenFault, Settings};

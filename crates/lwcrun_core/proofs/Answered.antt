@@ -1,19 +1,19 @@
 -- How a call's answer follows from how it ended.
 use Rattle.std.proofs.Common.{◌≡◌, ◌⊎◌, inl, inr, Option, None, Some, refl, sym, subst}
 use Rattle.lwc_io.specs.Outside.{FilesView}
-use Rattle.lwcrun_modes.specs.declared.ending.Rejection.{Rejection}
+use Rattle.lwcrun_inputs.specs.declared.ending.Rejection.{Rejection}
 use Rattle.lwcrun_line.specs.declared.line.LineFault.{LineFault}
 use Rattle.lwcrun_line.specs.declared.line.LineFault.TheVariants as line_faults
 use Rattle.lwcrun_core.specs.Calls.{CallEnded, CommandEnded, FetchesPlan}
-use Rattle.lwcrun_modes.specs.Ends.{End, Outside, Ended, IsUnwritten}
-use Rattle.lwcrun_modes.specs.Ends as ends
-use Rattle.lwcrun_modes.specs.Works.{IsText, plan_of}
+use Rattle.lwcrun_inputs.specs.Ends.{End, Outside, Ended, IsUnwritten}
+use Rattle.lwcrun_inputs.specs.Ends as ends
+use Rattle.lwcrun_core.specs.Works.{IsText, plan_of}
 use Rattle.lwcrun_line.specs.Lines.{Command}
-use Rattle.lwcrun_modes.specs.Plans.{AreFetchesOf}
-use Rattle.lwcrun_modes.specs.Reading.{Fetched}
-use Rattle.lwcrun_core.specs.Statuses.{MayBeAnsweredAs}
-use Rattle.lwcrun_modes.proofs.Fetches.{nothing_fetched}
-use Rattle.lwcrun_modes.proofs.Follows.{no_fetches}
+use Rattle.lwcrun_inputs.specs.Plans.{AreFetchesOf}
+use Rattle.lwcrun_inputs.specs.Reading.{Fetched}
+use Rattle.lwcrun_inputs.specs.Statuses.{MayBeAnsweredAs}
+use Rattle.lwcrun_inputs.proofs.Fetches.{nothing_fetched}
+use Rattle.lwcrun_inputs.proofs.Follows.{no_fetches}
 
 -- an end of a plan that becomes out of memory for its line is one by which nothing was written
 pub ended_as : (o : Outside) (command : Command) (e f : End Rejection) → MayBeAnsweredAs e f → Ended IsText o (plan_of command) e → Ended IsText o (plan_of command) f

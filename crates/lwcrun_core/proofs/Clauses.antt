@@ -61,24 +61,26 @@ use Rattle.lwc_text.specs.Requests.{IsRequestFile, requests_at}
 use Rattle.lwc_text.specs.Schedules.{IsSchedule, schedule_at}
 use Rattle.lwc_text.specs.VaultFiles.{IsVaultFile, vault_at}
 use Rattle.lwc_text.specs.declared.vault.TheConstants.{MOST_VAULT_BYTES}
-use Rattle.lwcrun_modes.specs.declared.ending.Rejection.{Rejection}
-use Rattle.lwcrun_modes.specs.declared.ending.Rejection.TheVariants as rejections
-use Rattle.lwcrun_core.specs.declared.status.ExitStatus.{ExitStatus}
-use Rattle.lwcrun_core.specs.declared.status.ExitStatus.TheVariants as statuses
+use Rattle.lwcrun_inputs.specs.declared.ending.Rejection.{Rejection}
+use Rattle.lwcrun_inputs.specs.declared.ending.Rejection.TheVariants as rejections
+use Rattle.lwcrun_inputs.specs.declared.status.ExitStatus.{ExitStatus}
+use Rattle.lwcrun_inputs.specs.declared.status.ExitStatus.TheVariants as statuses
 use Rattle.lwcrun_core.specs.Calls.{AreContents, CallEnded, CommandEnded, FetchesNamed, FetchesPlan, FileFailed, IsNameIn, IsOrNoMemory, IsRejected, IsUndisturbed, Names, NoFault, WroteOnlyReplies, status_by}
 use Rattle.lwcrun_core.specs.Headlines.{AreRequestsIn, Headline, IsFitting, IsListed, IsRunnable, IsServe, IsVaultReplay, WroteServe}
-use Rattle.lwcrun_modes.specs.Ends.{End, Outside, Ended, IsUnwritten, NothingFailed, WriteFailed}
-use Rattle.lwcrun_modes.specs.Ends as ends
+use Rattle.lwcrun_inputs.specs.Ends.{End, Outside, Ended, IsUnwritten, NothingFailed, WriteFailed}
+use Rattle.lwcrun_inputs.specs.Ends as ends
 use Rattle.lwc_text.specs.Report.{report_of_schedule, stream_text}
-use Rattle.lwcrun_modes.specs.Works.{IsText, Work, after_replay_image, after_monitor_image, after_replay_schedule, after_server, after_debug_schedule, after_debug_image, after_vault, after_vault_image, asm_plan, debug_plan, dis_plan, gen_plan, inputs_of, lift_plan, monitor_plan, plan_of, read_by, replay_plan, run_plan, serve_plan, stream_plan, vault_plan}
-use Rattle.lwcrun_modes.specs.Works as works
-use Rattle.lwcrun_modes.specs.Inputs.{bounded, bounded_requests_of, fitted, fitted_beside, fitting_image_of, fitting_vault_for, image_of, or_rejected, requests_of, schedule_of, script_of, serve_steps, source_of, then_tested, vault_for, worker_count}
+use Rattle.lwcrun_core.specs.Works.{IsText, Work, after_replay_image, after_monitor_image, after_replay_schedule, after_server, after_debug_schedule, after_debug_image, after_vault, after_vault_image, asm_plan, debug_plan, dis_plan, gen_plan, inputs_of, lift_plan, monitor_plan, plan_of, read_by, replay_plan, run_plan, serve_plan, stream_plan, vault_plan}
+use Rattle.lwcrun_core.specs.Works as works
+use Rattle.lwcrun_inputs.specs.Inputs.{bounded, bounded_requests_of, fitted, fitting_image_of, image_of, or_rejected, requests_of, schedule_of, serve_steps, source_of, then_tested, worker_count}
+use Rattle.lwcrun_core.specs.Beside.{fitted_beside, fitting_vault_for, script_of, vault_for}
 use Rattle.lwcrun_line.specs.Lines.{AreReplaySettings, AreRunSettings, AreServeSettings, Command, IsWithinLimits}
 use Rattle.lwcrun_line.specs.Lines as commands
-use Rattle.lwcrun_modes.specs.Plans.{Plan, AreFetchesOf, FileContents, LeadsTo, Reads, accepted, outcome}
-use Rattle.lwcrun_modes.specs.Plans as plans
-use Rattle.lwcrun_core.specs.Statuses.{exit_number, status_of, status_of_rejection}
-use Rattle.lwcrun_modes.proofs.Readers.{beside_found, bounded_found, fits_beside, fitted_found, image_fits, image_read, requests_bounded, requests_read, schedule_read, script_read, source_read, tested, vault_read}
+use Rattle.lwcrun_inputs.specs.Plans.{Plan, AreFetchesOf, FileContents, LeadsTo, Reads, accepted, outcome}
+use Rattle.lwcrun_inputs.specs.Plans as plans
+use Rattle.lwcrun_inputs.specs.Statuses.{exit_number, status_of, status_of_rejection}
+use Rattle.lwcrun_inputs.proofs.Readers.{bounded_found, fitted_found, image_fits, image_read, requests_bounded, requests_read, schedule_read, source_read, tested}
+use Rattle.lwcrun_core.proofs.ReadersBeside.{beside_found, fits_beside, script_read, vault_read}
 use Rattle.lwcrun_core.proofs.Promises.{AreKnown, IsUnhindered, end_by, known_bytes, leads_known, settled}
 
 -- what follows the last input of each command

@@ -1,3 +1,5 @@
 mod Answered
 mod Clauses
 mod Promises
+mod ReadersBeside
+mod Streams

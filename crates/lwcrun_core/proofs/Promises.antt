@@ -1,10 +1,10 @@
 -- What users are promised of a call's ending.
 use Rattle.std.proofs.Common.{◌≡◌, ◌⊎◌, inl, inr, ℕ, List, Option, Some, Result, Ok, Err, IfSome, refl, sym, subst, ap, ◌∙◌}
 use Rattle.lwc_io.specs.Outside.{MayBeContents}
-use Rattle.lwcrun_modes.specs.Ends.{End, Outside, Ended, FetchFailed, WriteFailed}
-use Rattle.lwcrun_modes.specs.Ends as ends
-use Rattle.lwcrun_modes.specs.Plans.{Plan, FileContents, LeadsTo, Reads, outcome}
-use Rattle.lwcrun_modes.specs.Plans as plans
+use Rattle.lwcrun_inputs.specs.Ends.{End, Outside, Ended, FetchFailed, WriteFailed}
+use Rattle.lwcrun_inputs.specs.Ends as ends
+use Rattle.lwcrun_inputs.specs.Plans.{Plan, FileContents, LeadsTo, Reads, outcome}
+use Rattle.lwcrun_inputs.specs.Plans as plans
 
 -- the files that the plan reads have these contents
 abbrev pub AreKnown : {R W : Type 0} → FileContents → Plan R W → (List ℕ → List ℕ) → Type 0

@@ -1,18 +1,18 @@
 -- What a call of the program promises.
 use Rattle.std.specs.Prelude.{◌≡◌, ◌⊎◌, ℕ, List, Option, None, Some, Result, Ok, Err, All}
 use Rattle.lwc_io.specs.Outside.{FilesView, SinkView}
-use Rattle.lwcrun_modes.specs.declared.ending.Rejection.{Rejection}
-use Rattle.lwcrun_core.specs.declared.status.ExitStatus.{ExitStatus}
-use Rattle.lwcrun_core.specs.declared.status.ExitStatus.TheVariants as statuses
-use Rattle.lwcrun_modes.specs.Ends.{End, Outside, Ended, FetchFailed, IsUnwritten, WriteFailed}
-use Rattle.lwcrun_modes.specs.Ends as ends
-use Rattle.lwcrun_modes.specs.Works.{IsText, Work, plan_of}
+use Rattle.lwcrun_inputs.specs.declared.ending.Rejection.{Rejection}
+use Rattle.lwcrun_inputs.specs.declared.status.ExitStatus.{ExitStatus}
+use Rattle.lwcrun_inputs.specs.declared.status.ExitStatus.TheVariants as statuses
+use Rattle.lwcrun_inputs.specs.Ends.{End, Outside, Ended, FetchFailed, IsUnwritten, WriteFailed}
+use Rattle.lwcrun_inputs.specs.Ends as ends
+use Rattle.lwcrun_core.specs.Works.{IsText, Work, plan_of}
 use Rattle.lwcrun_line.specs.Lines.{Command, IsStream}
 use Rattle.lwcrun_line.specs.Lines as commands
-use Rattle.lwcrun_modes.specs.Plans.{AreFetchesOf, FileContents, outcome}
-use Rattle.lwcrun_modes.specs.Reading.{Fetched}
-use Rattle.lwcrun_modes.specs.StreamEnds.{WroteReplies}
-use Rattle.lwcrun_core.specs.Statuses.{IsAnswered, status_of_rejection}
+use Rattle.lwcrun_inputs.specs.Plans.{AreFetchesOf, FileContents, outcome}
+use Rattle.lwcrun_inputs.specs.Reading.{Fetched}
+use Rattle.lwcrun_core.specs.StreamEnds.{WroteReplies}
+use Rattle.lwcrun_inputs.specs.Statuses.{IsAnswered, status_of_rejection}
 
 -- what holds at each end of a command: what holds at that end of its plan; or a stream's memory ran out behind the
 -- replies

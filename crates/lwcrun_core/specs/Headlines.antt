@@ -32,9 +32,9 @@ use Rattle.lwc_vault.specs.Secrets.{KeepsSecret, beside}
 use Rattle.lwcrun_core.specs.Serving.{EachHasReply, HasEnough, NoneIsShort, RepliesAreAlone, summary_alone}
 use Rattle.lwcrun_line.specs.Lines.{Command}
 use Rattle.lwcrun_line.specs.Lines as commands
-use Rattle.lwcrun_modes.specs.Ends.{Outside}
-use Rattle.lwcrun_modes.specs.Inputs.{serve_steps}
-use Rattle.lwcrun_modes.specs.Works.{inputs_of}
+use Rattle.lwcrun_inputs.specs.Ends.{Outside}
+use Rattle.lwcrun_inputs.specs.Inputs.{serve_steps}
+use Rattle.lwcrun_core.specs.Works.{inputs_of}
 use Rattle.request_isolation.specs.Restored.{IsRestored}
 
 -- the bytes are an image, whose pages fit the frames

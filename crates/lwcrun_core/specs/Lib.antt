@@ -1,6 +1,8 @@
 pub use Rattle.lwc_io.specs.Outside
-pub mod Headlines
+pub mod Beside
 pub mod Calls
+pub mod Headlines
 pub mod InMemory
 pub mod Serving
-pub mod Statuses
+pub mod StreamEnds
+pub mod Works

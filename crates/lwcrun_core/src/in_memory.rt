@@ -3,13 +3,13 @@ ghost use Rattle.lwcrun_core.specs.Calls.{Answers, FetchesPlan, IsOrNoMemory, st
 ghost use Rattle.lwcrun_core.specs.Headlines.{IsRunnable};
 ghost use Rattle.lwcrun_core.specs.InMemory.{contents, files_view, unseen};
 ghost use Rattle.lwcrun_line.specs.Lines.{Command, command_of};
-ghost use Rattle.lwcrun_modes.specs.Plans.{outcome};
-ghost use Rattle.lwcrun_modes.specs.Views.{outside};
-ghost use Rattle.lwcrun_modes.specs.Works.{plan_of};
+ghost use Rattle.lwcrun_inputs.specs.Plans.{outcome};
+ghost use Rattle.lwcrun_inputs.specs.Views.{outside};
+ghost use Rattle.lwcrun_core.specs.Works.{plan_of};
 
 use crate::call::lwcrun;
-use crate::status::ExitStatus;
 use lwc_io::{Gate, Sink, SureFiles, SureSink};
+use lwcrun_inputs::ExitStatus;
 use std::alloc::Global;
 use std::sync::Wait;
 use std::thread::Threads;

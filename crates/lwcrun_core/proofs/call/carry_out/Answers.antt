@@ -1,12 +1,12 @@
 use Rattle.std.proofs.Common.{◌⊎◌, inl, inr, sym}
-use Rattle.lwcrun_modes.specs.Ends.{End, Outside}
-use Rattle.lwcrun_modes.specs.StreamEnds.{StreamEnded}
-use Rattle.lwcrun_modes.specs.Works.{plan_of}
-use Rattle.lwcrun_modes.specs.declared.ending.Rejection.{Rejection}
+use Rattle.lwcrun_inputs.specs.Ends.{End, Outside}
+use Rattle.lwcrun_core.specs.StreamEnds.{StreamEnded}
+use Rattle.lwcrun_core.specs.Works.{plan_of}
+use Rattle.lwcrun_inputs.specs.declared.ending.Rejection.{Rejection}
 use Rattle.lwcrun_line.specs.Lines as commands
 use Rattle.lwcrun_line.specs.Lines.{Command, IsStream}
-use Rattle.lwcrun_modes.proofs.Fetches.{nothing_fetched}
-use Rattle.lwcrun_modes.proofs.Follows.{no_fetches}
+use Rattle.lwcrun_inputs.proofs.Fetches.{nothing_fetched}
+use Rattle.lwcrun_inputs.proofs.Follows.{no_fetches}
 use Rattle.lwcrun_core.specs.Calls.{CommandEnded}
 use Rattle.lwcrun_core.proofs.call.carry_out.Goals as goal
 

@@ -1,0 +1,22 @@
+use Rattle.std.proofs.Common.{refl}
+use Rattle.lwcrun_core.specs.Works.{IsText, after_debug_image}
+use Rattle.lwcrun_inputs.proofs.Follows.{fetches_on, fetches_stop, reads_on, stops_reading}
+use Rattle.lwcrun_core.proofs.debugging.debug_image.Goals as goal
+
+pub returns-in-Ok-clause-ended : goal.returns-in-Ok-clause-ended
+unfolding after_debug_image
+returns-in-Ok-clause-ended g c =
+    reads_on IsText _ _ _ _ _ _ _ _ _ _ _ (rw c.thread_count-threads.ensures at c.in-Ok.ensures.reads) c.schedule_in.ensures.same c.debug_schedule.ensures.ended
+
+pub returns-in-Ok-clause-fetches : goal.returns-in-Ok-clause-fetches
+unfolding after_debug_image
+returns-in-Ok-clause-fetches g c =
+    fetches_on IsText _ _ _ _ _ _ _ _ (rw c.thread_count-threads.ensures at c.in-Ok.ensures.reads) c.schedule_in.ensures.same c.in-Ok.ensures.whole c.debug_schedule.ensures.fetches
+
+pub returns-in-Err-clause-ended : goal.returns-in-Err-clause-ended
+unfolding after_debug_image
+returns-in-Err-clause-ended g c = stops_reading IsText _ _ _ _ _ _ (rw c.thread_count-threads.ensures at c.in-Err.ensures.reads) refl
+
+pub returns-in-Err-clause-fetches : goal.returns-in-Err-clause-fetches
+unfolding after_debug_image
+returns-in-Err-clause-fetches g c = fetches_stop _ _ _ _ _ _ c.schedule_in.ensures.fetches

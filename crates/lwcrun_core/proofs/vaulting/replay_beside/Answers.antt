@@ -1,0 +1,26 @@
+use Rattle.std.proofs.Common.{refl, []}
+use Rattle.lwcrun_core.specs.Works.{IsText, after_vault, inputs_of}
+use Rattle.lwcrun_core.specs.Works as works
+use Rattle.lwc_vault.specs.Secrets.{beside}
+use Rattle.lwcrun_inputs.proofs.Fetches.{nothing_fetched}
+use Rattle.lwcrun_inputs.proofs.Follows.{fetches_on, fetches_stop, reads_on, stops_reading}
+use Rattle.lwcrun_core.proofs.vaulting.replay_beside.Goals as goal
+
+pub returns-in-Ok-clause-ended : goal.returns-in-Ok-clause-ended
+unfolding after_vault
+returns-in-Ok-clause-ended g c =
+    reads_on IsText _ _ _ _ _ _ _ _ _ _ _ (rw c.thread_count.ensures at c.in-Ok.ensures.reads) c.schedule_in.ensures.same
+    (c.write_work.ensures (works.Replaying (beside (inputs_of c.args.image.now [] c.args.settings.now) c.args.vault.now) _) _ c.vault_text.ensures)
+
+pub returns-in-Ok-clause-fetches : goal.returns-in-Ok-clause-fetches
+unfolding after_vault
+returns-in-Ok-clause-fetches g c =
+    fetches_on IsText _ _ _ _ _ _ _ _ (rw c.thread_count.ensures at c.in-Ok.ensures.reads) c.schedule_in.ensures.same c.in-Ok.ensures.whole (nothing_fetched _ refl)
+
+pub returns-in-Err-clause-ended : goal.returns-in-Err-clause-ended
+unfolding after_vault
+returns-in-Err-clause-ended g c = stops_reading IsText _ _ _ _ _ _ (rw c.thread_count.ensures at c.in-Err.ensures.reads) refl
+
+pub returns-in-Err-clause-fetches : goal.returns-in-Err-clause-fetches
+unfolding after_vault
+returns-in-Err-clause-fetches g c = fetches_stop _ _ _ _ _ _ c.schedule_in.ensures.fetches

@@ -1,0 +1,3 @@
+pub mod Fetches
+pub mod Follows
+pub mod Readers

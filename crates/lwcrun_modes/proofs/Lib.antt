@@ -1,4 +1,0 @@
-pub mod Fetches
-pub mod Follows
-pub mod Readers
-mod Streams

@@ -1,9 +1,0 @@
-pub use Rattle.lwc_io.specs.Outside
-pub mod Ends
-pub mod Inputs
-pub mod Parts
-pub mod Plans
-pub mod Reading
-pub mod StreamEnds
-pub mod Views
-pub mod Works
