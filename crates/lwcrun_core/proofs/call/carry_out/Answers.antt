@@ -1,4 +1,4 @@
-use Rattle.std.proofs.Common.{◌⊎◌, inl, inr, sym}
+use Rattle.std.proofs.Common.{inl, inr, sym}
 use Rattle.lwcrun_inputs.specs.Ends.{End, Outside}
 use Rattle.lwcrun_core.specs.StreamEnds.{StreamEnded}
 use Rattle.lwcrun_core.specs.Works.{plan_of}
@@ -14,7 +14,7 @@ pub returns-in-Gen-clause-fetches : goal.returns-in-Gen-clause-fetches
 returns-in-Gen-clause-fetches g c = nothing_fetched _ (no_fetches _ _)
 
 pub returns-in-Run-clause-ended : goal.returns-in-Run-clause-ended
-returns-in-Run-clause-ended g c = rw c.in-Run.is (rw (sym c.deref-in-Run.ensures) (inl c.run.ensures.ended))
+returns-in-Run-clause-ended g c = rw c.in-Run.is (rw (sym c.deref.ensures) (inl c.run.ensures.ended))
 
 pub returns-in-Serve-clause-ended : goal.returns-in-Serve-clause-ended
 returns-in-Serve-clause-ended g c =

@@ -1,7 +1,5 @@
 use Rattle.std.proofs.Common.{refl}
-use Rattle.lwc_base.specs.declared.limits.TheConstants.{MOST_IMAGE_BYTES}
-use Rattle.lwcrun_core.specs.Works as works
-use Rattle.lwcrun_core.specs.Works.{IsText, after_server, serve_plan}
+use Rattle.lwcrun_core.specs.Works.{IsText, serve_plan}
 use Rattle.lwcrun_inputs.proofs.Follows.{fetches_on, fetches_stop, reads_on, stops_reading}
 use Rattle.lwcrun_core.proofs.running.serve.Goals as goal
 

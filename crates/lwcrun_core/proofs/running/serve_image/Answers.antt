@@ -1,7 +1,5 @@
-use Rattle.std.proofs.Common.{◌≡◌, ℕ, List, refl, ap, arith}
-use Rattle.lwc_base.specs.declared.limits.TheConstants.{MOST_REQUEST_FILE_BYTES}
+use Rattle.std.proofs.Common.{◌≡◌, refl, ap, arith}
 use Rattle.lwcrun_core.specs.Works.{IsText, after_server, inputs_of}
-use Rattle.lwcrun_core.specs.Works as works
 use Rattle.lwcrun_inputs.specs.Inputs.{worker_count}
 use Rattle.kernel_core.proofs.Others.{work_at_serve}
 use Rattle.lwcrun_inputs.proofs.Fetches.{nothing_fetched}

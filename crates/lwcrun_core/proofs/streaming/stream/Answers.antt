@@ -1,7 +1,5 @@
 use Rattle.std.proofs.Common.{inl, refl}
-use Rattle.lwc_base.specs.declared.limits.TheConstants.{MOST_IMAGE_BYTES}
-use Rattle.lwcrun_core.specs.Works as works
-use Rattle.lwcrun_core.specs.Works.{IsText, after_server, stream_plan}
+use Rattle.lwcrun_core.specs.Works.{IsText, stream_plan}
 use Rattle.lwcrun_inputs.proofs.Follows.{fetches_on, fetches_stop, stops_reading}
 use Rattle.lwcrun_core.proofs.Streams.{streams_on}
 use Rattle.lwcrun_core.proofs.streaming.stream.Goals as goal

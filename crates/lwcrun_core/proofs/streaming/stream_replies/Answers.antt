@@ -1,4 +1,4 @@
-use Rattle.std.proofs.Common.{◌∙◌, subst, map}
+use Rattle.std.proofs.Common.{subst, map}
 use Rattle.kernel_core.specs.Histories.{IsComplete}
 use Rattle.kernel_core.specs.Start.{start}
 use Rattle.lwc_stream.specs.Replies.{AreShown, IsWritten, finished_by}
