@@ -92,6 +92,7 @@ impl PageCells {
     }
 
     /// The kind and the right of a page of a place; `None` where it is absent.
+    #[inline(always)]
     pub fn state(&self, i: usize, p: PageNumber) -> Option<PageState>
         requires { i < length (cells self.now) }
         ensures { result ≡ states_of (place_of (cells self.now) i) (rights_of (rights self.now) i) p }

@@ -1,4 +1,4 @@
-ghost use Rattle.std.specs.Prelude.{◌≡◌, ◌<◌, ◌≤◌, IfOk, IfSome, IsOk, None, OnErr, OnOk, length, true};
+ghost use Rattle.std.specs.Prelude.{◌≡◌, ◌<◌, ◌≤◌, IfNone, IfOk, IfSome, IsOk, None, OnErr, OnOk, length, true};
 ghost use Rattle.guest_isa.specs.Instructions.{IsInstruction, IsText};
 ghost use Rattle.guest_machine.specs.Advances.{IfShared, advanced};
 ghost use Rattle.kernel_core.specs.Changes.{IsNumbered, Keeps, KeepsAll, MakesAll, after_effect, made};
@@ -207,8 +207,7 @@ fn run_thread<W: World>(
     ensures ample { W.roomy ≡ true → IsOk result }
 {
     let left = thread.budget - 1;
-    // In two parts: 128 bytes are copied by a few moves, and 136 by a call.
-    let Regs { r, pc } = thread.regs;
+    let before = kept_regs::<W>(&thread.regs);
     let next = advance_regs(text, &mut thread.regs, proposal);
     match run_next(world, io, t, thread, next) {
         Ok(change) => {
@@ -216,10 +215,22 @@ fn run_thread<W: World>(
             Ok(change)
         }
         Err(OutOfMemory) => {
-            thread.regs = Regs { r, pc };
+            if let Some(regs) = before {
+                thread.regs = regs;
+            }
             Err(OutOfMemory)
         }
     }
+}
+
+/// The registers, to be put back where a step finds no memory. Over a roomy world each step finds its memory,
+/// and nothing is kept.
+#[inline(always)]
+fn kept_regs<W: World>(regs: &Regs) -> Option<Regs>
+    ensures kept { IfSome result (λ kept. kept ≡ regs.now) }
+    ensures roomy { IfNone result (W.roomy ≡ true) }
+{
+    if W::is_roomy() { None } else { Some(*regs) }
 }
 
 /// Does the private instructions that come first, as proposed if the proposal begins with these registers.

@@ -22,6 +22,11 @@ impl World for LazyWorld {
 
     ghost roomy = { true };
 
+    #[inline(always)]
+    fn is_roomy() -> bool {
+        true
+    }
+
     fn open(alloc: Global, world_size: &WorldSize) -> Result<LazyWorld, OutOfMemory> {
         Ok(LazyWorld {
             world: PlacedWorld::open(alloc, world_size)?,

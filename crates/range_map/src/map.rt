@@ -72,6 +72,7 @@ impl RangeMap {
     }
 
     /// The state of a page; `None` where it is absent, as are all past the last one.
+    #[inline(always)]
     pub fn state_at(&self, p: PageNumber) -> Option<PageState>
         ensures state { result ≡ spec.state_at self.now p }
         ensures past { MOST_PAGES ≤ p → result ≡ None }

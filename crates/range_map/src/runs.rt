@@ -10,6 +10,7 @@ use crate::segment::{Change, PageState, Segment};
 use lwc_base::{MOST_PAGES, PageNumber};
 
 /// The state of a page; `None` where it is absent. Its segment is searched by halving.
+#[inline(always)]
 pub(crate) fn state_at(segments: &[Segment], p: PageNumber) -> Option<PageState>
     requires { IsCanonical segments.now }
     ensures { result ≡ spec.state_at segments.now p }
@@ -23,7 +24,8 @@ pub(crate) fn state_at(segments: &[Segment], p: PageNumber) -> Option<PageState>
 }
 
 /// The number of segments that end at a page or before it. The next one, if there is one, has the page or begins
-/// past it. Most spaces have one range, so the first segment is looked at before the rest are halved.
+/// past it. Most spaces have one range, so the first segment is looked at before all are halved.
+#[inline(always)]
 fn ended_by(segments: &[Segment], p: PageNumber) -> usize
     requires { IsCanonical segments.now }
     ensures within { result ≤ length segments.now }
@@ -33,12 +35,24 @@ fn ended_by(segments: &[Segment], p: PageNumber) -> usize
 {
     match segments.first() {
         Some(first) if p < first.to => 0,
-        _ => segments.partition_point(
-            |segment: &Segment| -> bool
-                ensures { result ≡ nat_le segment.now.to p }
-            { segment.to <= p },
-        ),
+        _ => ended_by_halving(segments, p),
     }
+}
+
+/// The number of segments that end at a page or before it, by halving.
+#[inline(never)]
+fn ended_by_halving(segments: &[Segment], p: PageNumber) -> usize
+    requires { IsCanonical segments.now }
+    ensures within { result ≤ length segments.now }
+    ensures before { (k : ℕ) (d : Segment) → k < result → (slice_index_or segments.now k d).to ≤ p }
+    ensures after { (d : Segment) → result < length segments.now
+        → p < (slice_index_or segments.now result d).to }
+{
+    segments.partition_point(
+        |segment: &Segment| -> bool
+            ensures { result ≡ nat_le segment.now.to p }
+        { segment.to <= p },
+    )
 }
 
 /// The state of a page after the changes: that of the first change that has it, or the state before.

@@ -66,6 +66,7 @@ impl Door {
     }
 
     /// Takes the door if it is free, or, where that is the most, handed over.
+    #[inline(always)]
     fn try_take(&self, most: u64) -> bool {
         let found = self.word.load(Ordering::SeqCst);
         found <= most
@@ -89,14 +90,19 @@ impl Door {
     }
 
     /// Comes through the door. It may wait.
+    #[inline(always)]
     pub(crate) fn enter<H: Wait>(&self, rt: &H) {
-        if !self.try_often(FREE) {
+        if !self.try_take(FREE) {
             self.enter_late(rt);
         }
     }
 
-    /// Comes through the door after some sleep. It may wait.
+    /// Comes through the door after a few more tries, or after some sleep. It may wait.
+    #[inline(never)]
     fn enter_late<H: Wait>(&self, rt: &H) {
+        if self.try_often(FREE) {
+            return;
+        }
         let mut naps = 0;
         for _ in rt.forever() {
             nap(rt);

@@ -36,6 +36,10 @@ impl World for WholeWorld {
 
     ghost roomy = { false };
 
+    fn is_roomy() -> bool {
+        false
+    }
+
     fn open(alloc: Global, world_size: &WorldSize) -> Result<WholeWorld, OutOfMemory> {
         Ok(WholeWorld {
             alloc,

@@ -39,6 +39,11 @@ pub trait World: Sized + Drop + Send + Sync {
     /// Whether all memory is taken at opening, so that no later call runs out of memory.
     ghost roomy: { Bool };
 
+    /// Whether all memory is taken at opening. A caller need not keep what it would put back after an error
+    /// that cannot come.
+    fn is_roomy() -> bool
+        ensures { result ≡ roomy };
+
     /// A world of this size in which nothing is live. The only error is out of memory.
     fn open(alloc: Global, world_size: &WorldSize) -> Result<Self, OutOfMemory>
         requires { IsSize world_size.now }
