@@ -12,7 +12,8 @@ use Rattle.world_views.specs.Outside.{IsOutside}
 abbrev pub blank_in : Name → Machine → Machine
 blank_in v m = record m { environment = with_world m.environment (blank true v m.environment.world) }
 
--- the thread of a number, if it runs, is outside a context, and none of its descriptors opens that
+-- the thread of a number, if it runs, is outside a context: it is in another one, its job's next context is another
+-- one, and none of its descriptors opens that; contexts have from 1 to the most pages
 abbrev pub ActsOutside : Name → Machine → ℕ → Type 0
 ActsOutside v m t =
     (x : Thread) → slice_get m.threads t ≡ Some x → x.status ≡ Running →

@@ -57,11 +57,11 @@ takes_of p = end_of p.table_id (view p).taken
 abbrev pub both_of : Pass Finished Ends → Joined
 both_of p = joined_of p.table_id (view p).put (view p).taken
 
--- the pass may put and not take
+-- the pass may put and not take, and has taken nothing
 abbrev pub IsPutting : Pass Finished Ends → Type 0
 IsPutting p = ((view p).puts ≡ true) × ((view p).takes ≡ false) × ((view p).taken ≡ [])
 
--- the pass may take and not put
+-- the pass may take and not put, and has put nothing
 abbrev pub IsTaking : Pass Finished Ends → Type 0
 IsTaking p = ((view p).puts ≡ false) × ((view p).takes ≡ true) × ((view p).put ≡ [])
 

@@ -15,7 +15,8 @@ use Rattle.world_views.specs.Outside.{LacksKeys}
 abbrev pub blank_machine : Machine → Machine
 blank_machine m = each.blank_in vault_name m
 
--- the thread of a number, if it runs, is outside the vault, and none of its descriptors opens the vault
+-- the thread of a number, if it runs, is outside the vault: it is in another context, its job's next context is
+-- another one, and none of its descriptors opens the vault; contexts have from 1 to the most pages
 abbrev pub ActsOutside : Machine → ℕ → Type 0
 ActsOutside m t = each.ActsOutside vault_name m t
 

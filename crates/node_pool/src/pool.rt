@@ -22,9 +22,10 @@ struct NodeContent {
     entries: [u32; NODE_ENTRIES],
 }
 
-/// Nodes in one region, seen as all of them, of each its count, its level and its 32 entries, and as the
-/// number of node steps so far: each `take`, `hold` and `drop_hold` is one, and no call tells the number.
-/// No call looks for a free node, and a node's memory is first written when the node is taken.
+/// Nodes in one region, seen as all of them, of each its count, its level and its 32 entries, and as the number
+/// of node steps so far: each `take`, `hold` and `drop_hold` is one, and the number stays at the largest of 64
+/// bits. No call tells it. No call looks for a free node, and a node's memory is first written when the node is
+/// taken.
 #[derive(Drop)]
 pub struct NodePool {
     counts: Counts,
@@ -54,7 +55,8 @@ impl NodePool {
 
     /// A pool of this many nodes, all free. The only error is out of memory.
     pub fn open(alloc: Global, nodes: u32) -> Result<NodePool, OutOfMemory>
-        ensures { IfOk result (λ pool. pool.all ≡ replicate nodes (empty_node 0 0)) }
+        ensures nodes { IfOk result (λ pool. pool.all ≡ replicate nodes (empty_node 0 0)) }
+        ensures no_step { IfOk result (λ pool. pool.steps ≡ 0) }
     {
         let counts = Counts::open(alloc, nodes)?;
         let contents = Vec::with_capacity(alloc, nodes as usize)?;

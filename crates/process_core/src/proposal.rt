@@ -8,7 +8,7 @@ use guest_machine::{Advance, Next, run_on};
 use lwc_base::Regs;
 use std::marker::Model;
 
-/// A place for the proposals of a thread's turns. Contracts see it as the one that was made last, if it is there.
+/// A place for the proposals of a thread's turns. Contracts see it as the one that is in it, if one is.
 ///
 /// An advance is long to copy, so it is made in this place, and read there under the lock.
 #[derive(Drop)]

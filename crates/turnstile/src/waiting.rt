@@ -8,7 +8,7 @@
 //!   takes it away from the processor of the thread that is through. Then it sleeps for a while, looks, and so on.
 //!   Each sleep ends by itself: nobody has to wake it, and no wake-up can be lost.
 //! - A thread that has slept often asks for the door. Whoever leaves it then hands it over: only a thread that has
-//!   slept may take it, and the one that leaves comes after it.
+//!   slept may take it. So the one that leaves it does not come first, unless it has slept by then, too.
 //!
 //! No clause speaks of any of this: the door is no part of the rule, and the queue guards the state whatever
 //! the door does.
@@ -36,7 +36,7 @@ const TRIES: u32 = 6;
 /// How long a thread sleeps between two looks, in microseconds.
 const NAP: u64 = 50;
 
-/// How often a thread sleeps before it asks for the door.
+/// After this many sleeps the next one that does not find the door free asks for it.
 const NAPS: u32 = 8;
 
 /// The word that threads come through one at a time.

@@ -6,8 +6,8 @@ use Rattle.pool_base.proofs.PairedLemmas.{paired-replicate}
 use Rattle.node_pool.specs.View.{blank_content, seen_node, seen_nodes}
 use Rattle.node_pool.proofs.pool.NodePool.open.Goals as goal
 
-pub returns : goal.returns
-returns c =
+pub returns-clause-nodes : goal.returns-clause-nodes
+returns-clause-nodes c =
     let size : length (replicate c.args.nodes 0) ≡ c.args.nodes = length-replicate {A = ℕ} c.args.nodes 0 in
     let whole : c.args.nodes - 0 ≡ c.args.nodes = omega arith in
     (λ i. seen_nodes (c.in_ok-counts.ensures i) (c.in_ok-contents.ensures.items i))

@@ -3,11 +3,11 @@ use Rattle.page_tree.proofs.store.Store.open.Goals as goal
 
 pub returns-clause-sound : goal.returns-clause-sound
 returns-clause-sound c =
-    rw (c.in_ok-nodes.ensures, c.in_ok-frames.ensures) (IsSound-new _ _ _ c.requires.few_nodes c.requires.few_frames)
+    rw (c.in_ok-nodes.ensures.nodes, c.in_ok-frames.ensures) (IsSound-new _ _ _ c.requires.few_nodes c.requires.few_frames)
 
 pub returns-clause-free : goal.returns-clause-free
-returns-clause-free c = rw c.in_ok-nodes.ensures (free_of-new _)
+returns-clause-free c = rw c.in_ok-nodes.ensures.nodes (free_of-new _)
 
 pub returns-clause-tied : goal.returns-clause-tied
 returns-clause-tied c =
-    rw (c.in_ok-nodes.ensures, c.in_ok-frames.ensures) (IsTied-new _ _ _ c.requires.few_nodes c.requires.few_frames)
+    rw (c.in_ok-nodes.ensures.nodes, c.in_ok-frames.ensures) (IsTied-new _ _ _ c.requires.few_nodes c.requires.few_frames)
