@@ -83,7 +83,7 @@ def neighbour(folder: str) -> None:
     [(slow, most)] = Counter(steps).most_common(1)
     others = len(steps) - most
     print(
-        f"a request of {most} steps takes {whole:.2f} s alone; beside it, with 4 workers, of the others' {others} steps"
+        f"a request of {most} steps takes {whole:.2f} s alone; beside it, with 4 workers, of {others} steps of others"
     )
     made, own = 0, 0
     parts = {"half": others / 2, "nine of ten": others * 0.9, "all": others}
