@@ -1,7 +1,7 @@
 ghost use Rattle.std.specs.Prelude.{◌≡◌, ◌≢◌, ℕ, ◌+◌, ◌-◌, ◌^◌, ◌<◌, ◌≤◌, ◌==◌, IfOk, [], length, List, replicate};
 ghost use Rattle.frame_pool.specs.Frame.{frame_count, zero_frame};
 ghost use Rattle.node_pool.specs.declared.pool.TheConstants.{NODE_ENTRIES};
-ghost use Rattle.node_pool.specs.Nodes.{node_at, count_of, level_of, entry_of, empty_node, enter, free_of, recount};
+ghost use Rattle.node_pool.specs.Nodes.{node_at, count_of, level_of, entry_of, empty_node, enter, free_of, next_step, recount};
 ghost use Rattle.page_tree.specs.declared.store.TheConstants.{LEAF_LEVEL, ROOT_ENTRIES, ROOT_LEVEL};
 ghost use Rattle.page_tree.specs.Pages.{entry_for};
 ghost use Rattle.page_tree.specs.Sound.{IsSound, IsSoundTo, is_root, leading_to, one_if};
@@ -100,7 +100,7 @@ impl Store {
             (λ n. 0) (is_root (result.n + 1)) }
         ensures free { free_of self.old.nodes.all ≡ free_of self.new.nodes.all + 1 }
         ensures frames { self.new.frames ≡ self.old.frames }
-        ensures one_step { self.new.nodes.steps ≤ self.old.nodes.steps + 1 }
+        ensures one_step { self.new.nodes.steps ≡ next_step self.old.nodes.steps }
     {
         self.nodes.take(level).unwrap()
     }
@@ -118,7 +118,7 @@ impl Store {
         ensures free { free_of self.new.nodes.all ≡ free_of self.old.nodes.all }
         ensures frames { self.new.frames ≡ self.old.frames }
         ensures others { (x : ℕ) → x ≢ node.n → node_at self.new.nodes.all x ≡ node_at self.old.nodes.all x }
-        ensures one_step { self.new.nodes.steps ≤ self.old.nodes.steps + 1 }
+        ensures one_step { self.new.nodes.steps ≡ next_step self.old.nodes.steps }
     {
         self.nodes.hold(node);
     }
@@ -135,7 +135,7 @@ impl Store {
         ensures free { free_of self.old.nodes.all ≤ free_of self.new.nodes.all }
         ensures frames { self.new.frames ≡ self.old.frames }
         ensures others { (x : ℕ) → x ≢ node.n → node_at self.new.nodes.all x ≡ node_at self.old.nodes.all x }
-        ensures one_step { self.new.nodes.steps ≤ self.old.nodes.steps + 1 }
+        ensures one_step { self.new.nodes.steps ≡ next_step self.old.nodes.steps }
     {
         self.nodes.drop_hold(node);
     }
