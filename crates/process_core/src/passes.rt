@@ -2,6 +2,7 @@
 ghost use Rattle.std.specs.Prelude.{◌≡◌};
 
 use crate::guarded::Guarded;
+use crossbeam_utils::CachePadded;
 use kernel_core::Turn;
 use std::marker::Model;
 use turnstile::{HoldsPass, Pass};
@@ -13,8 +14,9 @@ use world_face::World;
 #[derive(Drop)]
 pub struct ProcessPass<W: World> {
     pub(crate) pass: Pass<Guarded<W>>,
-    // The box goes into each turn and comes back. It is away only while the turn is made.
-    pub(crate) last: Option<Box<Turn>>,
+    // The box goes into each turn and comes back. It is away only while the turn is made. Passes lie side by side,
+    // and each turn writes here: so no two are on one cache line.
+    pub(crate) last: CachePadded<Option<Box<Turn>>>,
 }
 
 /// The passes of a process, at `open` in the order of their threads.
@@ -23,16 +25,17 @@ pub type ProcessPasses<W> = Vec<ProcessPass<W>>;
 impl<W: World> Model for ProcessPass<W> {
     ghost use Rattle.std.specs.Prelude.{◌≡◌, is_some, true, unwrap_or};
     ghost use Rattle.std.specs.Option.{option_map};
+    ghost use Rattle.crossbeam_utils.specs.Padded.{padded_value};
     ghost use Rattle.process_core.specs.Running.{Carried, no_turn};
 
     ghost Value = { Carried };
 
     ghost view = { λ p. record {
       held = p.pass;
-      last = unwrap_or (option_map (λ b. b.value) p.last) no_turn;
+      last = unwrap_or (option_map (λ b. b.value) (padded_value p.last)) no_turn;
     } };
 
-    ghost invariant = { λ p. is_some p.last ≡ true };
+    ghost invariant = { λ p. is_some (padded_value p.last) ≡ true };
 }
 
 impl<W: World> HoldsPass<Guarded<W>> for ProcessPass<W> {
@@ -55,7 +58,7 @@ impl<W: World> ProcessPass<W> {
     {
         ProcessPass {
             pass,
-            last: Some(last),
+            last: CachePadded::new(Some(last)),
         }
     }
 
@@ -70,7 +73,7 @@ impl<W: World> ProcessPass<W> {
     pub fn last(&self) -> &Turn
         ensures { result.now ≡ self.now.last }
     {
-        match &self.last {
+        match &*self.last {
             Some(last) => last,
             None => unreachable!(),
         }

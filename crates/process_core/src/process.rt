@@ -196,7 +196,7 @@ impl<W: World> Process<W> {
             return;
         }
         if let Some(last) = pass.last.take() {
-            pass.last = Some(take_turn(&self.gate, rt, &mut pass.pass, proposal, last));
+            *pass.last = Some(take_turn(&self.gate, rt, &mut pass.pass, proposal, last));
         }
     }
 
