@@ -1,7 +1,8 @@
 ghost use Rattle.std.specs.Prelude.{◌≡◌, ◌≢◌, ℕ, ◌+◌, ◌-◌, ◌^◌, ◌<◌, ◌≤◌, ◌==◌, IfOk, [], length, List, replicate};
 ghost use Rattle.frame_pool.specs.Frame.{frame_count, zero_frame};
 ghost use Rattle.node_pool.specs.declared.pool.TheConstants.{NODE_ENTRIES};
-ghost use Rattle.node_pool.specs.Nodes.{node_at, count_of, level_of, entry_of, empty_node, enter, free_of, next_step, recount};
+ghost use Rattle.node_pool.specs.Nodes.{node_at, count_of, level_of, entry_of, empty_node, enter, free_of};
+ghost use Rattle.node_pool.specs.Nodes.{next_step, recount};
 ghost use Rattle.page_tree.specs.declared.store.TheConstants.{LEAF_LEVEL, ROOT_ENTRIES, ROOT_LEVEL};
 ghost use Rattle.page_tree.specs.Pages.{entry_for};
 ghost use Rattle.page_tree.specs.Sound.{IsSound, IsSoundTo, is_root, leading_to, one_if};
