@@ -1,7 +1,7 @@
 -- What a search keeps true, and what it has found at its end.
-use Rattle.std.proofs.Common.{◌↔◌, ◌≡◌, ◌≢◌, ◌⊎◌, inl, inr, ◌∙◌, ℕ, zero, suc, ◌+◌, ◌<◌, ◌≤◌, ◌++◌, Bool, true, false, cond, List, [], ◌∷◌, Option, None, Some, All, eqb, nat_lt, not, ap, arith, length, length-append, get_or, refl, replicate, set, subst, sym}
+use Rattle.std.proofs.Common.{◌↔◌, ◌≡◌, ◌≢◌, ◌⊎◌, inl, inr, ◌∙◌, ℕ, zero, suc, ◌+◌, ◌-◌, ◌<◌, ◌≤◌, ◌++◌, Bool, true, false, cond, List, [], ◌∷◌, Option, None, Some, All, eqb, nat_lt, not, ap, arith, length, length-append, get_or, refl, replicate, set, subst, sym}
 use Rattle.std.proofs.Math.Nat.{eq-or-lt_of_le}
-use Rattle.std.proofs.lemmas.Bool.{ltb-false, ltb-true}
+use Rattle.std.proofs.lemmas.Bool.{cases_lt, ltb-false, ltb-true}
 use native.Mathlib.Numerals.{unary_clauses}
 use Rattle.std.proofs.lemmas.List.{get_or-set_other, get_or_default, length-set}
 use Rattle.std.proofs.lemmas.List.Sums.{sum_by-set}
@@ -159,6 +159,31 @@ within-next link_of place n link is fits before = record { each = λ slot next l
     here slot next found (inl same) = subst (λ o. IfSome o (λ q. q < MOST_CONTEXTS)) (is ∙ ap (link_of place) (sym same) ∙ found) fits
     here slot next found (inr earlier) = before.each slot next earlier found
 
+links-skip : (link_of : ℕ → ℕ → Option ℕ) (place n k : ℕ) (s : Found) → ((slot : ℕ) → n ≤ slot → slot < n + k → link_of place slot ≡ None) →
+    with_links link_of place s n ≡ with_links link_of place s (n + k)
+links-skip link_of place n zero s none = ap (with_links link_of place s) (omega arith)
+links-skip link_of place n (suc k) s none =
+    links-skip link_of place n k s (λ slot low high. none slot low (omega (arith, high)))
+    ∙ ap (visited_link (with_links link_of place s (n + k))) (sym (none (n + k) (omega arith) (omega arith)))
+    ∙ one_more link_of place (n + k) s
+    ∙ ap (with_links link_of place s) (omega arith)
+
+-- slots that link to no place are passed over
+pub links-past : (link_of : ℕ → ℕ → Option ℕ) (place n m : ℕ) (s : Found) → n ≤ m → ((slot : ℕ) → n ≤ slot → slot < m → link_of place slot ≡ None) →
+    with_links link_of place s n ≡ with_links link_of place s m
+links-past link_of place n m s low none =
+    links-skip link_of place n (m - n) s (λ slot from to. none slot from (omega (arith, to, low))) ∙ ap (with_links link_of place s) (omega (arith, low))
+
+pub within-past : (link_of : ℕ → ℕ → Option ℕ) (place n m : ℕ) → ((slot : ℕ) → n ≤ slot → slot < m → link_of place slot ≡ None) →
+    LinksWithin link_of place n → LinksWithin link_of place m
+within-past link_of place n m none before = record {
+  each = λ slot next less found.
+      elim (cases_lt slot n) [
+        | inl low ↦ before.each slot next low found
+        | inr high ↦ absurd (none-some next (sym (none slot high less) ∙ found))
+      ];
+}
+
 -- a search that began from another one has found what the first slots of a place link to
 pub record IsLinked (link_of : ℕ → ℕ → Option ℕ) (roots : List ℕ) (place n : ℕ) (s t : Found) : Type 0 where
   pub kept : IsSearch link_of roots t
@@ -282,11 +307,11 @@ between-first link_of roots n s all kept has = record {
 }
 
 -- what a search at its end has found: exactly what is reached
-module _ (link_of : ℕ → ℕ → Option ℕ) (roots : List ℕ) (n : ℕ) (s : Found) (end : 529 ≤ n) (between : IsBetween link_of roots n s) where
+module _ (link_of : ℕ → ℕ → Option ℕ) (roots : List ℕ) (n : ℕ) (s : Found) (end : length s.order ≤ n) (between : IsBetween link_of roots n s) where
   marked_links : (place : ℕ) → is_marked s.marks place ≡ true → HasLinks link_of place SLOTS s
   marked_links place is =
       let found = between.kept.found place is in
-      subst (λ p. HasLinks link_of p SLOTS s) found.2 (between.expanded.linked found.0 (omega (arith, found.1, between.kept.whole.room, end)) found.1)
+      subst (λ p. HasLinks link_of p SLOTS s) found.2 (between.expanded.linked found.0 (omega (arith, found.1, end)) found.1)
 
   pub marked_of_reached : (place : ℕ) → Reaches link_of roots place → is_marked s.marks place ≡ true
   marked_of_reached _ (Root place is) =

@@ -5,7 +5,6 @@ ghost use Rattle.reach.specs.Reach.{Reaches};
 
 use crate::links::Links;
 use crate::search::Search;
-use lwc_base::MOST_CONTEXTS;
 use std::marker::Model;
 
 /// A mark for each of 529 places, seen as a list of truth values.
@@ -59,8 +58,10 @@ pub fn mark<K: Links>(links: &K, roots: &[usize], marks: &mut Marks)
     'roots: for i in 0..roots.len() {
         search.visit(roots[i]);
     }
-    'places: for i in 0..MOST_CONTEXTS as usize {
+    let mut i = 0;
+    'places: while i < search.len() {
         search.expand(links, i);
+        i += 1;
     }
     *marks = search.into_marks();
 }

@@ -58,14 +58,16 @@ impl Search {
         }
     }
 
-    /// Finds the places that a place links to.
+    /// Finds the places that a place links to. Slots that cannot link to one are passed over.
     fn visit_links<K: Links>(&mut self, links: &K, place: usize)
         requires { place < MOST_CONTEXTS }
         ensures found { self.new ≡ spec.with_links (K.link_of links.now) place self.old SLOTS }
         ensures within { spec.LinksWithin (K.link_of links.now) place SLOTS }
     {
-        'slots: for slot in 0..SLOTS {
+        let mut from = 0;
+        'slots: while let Some(slot) = links.next_slot(place, from) {
             self.visit_link(links.link(place, slot));
+            from = slot + 1;
         }
     }
 
@@ -80,6 +82,13 @@ impl Search {
         if let Some(place) = place {
             self.visit_links(links, place);
         }
+    }
+
+    /// How many places were found.
+    pub(crate) fn len(&self) -> usize
+        ensures { result ≡ length self.now.order }
+    {
+        self.order.len()
     }
 
     /// The marks of the places that were found.

@@ -1,3 +1,4 @@
+use Rattle.std.proofs.Common.{arith}
 use Rattle.reach.proofs.Found.{begun, between-first, between-next, marks_reached, no_root, root-next, search-root}
 use Rattle.reach.proofs.marks.mark.Goals as goal
 
@@ -20,4 +21,4 @@ pub places-preserved : goal.places-preserved
 places-preserved g c = between-next _ _ _ _ _ c.expand.ensures.found c.expand.ensures.within c.places.invariant
 
 pub returns : goal.returns
-returns g c = marks_reached _ _ _ _ c.places-test.false c.places.invariant _ c.into_marks.ensures
+returns g c = marks_reached _ _ _ _ (omega (arith, c.places-test.false, c.len.ensures)) c.places.invariant _ c.into_marks.ensures
