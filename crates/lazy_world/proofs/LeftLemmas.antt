@@ -105,6 +105,19 @@ nothing_left {X} m kept none =
     nowhere true = refl
     nowhere false = refl
 
+-- a test that each name there passes leaves all
+pub nothing_lost : {X : Type 0} (m : fm.FinMap name_cmp X) (kept : Name → Bool) → ((c : Name) (x : X) → fm.get m c ≡ Some x → kept c ≡ true) → m ≡ fm.retain_keys m kept
+nothing_lost {X} m kept all =
+    fm.same_map orders.names orders.one_name _ _ (λ c. by c (fm.get m c) refl ∙ sym (fm.get-retain_keys m kept c (alike kept c)))
+  where
+    nowhere : (b : Bool) → cond {A = Option X} b None None ≡ None
+    nowhere true = refl
+    nowhere false = refl
+
+    by : (c : Name) (o : Option X) → fm.get m c ≡ o → fm.get m c ≡ cond (kept c) (fm.get m c) None
+    by c None none = none ∙ sym (nowhere (kept c)) ∙ ap (λ o. cond (kept c) o None) (sym none)
+    by c (Some x) there = all_pass (kept c) (fm.get m c) (all c x there)
+
 -- what two tests leave, the second of the places that are left
 pub left_by-more : {X : Type 0} (places next : fm.FinMap name_cmp ℕ) (first second both : Option ℕ → Bool) (m : fm.FinMap name_cmp X) →
     next ≡ left_by places first places → ((o : Option ℕ) → (first o && second (cond (first o) o None)) ≡ both o) →

@@ -21,6 +21,7 @@ mod HolderLemmas
 mod ItselfLemmas
 mod KeyLemmas
 mod LeftLemmas
+mod LinkLemmas
 mod LooseLemmas
 mod MapLemmas
 mod MappedLemmas

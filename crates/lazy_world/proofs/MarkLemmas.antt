@@ -1,26 +1,26 @@
 -- Marks at the places of groups that cells name.
-use Rattle.std.proofs.Common.{◌≡◌, ◌<◌, ◌≤◌, None, Some, ℕ, zero, suc, ◌+◌, arith, List, [], refl, sym, ap, ◌∙◌, Bool, true, false, Option, replicate, add-zero}
+use Rattle.std.proofs.Common.{◌≡◌, ◌<◌, ◌≤◌, None, Some, inl, inr, ℕ, zero, suc, ◌+◌, arith, List, [], refl, sym, ap, ◌∙◌, Bool, true, false, Option, replicate, add-zero}
 use Rattle.std.specs.Prelude.{◌||◌}
 use Rattle.std.specs.List.{list_any, range_with_len}
-use Rattle.std.specs.Ordering.{is_eq}
 use Rattle.lwc_base.specs.declared.cell.Cell.{Cell}
 use Rattle.lwc_base.specs.declared.descriptor.Descriptor.{Descriptor}
 use Rattle.lwc_base.specs.declared.page.PageValue.{PageValue}
-use Rattle.lwc_base.specs.Names.{name_cmp}
 use Rattle.std.specs.Option.{option_map}
+use Rattle.std.proofs.lemmas.Bool.{cases_lt, false≢true}
 use Rattle.lwc_base.specs.declared.right.Right.{Right}
 use Rattle.range_map.specs.Kinds.{kind_of, state_of}
 use Rattle.range_map.specs.declared.segment.PageState.{PageState}
 use Rattle.range_map.specs.declared.segment.SegmentKind.{SegmentKind}
-use Rattle.range_map.specs.declared.segment.SegmentKind.TheVariants as kind
 use Rattle.fd_table.specs.Slots.{is_common}
 use Rattle.lwc_base.specs.declared.cell.Cell.TheVariants.{Own, Common}
 use Rattle.lwc_base.specs.declared.name.Name.{Name}
 use Rattle.lwc_base.specs.Life.{is_in}
 use Rattle.reach.specs.Reach.{is_marked}
 use Rattle.lazy_world.specs.KeyValues.{group_in}
-use Rattle.lazy_world.specs.Reaping.{AddsMarks, is_name}
-use Rattle.lwc_base.proofs.Small.{at-new, or_assoc}
+use Rattle.lazy_world.specs.Reaping.{AddsMarks, is_name, is_of}
+use Rattle.lwc_base.proofs.Needs.{some_in_range}
+use Rattle.lwc_base.proofs.Reaped.{number_in}
+use Rattle.lwc_base.proofs.Small.{at-new, or_assoc, same_bool}
 
 or_false : (b : Bool) → b ≡ (b || false)
 or_false true = refl
@@ -44,27 +44,26 @@ any_next test a (suc n) =
 pub any_more : (test : ℕ → Bool) (n : ℕ) → (list_any test (range_with_len 0 n) || test n) ≡ list_any test (range_with_len 0 (n + 1))
 any_more test n = ap (λ k. list_any test (range_with_len 0 n) || test k) (omega arith) ∙ any_next test 0 n
 
--- a run of numbers that are alike is gone over at once
-pub any_run : (test : ℕ → Bool) (p n e : ℕ) → e ≡ p + suc n → ((k : ℕ) → p ≤ k → k < e → test k ≡ test p) →
-    (list_any test (range_with_len 0 p) || test p) ≡ list_any test (range_with_len 0 e)
-any_run test p zero e is alike = any_more test p ∙ ap (λ m. list_any test (range_with_len 0 m)) (omega (arith, is))
-any_run test p (suc n) e is alike =
-    let before = any_run test p n (p + suc n) refl (λ k low high. alike k low (omega (arith, high, is))) in
-    let last = alike (p + suc n) (omega arith) (omega (arith, is)) in
-    twice (list_any test (range_with_len 0 p)) (test p) ∙ (λ i. before i || sym last i) ∙ any_more test (p + suc n)
-    ∙ ap (λ m. list_any test (range_with_len 0 m)) (omega (arith, is))
-  where
-    twice : (a b : Bool) → (a || b) ≡ ((a || b) || b)
-    twice true b = refl
-    twice false true = refl
-    twice false false = refl
+-- what passes below a number passes below a later one
+pub any_up : (test : ℕ → Bool) (a b : ℕ) → a ≤ b → list_any test (range_with_len 0 a) ≡ true → list_any test (range_with_len 0 b) ≡ true
+any_up test a b low at = let found = number_in test a 0 at in some_in_range test b 0 found.0 (omega arith) (omega (arith, found.2, low)) found.3
 
-abbrev named_kind : Name → Option SegmentKind → Bool
+-- numbers at which a test fails are passed over
+pub any_past : (test : ℕ → Bool) (a b : ℕ) → a ≤ b → ((k : ℕ) → a ≤ k → k < b → test k ≡ false) → list_any test (range_with_len 0 a) ≡ list_any test (range_with_len 0 b)
+any_past test a b low off =
+    same_bool _ _ (any_up test a b low)
+    (λ at.
+    let found = number_in test b 0 at in
+    elim (cases_lt found.0 a) [
+      | inl here ↦ some_in_range test a 0 found.0 (omega arith) (omega (arith, here)) found.3
+      | inr past ↦ absurd (false≢true (sym (off found.0 past (omega (arith, found.2))) ∙ found.3))
+    ])
+
+abbrev pub named_kind : Name → Option SegmentKind → Bool
 named_kind g None = false
-named_kind g (Some kind.Own) = false
-named_kind g (Some (kind.Common h)) = is_eq (name_cmp h g)
+named_kind g (Some kind) = is_of kind g
 
-in-kind : (g : Name) (cell : Cell (Option PageValue)) → is_in g cell ≡ named_kind g (kind_of cell)
+pub in-kind : (g : Name) (cell : Cell (Option PageValue)) → is_in g cell ≡ named_kind g (kind_of cell)
 in-kind g (Own None) = refl
 in-kind g (Own (Some value)) = refl
 in-kind g (Common h) = refl
@@ -76,10 +75,6 @@ kind-of-state (Some kind) right = refl
 
 pub kinds-alike : (a b : Cell (Option PageValue)) (r q : Right) → state_of (kind_of a) r ≡ state_of (kind_of b) q → kind_of a ≡ kind_of b
 kinds-alike a b r q same = sym (kind-of-state (kind_of a) r) ∙ ap (option_map (λ (s : PageState). s.kind)) same ∙ kind-of-state (kind_of b) q
-
--- cells of pages of one state name the same group
-pub in-alike : (g : Name) (a b : Cell (Option PageValue)) (r q : Right) → state_of (kind_of a) r ≡ state_of (kind_of b) q → is_in g a ≡ is_in g b
-in-alike g a b r q same = in-kind g a ∙ ap (named_kind g) (kinds-alike a b r q same) ∙ sym (in-kind g b)
 
 -- a cell that is not common names none
 pub in-own : (g : Name) (cell : Cell Descriptor) → is_common cell ≡ false → is_in g cell ≡ false

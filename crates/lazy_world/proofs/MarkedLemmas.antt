@@ -33,11 +33,21 @@ each_name m marks k each all g j found =
     let many : length (fm.keys m) ≡ fm.len m = length-map (fm.entries m) (λ (e : Name × ℕ). e.0) ∙ sym (fm.len-entries m) in
     each somewhere.0 g j (omega (arith, somewhere.2, many, all)) (somewhere.3 ∙ ap Some (sym same)) found
 
-or_marked : (a b : Bool) → a ≡ true → a ≡ (a || b)
+or_marked : (a b : Bool) → a ≡ true → (a || b) ≡ true
 or_marked true b is = refl
 or_marked false b is = cc
 
--- no cell marks one more
-pub adds-nothing : (table : NameTable) → ArePlaced table → (test : Name → Bool) (marks : List Bool) →
-    ((g : Name) (j : ℕ) → fm.get table.map g ≡ Some j → is_marked marks j ≡ true) → AddsMarks table.places test marks marks
-adds-nothing table placed test marks all = record { at = λ j g there. or_marked (is_marked marks j) (test g) (all g j ((placed.at g j).1 there)) }
+-- a mark that is set stays
+pub stays-marked : (table : NameTable) → ArePlaced table → (test : Name → Bool) (a b : List Bool) → AddsMarks table.places test a b →
+    (g : Name) (j : ℕ) → fm.get table.map g ≡ Some j → is_marked a j ≡ true → is_marked b j ≡ true
+stays-marked table placed test a b adds g j found is = adds.at j g ((placed.at g j).0 found) ∙ or_marked (is_marked a j) (test g) is
+
+-- where each live group is marked, the marks are those of a wider test too
+pub adds-all : (table : NameTable) → ArePlaced table → (test wider : Name → Bool) (marks : List Bool) → AddsMarks table.places test [] marks →
+    ((g : Name) (j : ℕ) → fm.get table.map g ≡ Some j → is_marked marks j ≡ true) → ((g : Name) → test g ≡ true → wider g ≡ true) →
+    AddsMarks table.places wider [] marks
+adds-all table placed test wider marks adds all more = record {
+  at = λ j g there.
+      let on : is_marked marks j ≡ true = all g j ((placed.at g j).1 there) in
+      on ∙ sym (more g (sym (adds.at j g there) ∙ on));
+}

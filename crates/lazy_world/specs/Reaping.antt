@@ -4,13 +4,15 @@ use Rattle.std.specs.Prelude.{slice_index_or}
 use Rattle.std.specs.Ordering.{is_eq}
 use Rattle.std.specs.FinMap as fm
 use Rattle.fd_table.specs.Slots.{context_of}
-use Rattle.lwc_base.specs.declared.cell.Cell.TheVariants.{Common}
+use Rattle.lwc_base.specs.declared.cell.Cell.TheVariants as cell
 use Rattle.lwc_base.specs.declared.descriptor.Descriptor.{Descriptor}
 use Rattle.lwc_base.specs.declared.key.Key.TheVariants.{Page}
 use Rattle.lwc_base.specs.declared.name.Name.{Name}
 use Rattle.lwc_base.specs.Cells.{slot_at}
 use Rattle.lwc_base.specs.Life.{names_group}
 use Rattle.lwc_base.specs.Names.{name_cmp}
+use Rattle.range_map.specs.declared.segment.SegmentKind.{SegmentKind}
+use Rattle.range_map.specs.declared.segment.SegmentKind.TheVariants.{Own, Common}
 use Rattle.reach.specs.Reach.{is_marked}
 use Rattle.lazy_world.specs.declared.world.PlacedWorld.{PlacedWorld}
 use Rattle.lazy_world.specs.States.{Parts, context_at}
@@ -43,6 +45,11 @@ abbrev pub is_name : Option Name → Name → Bool
 is_name None g = false
 is_name (Some h) g = is_eq (name_cmp h g)
 
+-- whether a group is the one that pages of a kind are common of, if they are
+abbrev pub is_of : SegmentKind → Name → Bool
+is_of Own g = false
+is_of (Common h) g = is_eq (name_cmp h g)
+
 -- whether a cell of the context at a place names a group, if there is a context
 abbrev pub names_from : Parts → Name → ℕ → Option Name → Bool
 names_from s g i None = false
@@ -54,7 +61,7 @@ names_at s g i = names_from s g i (slice_index_or s.contexts.places i None)
 
 -- no page of a place is common of a group
 abbrev pub NamesNone : Parts → Name → Type 0
-NamesNone s g = (i p : ℕ) → s.rows i (Page p) ≢ Common g
+NamesNone s g = (i p : ℕ) → s.rows i (Page p) ≢ cell.Common g
 
 -- no page of a place is common of a group whose place has no mark
 abbrev pub NamesMarked : Parts → List Bool → Type 0

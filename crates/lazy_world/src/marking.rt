@@ -1,4 +1,4 @@
-ghost use Rattle.std.specs.Prelude.{◌≡◌, ◌<◌, [], ℕ, Some, slice_get, true};
+ghost use Rattle.std.specs.Prelude.{◌≡◌, ◌<◌, ◌≤◌, [], ℕ, Some, slice_get, true};
 ghost use Rattle.std.specs.FinMap as fm;
 ghost use Rattle.std.specs.List.{list_any, range_with_len};
 ghost use Rattle.lwc_base.specs.declared.descriptor.TheConstants.{SLOTS};
@@ -7,27 +7,17 @@ ghost use Rattle.lwc_base.specs.declared.name.Name.{Name};
 ghost use Rattle.lwc_base.specs.Life.{is_in};
 ghost use Rattle.reach.specs.Reach.{is_marked};
 ghost use Rattle.lazy_world.specs.KeyValues.{group_in};
-ghost use Rattle.lazy_world.specs.Reaping.{AddsMarks, is_name, names_at};
+ghost use Rattle.lazy_world.specs.Reaping.{AddsMarks, is_name, is_of, names_at};
 ghost use Rattle.lazy_world.specs.Seen.{count, rows};
 ghost use Rattle.lazy_world.specs.Worlds.{parts};
 
 use crate::places::Places;
 use crate::world::PlacedWorld;
-use lwc_base::{Cell, Name, PageNumber, SLOTS, SlotNumber};
+use fd_table::lowest_bit;
+use lwc_base::{Cell, Name, SlotNumber};
 use range_map::SegmentKind;
 
 impl Places {
-    /// The group that a page of a place is common of, if it is.
-    fn page_group(&self, i: usize, p: PageNumber) -> Option<Name>
-        requires { i < count self.now }
-        ensures { result ≡ group_in (rows self.now i (Page p)) }
-    {
-        match self.kind(i, p) {
-            Some(SegmentKind::Common(g)) => Some(g),
-            Some(SegmentKind::Own) | None => None,
-        }
-    }
-
     /// The group that a slot of a place is common of, if it is.
     fn slot_group(&self, i: usize, n: SlotNumber) -> Option<Name>
         requires place { i < count self.now }
@@ -53,14 +43,20 @@ impl Places {
 }
 
 impl PlacedWorld {
-    /// Marks for the places of the groups that cells name.
+    /// Marks for the places of the groups that cells name. It goes from context to context, and no further
+    /// once each live group is marked.
     pub(crate) fn named_groups(&self) -> [bool; 1024]
         ensures { AddsMarks self.now.groups.places
             (λ g. list_any (names_at (parts self.now) g) (range_with_len 0 self.now.size.contexts))
             [] result }
     {
         let mut marks = [false; 1024];
+        let mut k = 0;
         for i in 0..self.size.contexts as usize {
+            k = self.first_unmarked(k, &marks);
+            if k >= self.groups.len() {
+                return marks;
+            }
             self.mark_named(i, &mut marks);
         }
         marks
@@ -71,7 +67,7 @@ impl PlacedWorld {
         requires { i < (parts self.now).size.contexts }
         ensures { AddsMarks self.now.groups.places (λ g. names_at (parts self.now) g i) marks.old marks.new }
     {
-        if self.contexts.at(i).is_none() || self.are_marked(marks) {
+        if self.contexts.at(i).is_none() {
             return;
         }
         self.mark_pages(i, marks);
@@ -79,17 +75,19 @@ impl PlacedWorld {
         self.mark_group(self.places.uid_group(i), marks);
     }
 
-    /// Whether each live group is marked, so that no cell can mark one more.
-    fn are_marked(&self, marks: &[bool; 1024]) -> bool
-        ensures { result ≡ true → (g : Name) (j : ℕ) → fm.get self.now.groups.map g ≡ Some j →
-            is_marked marks.now j ≡ true }
+    /// The number in the order of names of the first live group from one on that is not marked; the number of
+    /// live groups if there is none.
+    pub(crate) fn first_unmarked(&self, from: u32, marks: &[bool; 1024]) -> u32
+        ensures { (n : ℕ) → from ≤ n → n < result → (g : Name) (j : ℕ)
+            → slice_get (fm.keys self.now.groups.map) n ≡ Some g → fm.get self.now.groups.map g ≡ Some j
+            → is_marked marks.now j ≡ true }
     {
-        for k in 0..self.groups.len() {
+        for k in from..self.groups.len() {
             if !self.is_marked(k, marks) {
-                return false;
+                return k;
             }
         }
-        true
+        self.groups.len()
     }
 
     /// Whether the k-th live group in the order of names is marked, if there is one.
@@ -106,7 +104,7 @@ impl PlacedWorld {
         }
     }
 
-    /// Marks the groups that pages of a place are common of, by runs of pages of one kind.
+    /// Marks the groups that pages of a place are common of, by its segments.
     fn mark_pages(&self, i: usize, marks: &mut [bool; 1024])
         requires { i < count self.now.places }
         ensures { AddsMarks self.now.groups.places
@@ -114,11 +112,8 @@ impl PlacedWorld {
             (range_with_len 0 self.now.size.pages))
             marks.old marks.new }
     {
-        let pages = self.pages();
-        let mut p: PageNumber = 0;
-        'runs: while p < pages {
-            self.mark_group(self.places.page_group(i, p), marks);
-            p = self.places.run_at(i, p).1.min(pages);
+        for segment in self.places.segments(i) {
+            self.mark_kind(segment.kind, marks);
         }
     }
 
@@ -129,11 +124,21 @@ impl PlacedWorld {
             (λ g. list_any (λ n. is_in g (rows self.now.places i (Slot n))) (range_with_len 0 SLOTS))
             marks.old marks.new }
     {
-        if self.places.common(i) == 0 {
-            return;
-        }
-        for n in 0..SLOTS {
+        let common = self.places.common(i);
+        let mut from = 0;
+        'slots: while let Some(n) = lowest_bit(common, from) {
             self.mark_group(self.places.slot_group(i, n), marks);
+            from = n + 1;
+        }
+    }
+
+    /// Marks the group that pages of a kind are common of, if they are and it is live.
+    fn mark_kind(&self, kind: SegmentKind, marks: &mut [bool; 1024])
+        ensures { AddsMarks self.now.groups.places (is_of kind) marks.old marks.new }
+    {
+        match kind {
+            SegmentKind::Own => {}
+            SegmentKind::Common(g) => self.mark_group(Some(g), marks),
         }
     }
 

@@ -8,6 +8,7 @@ ghost use Rattle.lazy_world.specs.Worlds.{seen};
 
 use crate::world::PlacedWorld;
 use arrayvec::ArrayVec;
+use fd_table::lowest_bit;
 use lwc_base::{Name, SlotNumber};
 use reach::{Links, Marks, mark};
 
@@ -23,6 +24,11 @@ impl Links for PlacedWorld {
             return None;
         }
         self.place_of(self.linked(place, slot))
+    }
+
+    fn next_slot(&self, place: usize, from: SlotNumber) -> Option<SlotNumber> {
+        self.contexts.at(place)?;
+        lowest_bit(self.places.filled(place), from)
     }
 }
 
@@ -55,7 +61,7 @@ impl PlacedWorld {
         self.keep_contexts(marks.as_slice());
     }
 
-    /// Drops the groups that no cell names.
+    /// Drops the groups that no cell names. Mostly each is named.
     #[inline(never)]
     pub(crate) fn drop_groups(&mut self)
         ensures { seen self.new ≡ record (seen self.old) {
@@ -67,6 +73,9 @@ impl PlacedWorld {
             return;
         }
         let marks = self.named_groups();
+        if self.first_unmarked(0, &marks) >= self.groups.len() {
+            return;
+        }
         self.keep_groups(&marks);
     }
 

@@ -12,9 +12,7 @@ use Rattle.lazy_world.specs.Seen.{rows}
 use Rattle.lazy_world.specs.States.{Parts, context_at}
 use Rattle.lazy_world.specs.Worlds.{parts}
 use Rattle.lazy_world.proofs.MarkLemmas.{adds-more, adds-none, name_of_cell}
-use Rattle.lazy_world.proofs.MarkedLemmas.{adds-nothing}
 use Rattle.lazy_world.proofs.world.PlacedWorld.mark_named.Goals as goal
-use Rattle.lazy_world.proofs.world.PlacedWorld.mark_named.Goals.{then-is_none-via-then-is_none, then-is_none-via-else-is_none+then-are_marked}
 
 names_there : (s : Parts) (g : Name) (i : ℕ) (o : Option Name) → is_some o ≡ true → names_group s.size.pages g (context_at s i) ≡ names_from s g i o
 names_there s g i None there = absurd (false≢true there)
@@ -42,11 +40,6 @@ pub returns-then-is_none : goal.returns-then-is_none
 unfolding parts
 returns-then-is_none c =
     let w = c.args.self.now in
-    elim c.then-is_none.branch [
-      | then-is_none-via-then-is_none b ↦
-          let missed : is_some c.at.result ≡ false = search rules in
-          adds-none w.groups.places (λ g. names_at (parts w) g c.args.i) c.args.marks.now
-          (λ g. ap (names_from (parts w) g c.args.i) (sym c.at.ensures) ∙ names_nowhere (parts w) g c.args.i c.at.result missed)
-      | then-is_none-via-else-is_none+then-are_marked b ↦
-          adds-nothing w.groups c.args.self.now.placed_groups (λ g. names_at (parts w) g c.args.i) c.args.marks.now (b.are_marked.ensures b.if-are_marked.true)
-    ]
+    let missed : is_some c.at.result ≡ false = search rules in
+    adds-none w.groups.places (λ g. names_at (parts w) g c.args.i) c.args.marks.now
+    (λ g. ap (names_from (parts w) g c.args.i) (sym c.at.ensures) ∙ names_nowhere (parts w) g c.args.i c.at.result missed)

@@ -1,37 +1,34 @@
-use Rattle.std.proofs.Common.{◌≡◌, ◌-◌, ◌∙◌, suc, ap, arith, refl, subst}
-use Rattle.std.specs.Prelude.{◌||◌}
-use Rattle.std.specs.List.{list_any, range_with_len}
+use Rattle.std.proofs.Common.{◌≡◌, ◌∙◌, List, ap, refl, sym}
+use Rattle.std.specs.List.{list_any}
+use Rattle.std.proofs.lemmas.List.{take_all}
+use Rattle.std.proofs.lemmas.List.Folds.{list_any_more}
 use Rattle.lwc_base.specs.declared.key.Key.TheVariants.{Page}
-use Rattle.lwc_base.specs.Life.{is_in}
-use Rattle.lazy_world.specs.Reaping.{AddsMarks, is_name}
+use Rattle.range_map.specs.declared.segment.Segment.{Segment}
+use Rattle.lazy_world.specs.Reaping.{is_of}
 use Rattle.lazy_world.specs.Seen.{rights, rows}
-use Rattle.lazy_world.specs.States.{world_of}
-use Rattle.lazy_world.specs.Worlds.{parts, seen}
-use Rattle.lazy_world.proofs.MarkLemmas.{adds-more, adds-none, any_run, in-alike, name_of_cell}
+use Rattle.lazy_world.specs.Worlds.{parts}
+use Rattle.lazy_world.proofs.AddLemmas.{no_page}
+use Rattle.lazy_world.proofs.CommonPages.{named-pages}
+use Rattle.lazy_world.proofs.MarkLemmas.{adds-more, adds-none, adds-same}
 use Rattle.lazy_world.proofs.world.PlacedWorld.mark_pages.Goals as goal
 
-pub runs-init : goal.runs-init
-runs-init c = record { low = omega arith; marked = adds-none c.args.self.now.groups.places _ c.args.marks.now (λ g. refl) }
+pub loop-segment-init : goal.loop-segment-init
+loop-segment-init c = adds-none c.args.self.now.groups.places _ c.args.marks.now (λ g. refl)
 
-pub runs-preserved : goal.runs-preserved
-runs-preserved c =
-    let row = rows c.args.self.now.places c.args.i in
-    let right = rights c.args.self.now.places c.args.i in
-    let p = c.runs.p in
-    let e = c.min-p.result in
-    record {
-      low = omega (arith, c.min-p.ensures);
-      marked = adds-more c.args.self.now.groups.places _ _ _ _ _ _ c.runs.invariant.marked c.mark_group.ensures
-          (λ g.
-          ap (λ b. list_any (λ k. is_in g (row (Page k))) (range_with_len 0 p) || b)
-          (ap (λ o. is_name o g) c.page_group.ensures ∙ name_of_cell (row (Page p)) g)
-          ∙ any_run (λ k. is_in g (row (Page k))) p (e - suc p) e (omega (arith, c.min-p.ensures, c.run_at.ensures.past, c.runs-test.true))
-          (λ k low high. in-alike g (row (Page k)) (row (Page p)) (right k) (right p) (c.run_at.ensures.alike k low (omega (arith, c.min-p.ensures, high)))));
-    }
+pub loop-segment-preserved : goal.loop-segment-preserved
+loop-segment-preserved c =
+    adds-more c.args.self.now.groups.places _ _ _ _ _ _ c.loop-segment.invariant c.mark_kind.ensures
+    (λ g. sym (list_any_more (λ (s : Segment). is_of s.kind g) c.segments-segment-items.result.now c.loop-segment.segment-index _ c.loop-segment-test.true))
 
 pub returns : goal.returns
-unfolding seen parts world_of
+unfolding parts
 returns c =
-    let row = rows c.args.self.now.places c.args.i in
-    let last : c.runs.p ≡ c.args.self.now.size.pages = omega (arith, c.runs.invariant.low, c.runs-test.false, c.pages-pages.ensures.pages) in
-    subst (λ m. AddsMarks c.args.self.now.groups.places (λ g. list_any (λ k. is_in g (row (Page k))) (range_with_len 0 m)) c.args.marks.now c.runs.marks) last c.runs.invariant.marked
+    let w = c.args.self.now in
+    let row = rows w.places c.args.i in
+    let segments = c.segments-segment-items in
+    let all = take_all c.loop-segment.segment-index segments.result.now c.loop-segment-test.false in
+    adds-same w.groups.places _ _ _ _ c.loop-segment.invariant
+    (λ g.
+    ap (λ (xs : List Segment). list_any (λ (s : Segment). is_of s.kind g) xs) all
+    ∙ named-pages segments.result.now segments.ensures.canonical g w.size.pages (λ p. row (Page p)) (rights w.places c.args.i) (λ p e. segments.ensures.states e p)
+    (λ p past. no_page (row (Page p)) p (w.sound.past c.args.i (Page p) past)))

@@ -1,16 +1,8 @@
-use Rattle.std.proofs.Common.{◌≤◌, ◌-◌}
-use Rattle.std.specs.List.{list_any, range_with_len}
-use Rattle.lwc_base.specs.declared.key.Key.TheVariants.{Page}
-use Rattle.lwc_base.specs.Life.{is_in}
-use Rattle.lazy_world.specs.Reaping.{AddsMarks}
-use Rattle.lazy_world.specs.Seen.{rows}
+use Rattle.std.proofs.Common.{take}
+use Rattle.std.specs.List.{list_any}
+use Rattle.lazy_world.specs.Reaping.{AddsMarks, is_of}
 use Rattle.lazy_world.proofs.world.PlacedWorld.mark_pages.Given as goal
 
-abbrev pub invariant-runs : goal.invariant-runs
-invariant-runs l = record {
-  low : l.p ≤ l.pages;
-  marked : AddsMarks l.self.groups.places (λ g. list_any (λ k. is_in g (rows l.self.places l.i (Page k))) (range_with_len 0 l.p)) l.initial.marks l.marks;
-}
-
-abbrev pub decreases-runs : goal.decreases-runs
-decreases-runs l = l.pages - l.p
+abbrev pub invariant-loop-segment : goal.invariant-loop-segment
+invariant-loop-segment l =
+    AddsMarks l.self.groups.places (λ g. list_any (λ s. is_of s.kind g) (take l.segment-index l.segment-items)) l.initial.marks l.marks
