@@ -76,6 +76,21 @@ one_gift : (s : PageRun) (q : ℕ) (b : Bool) → is_between s.range.from s.rang
 one_gift s q true on = ap (λ c. option_map gift_of (cond c (Some s) None)) on
 one_gift s q false off = ap (λ c. option_map gift_of (cond c (Some s) None)) off
 
+-- one more item decides for the keys that no item before it names
+pub mode_one_more : (items : List Item) (i : ℕ) (d : Item) → i < length items → (k : Key) →
+    mode (take (i + 1) items) k ≡ option_or (mode (take i items) k) (cond (names (get_or items i d) k) (Some (get_or items i d).mode) None)
+unfolding mode
+mode_one_more items i d inside k =
+    ap (λ xs. option_map (λ (x : Item). x.mode) (find (λ x. names x k) xs)) (take_more items i d inside)
+    ∙ ap (option_map (λ (x : Item). x.mode)) (find-append (λ x. names x k) (take i items) (get_or items i d ∷ []))
+    ∙ at (find (λ x. names x k) (take i items)) (names (get_or items i d) k)
+  where
+    at : (o : Option Item) (b : Bool) →
+        option_map (λ (x : Item). x.mode) (option_or o (cond b (Some (get_or items i d)) None)) ≡ option_or (option_map (λ x. x.mode) o) (cond b (Some (get_or items i d).mode) None)
+    at None true = refl
+    at None false = refl
+    at (Some x) b = refl
+
 module _ (items : List Item) (pages : ℕ) (spec : IsSpec pages items) (i : ℕ) (d : Item) (inside : i < length items) (q : ℕ) where
   abbrev item : Item
   item = get_or items i d
@@ -96,18 +111,8 @@ module _ (items : List Item) (pages : ℕ) (spec : IsSpec pages items) (i : ℕ)
       let apart : overlaps x item ≡ false = ap (overlaps x) (get_or_default items i d e inside) ∙ spec.apart j i e low inside in
       ap (λ (y : Item). names y (Page q)) (get_or-take i items j e low) ∙ off_page x (names x (Page q)) refl here apart))
 
-  -- one more item decides for the pages that no item before it names
   mode_more : mode (take (i + 1) items) (Page q) ≡ option_or (mode (take i items) (Page q)) (cond (names item (Page q)) (Some item.mode) None)
-  unfolding mode
-  mode_more =
-      ap (λ xs. option_map (λ (x : Item). x.mode) (find (λ x. names x (Page q)) xs)) (take_more items i d inside)
-      ∙ ap (option_map (λ (x : Item). x.mode)) (find-append (λ x. names x (Page q)) (take i items) (item ∷ []))
-      ∙ at (find (λ x. names x (Page q)) (take i items)) (names item (Page q))
-    where
-      at : (o : Option Item) (b : Bool) → option_map (λ (x : Item). x.mode) (option_or o (cond b (Some item) None)) ≡ option_or (option_map (λ x. x.mode) o) (cond b (Some item.mode) None)
-      at None true = refl
-      at None false = refl
-      at (Some x) b = refl
+  mode_more = mode_one_more items i d inside (Page q)
 
   mode_named : names item (Page q) ≡ true → mode (take (i + 1) items) (Page q) ≡ Some item.mode
   mode_named here = mode_more ∙ (λ x. option_or (none_before here x) (cond (here x) (Some item.mode) None))

@@ -56,19 +56,14 @@ own-same : (w : World) (k : Key) (cell : Cell (ValueOf k)) → is_own cell ≡ t
 own-same w k (cells.Own value) own = refl
 own-same w k (cells.Common g) own = cc
 
--- without items a context is marked as it is
-pub marked-same : (w : World) (g : Name) (row old : Row) → transferred_row w (Mark g) [] row old ≡ row
-unfolding mode
-marked-same w g row old = λ e k. row k
-
--- and a copy of what is all own is the same
+-- a copy of what is all own is the same
 pub cloned-same : (w : World) (g : Name) (row old : Row) → IsAllOwn row → transferred_row w (Clone g) [] row old ≡ row
 unfolding mode
 cloned-same w g row old own = λ e k. own-same w k (row k) (own k) e
 
 -- with the rights that there are
-pub marked-rights : (g : Name) (row : Row) (right old : ℕ → Right) → transferred_rights (Mark g) [] row right old ≡ right
-marked-rights g row right old = λ e p. right p
+pub marked-rights : (g : Name) (items : List Item) (row : Row) (right old : ℕ → Right) → transferred_rights (Mark g) items row right old ≡ right
+marked-rights g items row right old = λ e p. right p
 
 pub cloned-rights : (g : Name) (row : Row) (right old : ℕ → Right) → transferred_rights (Clone g) [] row right old ≡ right
 unfolding mode

@@ -18,6 +18,7 @@ mod FoundLemmas
 mod GatherLemmas
 mod GroupLemmas
 mod HolderLemmas
+mod ItemLemmas
 mod ItselfLemmas
 mod KeyLemmas
 mod LeftLemmas

@@ -1,5 +1,5 @@
 -- Keys past those that there are: no item names them, and a place keeps what it has there.
-use Rattle.std.proofs.Common.{◌≡◌, ℕ, zero, suc, ◌+◌, ◌<◌, ◌≤◌, ⊎_elim, Bool, true, false, List, [], ◌∷◌, arith, get_or, get_or-set_other, length, set, leb, ltb, refl, sym, ap, subst, ◌∙◌, cond, Option, Some, None}
+use Rattle.std.proofs.Common.{◌≡◌, ℕ, zero, suc, ◌+◌, ◌<◌, ◌≤◌, ⊎_elim, Bool, true, false, List, [], ◌∷◌, arith, get_or, get_or-set_other, length, set, leb, ltb, refl, replicate, sym, ap, subst, ◌∙◌, cond, Option, Some, None}
 use Rattle.std.specs.Prelude.{◌&&◌, All, nat_le, nat_lt}
 use Rattle.std.specs.List.{find}
 use Rattle.std.specs.Option.{option_map}
@@ -79,6 +79,15 @@ slot-more P origins n m s inside before here below =
     (λ same. subst (λ i. P i (slot_origin (set origins n s) i)) (sym same) (subst (P n) (sym (get_or-set_same origins n s None inside)) here))
     (λ other. subst (P m) (sym (get_or-set_other origins n m s None other)) (before m (omega (arith, below, other))))
     (cases_eq m n)
+
+-- later ones stay
+pub slot-later : (origins : List (Option Origin)) (n m : ℕ) (s : Option Origin) → n + 1 ≤ m → slot_origin (set origins n s) m ≡ slot_origin origins m
+slot-later origins n m s past = get_or-set_other origins n m s None (λ same. omega (arith, same, past))
+
+pub no_origin : (count n : ℕ) → slot_origin (replicate count None) n ≡ None
+no_origin zero n = refl
+no_origin (suc count) zero = refl
+no_origin (suc count) (suc n) = no_origin count n
 
 pub no_slot_origin : (origins : List (Option Origin)) (n : ℕ) → length origins ≤ n → slot_origin origins n ≡ None
 no_slot_origin [] n past = refl

@@ -13,6 +13,7 @@ ghost use Rattle.lazy_world.specs.Transfers.{transferred_rights, transferred_row
 ghost use Rattle.lazy_world.specs.Seen.{count, frame_count, free_frames, free_nodes, node_steps, pool, rights, rows};
 
 use crate::places::Places;
+use crate::sharing::shares_nothing;
 use crate::transfer::Transfer;
 use crate::world::PlacedWorld;
 use cow_space::Origin;
@@ -100,8 +101,8 @@ impl Places {
 impl PlacedWorld {
     ghost use Rattle.lazy_world.specs.Worlds.{seen};
 
-    /// Whether a transfer gives all that a place has, as it is there: no item names a key, and what is copied
-    /// is the place's own.
+    /// Whether a transfer gives all that a place has, as it is there: nothing is shared where it marks what
+    /// is, or no item names a key, and what is copied is the place's own.
     pub(crate) fn gives_same(&self, transfer: Transfer, spec: &Spec, from: usize) -> bool
         requires { from < count self.now.places }
         ensures row { result ≡ true → (old : Row)
@@ -111,12 +112,11 @@ impl PlacedWorld {
             → transferred_rights transfer spec.now (rows self.now.places from) (rights self.now.places from)
             old ≡ rights self.now.places from }
     {
-        spec.items().is_empty()
-            && match transfer {
-                Transfer::Mark(_) => true,
-                Transfer::Clone(_) => self.places.is_all_own(from),
-                Transfer::Move | Transfer::Overlay(_) => false,
-            }
+        match transfer {
+            Transfer::Mark(_) => shares_nothing(spec),
+            Transfer::Clone(_) => spec.items().is_empty() && self.places.is_all_own(from),
+            Transfer::Move | Transfer::Overlay(_) => false,
+        }
     }
 
     /// Whether what a transfer gives the place `to` can be copied whole.

@@ -1,23 +1,25 @@
-ghost use Rattle.std.specs.Prelude.{◌≡◌, ◌≢◌, ◌==◌, ◌||◌, ◌<◌, ◌≤◌, ◌+◌, ◌*◌, ◌⊎◌, ℕ, All, IfSome, None, length, true};
+ghost use Rattle.std.specs.Prelude.{◌≡◌, ◌≢◌, ◌==◌, ◌||◌, ◌<◌, ◌≤◌, ◌+◌, ◌*◌, ◌⊎◌, ℕ, All, IfSome, None, false, length, true};
 ghost use Rattle.std.specs.List.{list_any};
 ghost use Rattle.std.specs.Option.{option_map};
 ghost use Rattle.lwc_base.specs.declared.descriptor.TheConstants.{SLOTS};
 ghost use Rattle.lwc_base.specs.declared.key.Key.TheVariants.{Page, Slot, Cred};
 ghost use Rattle.lwc_base.specs.declared.limits.TheConstants.{MOST_PAGES, MOST_RANGES};
-ghost use Rattle.lwc_base.specs.Modes.{IsItem, IsSpec, mode, names};
+ghost use Rattle.lwc_base.specs.Modes.{IsItem, IsSpec, mode, names, same_kind};
 ghost use Rattle.lwc_base.specs.declared.cell.Cell.{Cell};
 ghost use Rattle.lwc_base.specs.declared.key.Key.{Key};
+ghost use Rattle.lwc_base.specs.declared.key.Kind.TheVariants as kind;
 ghost use Rattle.lwc_base.specs.Keys.{ValueOf};
 ghost use Rattle.lazy_world.specs.Transfers.{kind_in, owner};
+ghost use Rattle.lazy_world.specs.declared.transfer.Transfer.{Transfer};
 
 use crate::pieces::{Origins, PageOrigins};
 use crate::transfer::{Found, Transfer};
 use crate::world::PlacedWorld;
 use arrayvec::ArrayVec;
 use cow_space::{Origin, PageRun};
+use fd_table::lowest_bit;
 use lwc_base::{
-    Cell, Item, Key, Kind, MOST_PAGE_RUNS, MOST_PAGES, PageNumber, Range, Right, SLOTS, SlotNumber,
-    Spec,
+    Cell, Item, Key, Kind, MOST_PAGE_RUNS, MOST_PAGES, PageNumber, Range, Right, SlotNumber, Spec,
 };
 use range_map::{PageState, SegmentKind, sooner_edge};
 use res_spec::mode_of;
@@ -54,6 +56,28 @@ pub(crate) fn mode_edge(spec: &Spec, p: PageNumber, edge: PageNumber) -> PageNum
     next
 }
 
+/// Whether an item names slots.
+fn is_of_slots(item: &Item) -> bool
+    ensures { result ≡ same_kind item.now.kind kind.Slot }
+{
+    match item.kind {
+        Kind::Slot => true,
+        Kind::Page | Kind::Cred => false,
+    }
+}
+
+/// Whether some item names slots.
+pub(crate) fn names_slots(spec: &Spec) -> bool
+    ensures { result ≡ false → (n : ℕ) → mode spec.now (Slot n) ≡ None }
+{
+    for item in spec.items() {
+        if is_of_slots(item) {
+            return true;
+        }
+    }
+    false
+}
+
 /// Who has the value of a cell.
 fn owner<T>(cell: &Cell<T>) -> SegmentKind
     ensures { result ≡ owner cell.now }
@@ -80,6 +104,7 @@ fn page_run_of(origin: Option<Origin>, range: Range, right: Option<Right>) -> Op
 
 impl PlacedWorld {
     ghost use Rattle.cow_space.specs.Changes.{IsPageRun};
+    ghost use Rattle.lwc_base.specs.Capabilities.{has_bit};
     ghost use Rattle.lwc_base.specs.declared.right.Right.{Right};
     ghost use Rattle.range_map.specs.Kinds.{kind_of, ranges, state_of};
     ghost use Rattle.lazy_world.specs.Cells.{states_of};
@@ -269,7 +294,22 @@ impl PlacedWorld {
         transfer.origin(mode_of(spec, Key::Slot(n)), found, from, to)
     }
 
-    /// The origin of each slot by a transfer.
+    /// The slots that a transfer may change: slot n is bit n. The others are empty in both places, and no
+    /// item names them.
+    fn changed_slots(&self, spec: &Spec, from: usize, to: usize) -> u64
+        requires from { from < count self.now.places }
+        requires to { to < count self.now.places }
+        ensures { (transfer : Transfer) (n : ℕ) → n < SLOTS → has_bit result n ≡ false
+            → Gives (count self.now.places) (rows self.now.places) to (Slot n)
+            (transferred self.now transfer spec.now from to (Slot n)) None }
+    {
+        if names_slots(spec) {
+            return u64::MAX;
+        }
+        self.places.filled(from) | self.places.filled(to)
+    }
+
+    /// The origin of each slot by a transfer. Mostly few slots are filled, and the others are passed over.
     pub(crate) fn slot_origins(
         &self,
         transfer: Transfer,
@@ -278,13 +318,17 @@ impl PlacedWorld {
         to: usize,
     ) -> [Option<Origin>; 64]
         requires from { from < count self.now.places }
+        requires to { to < count self.now.places }
         requires transfer { IsFor (parts self.now).size.contexts from to transfer }
         ensures { (n : ℕ) → n < SLOTS → Gives (count self.now.places) (rows self.now.places) to (Slot n)
             (transferred self.now transfer spec.now from to (Slot n)) (slot_origin result n) }
     {
         let mut origins = [None; 64];
-        for n in 0..SLOTS {
+        let changed = self.changed_slots(spec, from, to);
+        let mut next = 0;
+        'slots: while let Some(n) = lowest_bit(changed, next) {
             origins[n as usize] = self.slot_origin(transfer, spec, from, to, n);
+            next = n + 1;
         }
         origins
     }
@@ -340,6 +384,7 @@ impl PlacedWorld {
     /// Where the place `to` gets its cells and rights by a transfer from what the place `from` has.
     pub(crate) fn origins(&self, transfer: Transfer, spec: &Spec, from: usize, to: usize) -> Origins
         requires from { from < count self.now.places }
+        requires to { to < count self.now.places }
         requires transfer { IsFor (parts self.now).size.contexts from to transfer }
         requires within { IsSpec (seen self.now).size.pages spec.now }
         ensures row { origin_row (rows self.now.places) to result

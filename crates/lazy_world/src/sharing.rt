@@ -1,16 +1,37 @@
-ghost use Rattle.std.specs.Prelude.{◌≡◌, ◌<◌, ◌≤◌, ◌+◌, ◌*◌, ◌^◌, ℕ, false, true};
+ghost use Rattle.std.specs.Prelude.{◌≡◌, ◌≢◌, ◌<◌, ◌≤◌, ◌+◌, ◌*◌, ◌^◌, ℕ, Some, false, true};
 ghost use Rattle.lwc_base.specs.declared.descriptor.TheConstants.{SLOTS};
+ghost use Rattle.lwc_base.specs.declared.item.Mode.TheVariants.{Share};
+ghost use Rattle.lwc_base.specs.declared.key.Key.{Key};
 ghost use Rattle.lwc_base.specs.declared.key.Key.TheVariants.{Page, Slot, Cred};
 ghost use Rattle.lwc_base.specs.declared.limits.TheConstants.{MOST_PAGES, MOST_RANGES};
-ghost use Rattle.lwc_base.specs.Modes.{IsSpec};
+ghost use Rattle.lwc_base.specs.Modes.{IsSpec, mode};
 ghost use Rattle.lazy_world.specs.Transfers.{moves};
 
 use crate::counts::Counts;
-use crate::ranges::mode_edge;
+use crate::ranges::{mode_edge, names_slots};
 use crate::transfer::Transfer;
 use crate::world::PlacedWorld;
-use lwc_base::{Cell, Key, MOST_PAGES, NOBODY, Name, PageNumber, SLOTS, Spec};
+use lwc_base::{Cell, Item, Key, MOST_PAGES, Mode, NOBODY, Name, PageNumber, SLOTS, Spec};
 use res_spec::mode_of;
+
+/// Whether an item shares what it names.
+fn is_share(item: &Item) -> bool
+    ensures { result ≡ false → item.now.mode ≢ Share }
+{
+    item.mode == Mode::Share
+}
+
+/// Whether no item shares what it names, so that no value moves.
+pub(crate) fn shares_nothing(spec: &Spec) -> bool
+    ensures { result ≡ true → (k : Key) → mode spec.now k ≢ Some Share }
+{
+    for item in spec.items() {
+        if is_share(item) {
+            return false;
+        }
+    }
+    true
+}
 
 impl PlacedWorld {
     ghost use Rattle.lwc_base.specs.Sharing.{moved_values, needs_group, share};
@@ -55,6 +76,9 @@ impl PlacedWorld {
         ensures none { result ≡ false → (n : ℕ) → n < SLOTS
             → moves spec.now (Slot n) (rows self.now.places i) ≡ false }
     {
+        if !names_slots(spec) {
+            return false;
+        }
         for n in 0..SLOTS {
             if self.found_slot(i, n).moves(mode_of(spec, Key::Slot(n))) {
                 return true;
@@ -78,7 +102,7 @@ impl PlacedWorld {
         requires within { IsSpec (seen self.now).size.pages spec.now }
         ensures value { result ≡ needs_group (seen self.now) c spec.now }
     {
-        if spec.items().is_empty() {
+        if shares_nothing(spec) {
             return false;
         }
         let i = self.place(c);

@@ -9,6 +9,10 @@ use Rattle.lazy_world.specs.declared.transfer.Transfer.TheVariants.{Clone}
 use Rattle.lazy_world.proofs.PastLemmas.{transferred-past, origin-transferred}
 use Rattle.lazy_world.proofs.world.PlacedWorld.clone_origins.Goals as goal
 
+pub slot_origins-requires-clause-to : goal.slot_origins-requires-clause-to
+unfolding parts
+slot_origins-requires-clause-to c = omega (arith, c.requires.to, c.args.self.now.count)
+
 pub returns-clause-row : goal.returns-clause-row
 unfolding seen world_of parts
 returns-clause-row c =

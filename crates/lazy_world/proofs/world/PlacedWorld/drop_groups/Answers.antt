@@ -36,7 +36,7 @@ returns-then-first_unmarked-len c =
     let w = c.args.self.now in
     let marks = c.named_groups-marks.result in
     let all = each_name w.groups.map marks (fm.len w.groups.map)
-        (λ n g j low at found. c.first_unmarked.ensures n (omega arith) (omega (arith, low, c.len-2.ensures, c.if-first_unmarked-len.true)) g j at found) refl in
+    (λ n g j low at found. c.first_unmarked.ensures n (omega arith) (omega (arith, low, c.len-2.ensures, c.if-first_unmarked-len.true)) g j at found) refl in
     λ e. record (seen w) {
       groups = nothing_lost (seen w).groups (λ g. list_any (names_group (seen w).size.pages g) (fm.values (seen w).contexts))
           (λ g x is.

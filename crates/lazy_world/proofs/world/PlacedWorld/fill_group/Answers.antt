@@ -25,6 +25,9 @@ pub origins-origins-requires-clause-transfer : goal.origins-origins-requires-cla
 unfolding parts
 origins-origins-requires-clause-transfer c = λ same. absurd (let low = c.place-from.ensures.low in omega (arith, low, same))
 
+pub origins-origins-requires-clause-to : goal.origins-origins-requires-clause-to
+origins-origins-requires-clause-to c = omega (arith, c.in-Some.ensures.within, c.args.self.now.sound.sizes.groups, c.args.self.now.count)
+
 pub take-requires-clause-place : goal.take-requires-clause-place
 take-requires-clause-place c = omega (arith, c.in-Some.ensures.within, c.args.self.now.sound.sizes.groups, c.args.self.now.count)
 

@@ -2,19 +2,19 @@ use Rattle.std.proofs.Common.{◌∙◌}
 use Rattle.lazy_world.specs.Transfers.{transferred_rights, transferred_row}
 use Rattle.lazy_world.specs.Seen.{rights, rows}
 use Rattle.lazy_world.specs.Worlds.{parts, seen}
-use Rattle.lazy_world.proofs.CopyLemmas.{all-own, cloned-rights, cloned-same, marked-rights, marked-same, no-items}
+use Rattle.lazy_world.proofs.CopyLemmas.{all-own, cloned-rights, cloned-same, marked-rights, no-items}
+use Rattle.lazy_world.proofs.ItemLemmas.{unshared-same}
 use Rattle.lazy_world.proofs.world.PlacedWorld.gives_same.Goals as goal
 
 pub returns-in-Mark-clause-row : goal.returns-in-Mark-clause-row
-returns-in-Mark-clause-row c _ old =
+returns-in-Mark-clause-row c nothing old =
     let w = c.args.self.now in
-    let none = no-items c.items.result.now c.args.spec.now c.is_empty.result c.items.ensures.items c.is_empty.ensures c.if-is_empty.true in
-    (λ e. transferred_row (seen w) (c.in-Mark.is e) (none e) (rows w.places c.args.from) old)
-    ∙ marked-same (seen w) c.in-Mark.field-0 (rows w.places c.args.from) old
+    (λ e. transferred_row (seen w) (c.in-Mark.is e) c.args.spec.now (rows w.places c.args.from) old)
+    ∙ unshared-same (seen w) c.in-Mark.field-0 c.args.spec.now (rows w.places c.args.from) old (c.shares_nothing.ensures nothing)
 
-pub returns-in-Clone-clause-row : goal.returns-in-Clone-clause-row
+pub returns-then-is_empty-clause-row : goal.returns-then-is_empty-clause-row
 unfolding parts
-returns-in-Clone-clause-row c here old =
+returns-then-is_empty-clause-row c here old =
     let w = c.args.self.now in
     let none = no-items c.items.result.now c.args.spec.now c.is_empty.result c.items.ensures.items c.is_empty.ensures c.if-is_empty.true in
     let own = c.is_all_own.ensures in
@@ -25,12 +25,11 @@ returns-in-Clone-clause-row c here old =
 pub returns-in-Mark-clause-rights : goal.returns-in-Mark-clause-rights
 returns-in-Mark-clause-rights c _ old =
     let w = c.args.self.now in
-    let none = no-items c.items.result.now c.args.spec.now c.is_empty.result c.items.ensures.items c.is_empty.ensures c.if-is_empty.true in
-    (λ e. transferred_rights (c.in-Mark.is e) (none e) (rows w.places c.args.from) (rights w.places c.args.from) old)
-    ∙ marked-rights c.in-Mark.field-0 (rows w.places c.args.from) (rights w.places c.args.from) old
+    (λ e. transferred_rights (c.in-Mark.is e) c.args.spec.now (rows w.places c.args.from) (rights w.places c.args.from) old)
+    ∙ marked-rights c.in-Mark.field-0 c.args.spec.now (rows w.places c.args.from) (rights w.places c.args.from) old
 
-pub returns-in-Clone-clause-rights : goal.returns-in-Clone-clause-rights
-returns-in-Clone-clause-rights c here old =
+pub returns-then-is_empty-clause-rights : goal.returns-then-is_empty-clause-rights
+returns-then-is_empty-clause-rights c here old =
     let w = c.args.self.now in
     let none = no-items c.items.result.now c.args.spec.now c.is_empty.result c.items.ensures.items c.is_empty.ensures c.if-is_empty.true in
     (λ e. transferred_rights (c.in-Clone.is e) (none e) (rows w.places c.args.from) (rights w.places c.args.from) old)

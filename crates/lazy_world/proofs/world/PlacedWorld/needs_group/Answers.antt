@@ -4,8 +4,7 @@ use Rattle.lwc_base.specs.World.{Context, context}
 use Rattle.lazy_world.specs.Seen.{rows}
 use Rattle.lazy_world.specs.States.{world_of}
 use Rattle.lazy_world.specs.Worlds.{parts, seen}
-use Rattle.lwc_base.specs.Sharing.{needs_group}
-use Rattle.lazy_world.proofs.CopyLemmas.{no-items, none-needed}
+use Rattle.lazy_world.proofs.ItemLemmas.{none-shared}
 use Rattle.lazy_world.proofs.NeedLemmas.{needs-key, needs-none, needs-page}
 use Rattle.lazy_world.proofs.world.PlacedWorld.needs_group.Goals as goal
 
@@ -41,8 +40,5 @@ returns c =
           (λ is. needs-none (seen w) c.args.c c.args.spec.now row here w.sound.sizes.size.pages.1 (c.moves_page.ensures.none c.if-moves_page.false) (c.moves_slot.ensures.none c.if-moves_slot.false) is);
     }
 
-pub returns-then-is_empty : goal.returns-then-is_empty
-returns-then-is_empty c =
-    let w = seen c.args.self.now in
-    let none = no-items c.items.result.now c.args.spec.now c.is_empty.result c.items.ensures.items c.is_empty.ensures c.if-is_empty.true in
-    record { value = sym (ap (needs_group w c.args.c) none ∙ none-needed w c.args.c) }
+pub returns-then-shares_nothing : goal.returns-then-shares_nothing
+returns-then-shares_nothing c = record { value = sym (none-shared (seen c.args.self.now) c.args.c c.args.spec.now (c.shares_nothing.ensures c.if-shares_nothing.true)) }

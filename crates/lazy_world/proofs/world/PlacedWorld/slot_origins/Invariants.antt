@@ -1,4 +1,4 @@
-use Rattle.std.proofs.Common.{◌≡◌, ℕ, ◌<◌, length}
+use Rattle.std.proofs.Common.{◌≡◌, ℕ, ◌-◌, ◌<◌, ◌≤◌, length, None}
 use Rattle.lwc_base.specs.declared.key.Key.TheVariants.{Slot}
 use Rattle.lazy_world.specs.Transfers.{Gives, transferred_row}
 use Rattle.lazy_world.specs.Seen.{count, rows}
@@ -6,9 +6,14 @@ use Rattle.lazy_world.specs.Origins.{slot_origin}
 use Rattle.lazy_world.specs.Worlds.{seen}
 use Rattle.lazy_world.proofs.world.PlacedWorld.slot_origins.Given as goal
 
-abbrev pub invariant-loop-n : goal.invariant-loop-n
-invariant-loop-n l = record {
+abbrev pub invariant-slots : goal.invariant-slots
+invariant-slots l = record {
+  below : l.next ≤ 64;
   long : length l.origins ≡ 64;
-  each : (m : ℕ) → m < l.n → Gives (count l.self.places) (rows l.self.places) l.to (Slot m)
+  each : (m : ℕ) → m < l.next → Gives (count l.self.places) (rows l.self.places) l.to (Slot m)
       (transferred_row (seen l.self) l.transfer l.spec (rows l.self.places l.from) (rows l.self.places l.to) (Slot m)) (slot_origin l.origins m);
+  later : (m : ℕ) → l.next ≤ m → slot_origin l.origins m ≡ None;
 }
+
+abbrev pub decreases-slots : goal.decreases-slots
+decreases-slots l = 64 - l.next

@@ -1,0 +1,92 @@
+-- Items that share nothing, and items that name no slot.
+use Rattle.std.proofs.Common.{◌≡◌, ◌≢◌, ℕ, ◌+◌, ◌<◌, ◌∙◌, Bool, true, false, cond, List, get_or, length, take, refl, sym, ap, arith, Option, Some, None}
+use Rattle.std.specs.Prelude.{◌&&◌, ◌||◌, nat_le, nat_lt, not, unwrap_or}
+use Rattle.std.specs.Int.Bits.{bit_or}
+use Rattle.std.specs.Option.{option_or}
+use Rattle.std.proofs.lemmas.Bool.{false≢true}
+use Rattle.lwc_base.specs.declared.cell.Cell.{Cell}
+use Rattle.lwc_base.specs.declared.cell.Cell.TheVariants.{Own}
+use Rattle.lwc_base.specs.declared.descriptor.Descriptor.TheVariants.{Empty}
+use Rattle.lwc_base.specs.declared.item.Item.{Item}
+use Rattle.lwc_base.specs.declared.item.Mode.{Mode}
+use Rattle.lwc_base.specs.declared.item.Mode.TheVariants.{Copy, Share, Unmap, CopyRead}
+use Rattle.lwc_base.specs.declared.key.Key.{Key}
+use Rattle.lwc_base.specs.declared.key.Key.TheVariants.{Slot}
+use Rattle.lwc_base.specs.declared.key.Kind.TheVariants as kind
+use Rattle.lwc_base.specs.declared.name.Name.{Name}
+use Rattle.lwc_base.specs.Capabilities.{has_bit}
+use Rattle.lwc_base.specs.Keys.{ValueOf}
+use Rattle.lwc_base.specs.Modes.{mode, mode_or_copy, names, same_kind}
+use Rattle.lwc_base.specs.Sharing.{needs_group, shared_cell}
+use Rattle.lwc_base.specs.World.{World}
+use Rattle.fd_table.specs.Slots as slots
+use Rattle.access_cap.proofs.Bits.{has_bit-or}
+use Rattle.lazy_world.specs.Cells.{Row}
+use Rattle.lazy_world.specs.Transfers.{Gives, transferred_cell, transferred_row}
+use Rattle.lazy_world.specs.declared.transfer.Transfer.{Transfer}
+use Rattle.lazy_world.specs.declared.transfer.Transfer.TheVariants.{Mark, Move, Clone, Overlay}
+use Rattle.lazy_world.proofs.AddLemmas.{no_slot}
+use Rattle.lazy_world.proofs.CloneOrigins.{mode_one_more}
+use Rattle.lazy_world.proofs.NeedLemmas.{as_mode}
+use Rattle.lwc_base.proofs.Needs.{not_needed}
+
+module _ (items : List Item) (i : ℕ) (d : Item) (inside : i < length items) where
+  abbrev item : Item
+  item = get_or items i d
+
+  -- an item that does not share leaves nothing shared
+  pub still_unshared : (k : Key) → item.mode ≢ Share → mode (take i items) k ≢ Some Share → mode (take (i + 1) items) k ≢ Some Share
+  still_unshared k other none is = at (mode (take i items) k) (names item k) none (sym (mode_one_more items i d inside k) ∙ is)
+    where
+      at : (o : Option Mode) (b : Bool) → o ≢ Some Share → option_or o (cond b (Some item.mode) None) ≡ Some Share → ⊥
+      at None true never is = other (let e : item.mode ≡ Share = cc in e)
+      at None false never is = never is
+      at (Some m) b never is = never is
+
+  -- an item of another kind names no slot
+  pub still_unnamed : (n : ℕ) → same_kind item.kind kind.Slot ≡ false → mode (take i items) (Slot n) ≡ None → mode (take (i + 1) items) (Slot n) ≡ None
+  still_unnamed n other none =
+      let off : names item (Slot n) ≡ false = ap (λ b. b && nat_le item.from n && nat_lt n item.to) other in
+      mode_one_more items i d inside (Slot n) ∙ (λ x. option_or (none x) (cond (off x) (Some item.mode) None))
+
+share_mode : (o : Option Mode) → unwrap_or o Copy ≡ Share → o ≡ Some Share
+share_mode None is = cc
+share_mode (Some m) is = ap Some is
+
+-- where nothing is shared no group is needed
+pub none-shared : (w : World) (c : Name) (items : List Item) → ((k : Key) → mode items k ≢ Some Share) → needs_group w c items ≡ false
+none-shared w c items none = not_needed w c items (λ k inside is. absurd (none k (share_mode (mode items k) (sym (as_mode items k) ∙ is))))
+
+unshared : (g : Name) (m : Option Mode) → m ≢ Some Share → (k : Key) (cell : Cell (ValueOf k)) → shared_cell g (unwrap_or m Copy) k cell ≡ cell
+unshared g None never k cell = refl
+unshared g (Some Copy) never k cell = refl
+unshared g (Some Share) never k cell = absurd (never refl)
+unshared g (Some Unmap) never k cell = refl
+unshared g (Some CopyRead) never k cell = refl
+
+-- and a context is marked as it is
+pub unshared-same : (w : World) (g : Name) (items : List Item) (row old : Row) → ((k : Key) → mode items k ≢ Some Share) → transferred_row w (Mark g) items row old ≡ row
+unshared-same w g items row old none = λ e k. unshared g (mode items k) (none k) k (row k) e
+
+nothing_transferred : (w : World) (transfer : Transfer) (n : ℕ) → transferred_cell w transfer None (Slot n) (Own Empty) (Own Empty) ≡ Own Empty
+nothing_transferred w (Mark g) n = refl
+nothing_transferred w Move n = refl
+nothing_transferred w (Clone g) n = refl
+nothing_transferred w (Overlay g) n = refl
+
+unfilled : (cell : _) (n : ℕ) (b : Bool) → b ≡ slots.is_filled cell → b ≡ false → cell ≡ Own Empty
+unfilled cell n b is off = no_slot cell n (ap not (sym is ∙ off))
+
+neither : (a b : Bool) → (a || b) ≡ false → (a ≡ false) × (b ≡ false)
+neither true b is = absurd (false≢true (sym is))
+neither false b is = (refl, is)
+
+-- a slot that neither place has filled, and that no item names, is as it was
+pub slot_stays : (w : World) (count : ℕ) (rows : ℕ → Row) (items : List Item) (transfer : Transfer) (from to n a b : ℕ) → mode items (Slot n) ≡ None →
+    has_bit a n ≡ slots.is_filled (rows from (Slot n)) → has_bit b n ≡ slots.is_filled (rows to (Slot n)) → has_bit (bit_or a b) n ≡ false →
+    Gives count rows to (Slot n) (transferred_row w transfer items (rows from) (rows to) (Slot n)) None
+slot_stays w count rows items transfer from to n a b none here there off =
+    let both = neither (has_bit a n) (has_bit b n) (sym (has_bit-or a b n) ∙ off) in
+    let empty = unfilled (rows from (Slot n)) n (has_bit a n) here both.0 in
+    let old = unfilled (rows to (Slot n)) n (has_bit b n) there both.1 in
+    record { cell = old ∙ sym ((λ e. transferred_cell w transfer (none e) (Slot n) (empty e) (old e)) ∙ nothing_transferred w transfer n); can = tt }
