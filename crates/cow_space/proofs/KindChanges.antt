@@ -16,6 +16,7 @@ use Rattle.range_map.proofs.Ranges.{absent_tail, begins_where, one_piece, ranges
 use Rattle.lwc_base.specs.declared.range.Range.{Range}
 use Rattle.cow_space.specs.declared.page_runs.PageRun.{PageRun}
 use Rattle.cow_space.specs.Changes.{have_page, page_run_at}
+use Rattle.cow_space.specs.Maps.{put_range}
 
 -- one more page run is no other one at two pages of which it has both or none
 pub page_run_more : (page_runs : List PageRun) (i : ℕ) (d : PageRun) (q p : ℕ) → i < length page_runs → page_run_at (take i page_runs) q ≡ page_run_at (take i page_runs) p →
@@ -45,13 +46,6 @@ unfolding state_at
 none-below after = record { done = λ q low. absurd (omega (arith, low)); rest = λ q _. refl }
 
 module _ (after : ℕ → Option PageState) (p e : ℕ) (segments : List Segment) (past : p < e) (within : e ≤ MOST_PAGES) (have : HaveBelow p after segments) where
-  -- further pages are absent
-  pub more-absent : ((q : ℕ) → p ≤ q → q < e → after q ≡ None) → HaveBelow e after segments
-  more-absent none = record {
-    done = λ q high. ⊎_elim (λ low. have.done q low) (λ low. have.rest q low ∙ sym (none q low high)) (cases_lt q p);
-    rest = λ q low. have.rest q (omega (arith, low, past));
-  }
-
   -- further pages are of one state: with it they have no more ranges than all pages
   module _ (state : PageState) (gets : (q : ℕ) → p ≤ q → q < e → after q ≡ Some state) where
     below : (q : ℕ) → q < e → put_state (state_at segments) p e state q ≡ after q
@@ -71,6 +65,26 @@ module _ (after : ℕ → Option PageState) (p e : ℕ) (segments : List Segment
 
     pub more-present : (now : List Segment) → ((q : ℕ) → state_at now q ≡ put_state (state_at segments) p e state q) → HaveBelow e after now
     more-present now is = record { done = λ q high. is q ∙ below q high; rest = λ q low. is q ∙ past-none q low }
+
+  -- further pages get other states, by a page run
+  module _ (gives : ℕ → Option PageState) (states : (q : ℕ) → p ≤ q → q < e → after q ≡ gives q) (from : ℕ) (from_is : from ≡ p) where
+    stretch-below : (q : ℕ) → q < e → put_range (state_at segments) from e gives q ≡ after q
+    stretch-below q high = ⊎_elim
+        (λ low. ap (λ b. cond b (gives q) (state_at segments q)) (not_between from e q (inl (omega (arith, low, from_is)))) ∙ have.done q low)
+        (λ low. ap (λ b. cond b (gives q) (state_at segments q)) (between from e q (omega (arith, low, from_is)) high) ∙ sym (states q low high))
+        (cases_lt q p)
+
+    stretch-none : (q : ℕ) → e ≤ q → put_range (state_at segments) from e gives q ≡ None
+    stretch-none q low = ap (λ b. cond b (gives q) (state_at segments q)) (not_between from e q (inr low)) ∙ have.rest q (omega (arith, low, past))
+
+    pub stretch-few : ranges MOST_PAGES (put_range (state_at segments) from e gives) ≤ ranges MOST_PAGES after
+    stretch-few =
+        let short = absent_tail (put_range (state_at segments) from e gives) e (MOST_PAGES - e) MOST_PAGES (omega (arith, within)) (λ q low _. stretch-none q low) in
+        let same = ranges_same (put_range (state_at segments) from e gives) after e stretch-below in
+        omega (arith, short, same, ranges_grow after e (MOST_PAGES - e) MOST_PAGES (omega (arith, within)))
+
+    pub stretch-more : (now : List Segment) → ((q : ℕ) → state_at now q ≡ put_range (state_at segments) from e gives q) → HaveBelow e after now
+    stretch-more now is = record { done = λ q high. is q ∙ stretch-below q high; rest = λ q low. is q ∙ stretch-none q low }
 
 -- the ranges of further pages of one state: one begins where the page before has another state
 pub piece-counts : (after : ℕ → Option PageState) (p e : ℕ) (last state : Option PageState) → p < e → (p ≡ 0 → last ≡ None) → ((k : ℕ) → p ≡ suc k → last ≡ after k) →

@@ -6,9 +6,11 @@ pub mod KindChanges
 pub mod Lists
 pub mod OwnPages
 mod OwnTags
+mod PartLemmas
 pub mod PieceLemmas
 pub mod Places
 mod RowViews
+mod Stretches
 pub mod TagLemmas
 pub mod Taken
 pub mod Trees

@@ -1,6 +1,8 @@
 -- The cells and the rights of a place once page runs of its pages have changed.
-use Rattle.std.specs.Prelude.{◌==◌, ◌||◌, ◌≢◌, ◌<◌, ◌≤◌, if◌then◌else◌, ℕ, Bool, List, Option, None, Some, unwrap_or}
+use Rattle.std.specs.Prelude.{◌==◌, ◌&&◌, ◌||◌, ◌≢◌, ◌<◌, ◌≤◌, if◌then◌else◌, ℕ, Bool, List, Option}
+use Rattle.std.specs.Prelude.{None, Some, is_some, not, unwrap_or}
 use Rattle.std.specs.List.{find, list_any}
+use Rattle.std.specs.Option.{option_eq, option_map}
 use Rattle.lwc_base.specs.declared.cell.Cell.{Cell}
 use Rattle.lwc_base.specs.declared.cell.Cell.TheVariants as cell
 use Rattle.lwc_base.specs.declared.limits.TheConstants.{MOST_PAGES}
@@ -8,8 +10,10 @@ use Rattle.lwc_base.specs.declared.page.PageValue.{PageValue}
 use Rattle.lwc_base.specs.declared.page.PageValue.TheVariants as value
 use Rattle.lwc_base.specs.declared.right.Right.{Right}
 use Rattle.lwc_base.specs.declared.right.Right.TheVariants.{Write, Read}
-use Rattle.range_map.specs.Kinds.{is_between, kind_of, state_of}
+use Rattle.range_map.specs.Kinds.{is_between, kind_of, state_at, state_of}
+use Rattle.range_map.specs.contracts.segment.PageStatePartialEq.TheImpl.{eq-value}
 use Rattle.range_map.specs.declared.segment.PageState.{PageState}
+use Rattle.range_map.specs.declared.segment.Segment.{Segment}
 use Rattle.cow_space.specs.declared.page_runs.Origin.{Origin}
 use Rattle.cow_space.specs.declared.page_runs.Origin.TheVariants.{Absent, Zeros, Common, CopyOf}
 use Rattle.lwc_base.specs.declared.range.Range.{Range}
@@ -69,15 +73,27 @@ abbrev pub changed_states : List Place → List (ℕ → Right) → ℕ → List
 changed_states cells rights i page_runs reads =
     states_of (changed_place cells i page_runs) (changed_rights cells rights i page_runs reads)
 
+-- the states that a page run gives its pages
+abbrev pub given_states : List Place → List (ℕ → Right) → PageRun → ℕ → Option PageState
+given_states cells rights page_run p =
+    state_of (kind_of (origin_cell cells page_run.origin p))
+    (unwrap_or page_run.right (origin_right rights page_run.origin p))
+
+-- a state with another right, where one is given
+abbrev pub with_right : Option Right → PageState → PageState
+with_right right state = record { kind = state.kind; right = unwrap_or right state.right }
+
+-- the states of the pages of segments, with another right where one is given
+unfoldable pub states_with : List Segment → Option Right → ℕ → Option PageState
+states_with segments right p = option_map (with_right right) (state_at segments p)
+
+-- 1 where a range begins at a page of a state, after one of another state
+abbrev pub begun : Option PageState → Option PageState → ℕ
+begun before state = if is_some state && not (option_eq eq-value.it before state) then 1 else 0
+
 -- whether a range begins or ends at a page
 abbrev pub is_range_edge : List Range → ℕ → Bool
 is_range_edge ranges p = list_any (λ r. (r.from == p) || (r.to == p)) ranges
-
--- in some place a page has another state than an earlier one
-abbrev pub TurnsAt : List Place → List (ℕ → Right) → ℕ → ℕ → Type 0
-TurnsAt cells rights p q =
-    (j : ℕ) × (states_of (place_of cells j) (rights_of rights j) q
-    ≢ states_of (place_of cells j) (rights_of rights j) p)
 
 -- an origin is another one of this number of places, or no place
 abbrev pub IsApart : ℕ → ℕ → Origin → Type 0

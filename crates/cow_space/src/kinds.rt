@@ -1,20 +1,24 @@
-ghost use Rattle.std.specs.Prelude.{◌≡◌, ◌<◌, ◌≤◌, ◌⊎◌, if◌then◌else◌, ℕ, true, false, [], None, All, length};
-ghost use Rattle.std.specs.Prelude.{unwrap_or};
-ghost use Rattle.std.specs.Option.{option_copied, option_map};
+ghost use Rattle.std.specs.Prelude.{◌≡◌, ◌<◌, ◌≤◌, ◌+◌, ◌⊎◌, if◌then◌else◌, ℕ, suc, true, false, []};
+ghost use Rattle.std.specs.Prelude.{All, List, None, Option, Some, length, unwrap_or};
+ghost use Rattle.std.specs.Option.{option_copied};
 ghost use Rattle.lwc_base.specs.declared.limits.TheConstants.{MOST_PAGES, MOST_RANGES};
-ghost use Rattle.lwc_base.specs.declared.right.Right.TheVariants.{Read};
-ghost use Rattle.range_map.specs.Kinds.{given, kind_of, ranges, state_at, state_of};
+ghost use Rattle.lwc_base.specs.declared.right.Right.{Right};
+ghost use Rattle.lwc_base.specs.declared.right.Right.TheVariants.{Read, Write};
+ghost use Rattle.range_map.specs.Kinds.{ranges, state_at};
+ghost use Rattle.range_map.specs.declared.segment.PageState.{PageState};
 ghost use Rattle.cow_space.specs.Kept.{HasNoOwnPage, has_own};
-ghost use Rattle.cow_space.specs.Cells.{place_of, rights_of, states_of};
+ghost use Rattle.cow_space.specs.Cells.{Place};
 ghost use Rattle.cow_space.specs.Changes as spec;
-ghost use Rattle.cow_space.specs.Changes.{IsPageRun, changed_states, is_edge, origin_cell, origin_right};
+ghost use Rattle.cow_space.specs.Changes.{IsPageRun, begun, changed_states, given_states, is_edge};
+ghost use Rattle.cow_space.specs.Maps.{put_range};
 ghost use Rattle.cow_space.specs.declared.page_runs.Origin.TheVariants.{CopyOf};
 ghost use Rattle.cow_space.specs.Seen.{cells, rights};
 
 use crate::cells::PageCells;
 use crate::page_runs::{Origin, PageRun};
+use crate::parts::{append_part, begun, count_part};
 use lwc_base::{MOST_PAGES, PageNumber, Range, Right};
-use range_map::{Change, PageState, RangeMap, Segment, SegmentKind, sooner_edge};
+use range_map::{PageState, RangeMap, Segment, SegmentKind, sooner_edge};
 
 /// The first page run that has a page.
 pub(crate) fn page_run_at(page_runs: &[PageRun], p: PageNumber) -> Option<&PageRun>
@@ -37,13 +41,6 @@ pub(crate) fn page_run_edge(page_runs: &[PageRun], p: PageNumber) -> PageNumber
         edge = sooner_edge(page_run.range.from, page_run.range.to, p, edge);
     }
     edge
-}
-
-/// The kind in a state; `None` where there is no state.
-fn kind_of(state: Option<PageState>) -> Option<SegmentKind>
-    ensures { result ≡ option_map (λ s. s.kind) state }
-{
-    state.map(|state| state.kind)
 }
 
 /// Whether ranges have a page.
@@ -87,119 +84,125 @@ pub(crate) fn has_own_page(kinds: &RangeMap) -> bool
     has_own(kinds.segments())
 }
 
-impl PageCells {
-    /// The right that a page gets by a page run, or `Read`, if it is present then.
-    fn right_given(&self, page_run: &PageRun, read: bool, p: PageNumber) -> Right
-        requires { (j : ℕ) → page_run.now.origin ≡ CopyOf j → j < length (cells self.now) }
-        ensures { result
-            ≡ (if read then Read
-            else unwrap_or page_run.now.right (origin_right (rights self.now) page_run.now.origin p)) }
-    {
-        if read {
-            return Right::Read;
-        }
-        match (page_run.right, page_run.origin) {
-            (Some(right), _) => right,
-            (None, Origin::CopyOf(j)) => self.right(j, p),
-            (None, Origin::Absent | Origin::Zeros | Origin::Common(_)) => Right::Write,
-        }
-    }
+/// The right of a page run, or `Read` where the pages may only be read.
+fn right_given(right: Option<Right>, read: bool) -> Option<Right>
+    ensures { result ≡ (if read then Some Read else right) }
+{
+    if read { Some(Right::Read) } else { right }
+}
 
-    /// The change that a page run makes of a page and of later ones, up to an edge at the most; they all get
-    /// the right `Read`, or each the right by the page run.
-    fn change_given(
+/// What a page of a place, and all up to a later one, get by page runs and by ranges that may only be read,
+/// as one page run: of their own place where none has them. The later page is where a page run or a range
+/// begins or ends.
+pub(crate) fn stretch_at(i: usize, page_runs: &[PageRun], reads: &[Range], p: PageNumber) -> PageRun
+    requires { p < MOST_PAGES }
+    ensures from { result.range.from ≡ p }
+    ensures past { p < result.range.to }
+    ensures within { result.range.to ≤ MOST_PAGES }
+    ensures origin { (count : ℕ) → i < count → All (IsPageRun count i) page_runs.now
+        → (j : ℕ) → result.origin ≡ CopyOf j → j < count }
+    ensures states { (cells : List Place) (rights : List (ℕ → Right)) (q : ℕ) → p ≤ q → q < result.range.to
+        → changed_states cells rights i page_runs.now reads.now q ≡ given_states cells rights result q }
+    ensures edge { result.range.to < MOST_PAGES
+        → (is_edge page_runs.now result.range.to ≡ true)
+        ⊎ (spec.is_range_edge reads.now result.range.to ≡ true) }
+{
+    let to = range_edge(reads, p, page_run_edge(page_runs, p));
+    let range = Range { from: p, to };
+    let read = have_page(reads, p);
+    match page_run_at(page_runs, p) {
+        Some(page_run) => PageRun {
+            range,
+            origin: page_run.origin,
+            right: right_given(page_run.right, read),
+        },
+        None => PageRun {
+            range,
+            origin: Origin::CopyOf(i),
+            right: right_given(None, read),
+        },
+    }
+}
+
+/// The state of new pages of a kind: that of the right, or `Write` where none is given.
+fn new_state(kind: SegmentKind, right: Option<Right>) -> PageState
+    ensures { result ≡ record { kind = kind; right = unwrap_or right Write } }
+{
+    PageState {
+        kind,
+        right: right.unwrap_or(Right::Write),
+    }
+}
+
+/// Whether a range begins, as a number, and the state after: of pages that are all of one state.
+fn count_alike(before: Option<PageState>, state: Option<PageState>) -> (u32, Option<PageState>)
+    ensures counted { result.0 ≡ begun before state }
+    ensures last { result.1 ≡ state }
+{
+    (begun(before, state), state)
+}
+
+impl PageCells {
+    /// The number of ranges that begin at the pages of a page run, and the state of the last of them.
+    /// `before` is the state of the page before the first.
+    pub(crate) fn count_given(
         &self,
         page_run: &PageRun,
-        read: bool,
-        p: PageNumber,
-        edge: PageNumber,
-    ) -> Change
+        before: Option<PageState>,
+    ) -> (u32, Option<PageState>)
         requires origin { (j : ℕ) → page_run.now.origin ≡ CopyOf j → j < length (cells self.now) }
-        requires page { p < edge }
-        requires within { edge ≤ MOST_PAGES }
-        ensures from { result.from ≡ p }
-        ensures past { p < result.to }
-        ensures within { result.to ≤ edge }
-        ensures state { (q : ℕ) → p ≤ q → q < result.to
-            → state_of (kind_of (origin_cell (cells self.now) page_run.now.origin q))
-            (if read then Read
-            else unwrap_or page_run.now.right (origin_right (rights self.now) page_run.now.origin q))
-            ≡ given result }
-        ensures edge { result.to < edge → spec.TurnsAt (cells self.now) (rights self.now) p result.to }
+        requires order { page_run.now.range.from < page_run.now.range.to }
+        requires inside { page_run.now.range.to ≤ MOST_PAGES }
+        ensures counted { (after : ℕ → Option PageState)
+            → ((q : ℕ) → page_run.now.range.from ≤ q → q < page_run.now.range.to
+            → after q ≡ given_states (cells self.now) (rights self.now) page_run.now q)
+            → (page_run.now.range.from ≡ 0 → before ≡ None)
+            → ((n : ℕ) → page_run.now.range.from ≡ suc n → before ≡ after n)
+            → ranges page_run.now.range.to after ≡ ranges page_run.now.range.from after + result.0 }
+        ensures last { (n : ℕ) → page_run.now.range.to ≡ suc n
+            → result.1 ≡ given_states (cells self.now) (rights self.now) page_run.now n }
     {
-        let right = self.right_given(page_run, read, p);
-        let (kind, to) = match page_run.origin {
-            Origin::Absent => (None, edge),
-            Origin::Zeros => (Some(SegmentKind::Own), edge),
-            Origin::Common(g) => (Some(SegmentKind::Common(g)), edge),
+        let right = page_run.right;
+        match page_run.origin {
+            Origin::Absent => count_alike(before, None),
+            Origin::Zeros => count_alike(before, Some(new_state(SegmentKind::Own, right))),
+            Origin::Common(g) => count_alike(
+                before,
+                Some(new_state(SegmentKind::Common(g), right)),
+            ),
             Origin::CopyOf(j) => {
-                let (state, end) = self.run_at(j, p);
-                (kind_of(state), end.min(edge))
+                count_part(
+                    self.segments(j),
+                    page_run.range.from,
+                    page_run.range.to,
+                    right,
+                    before,
+                )
             }
-        };
-        Change {
-            from: p,
-            to,
-            kind,
-            right,
         }
     }
 
-    /// The change that leaves the kind of a page and of later ones, up to an edge at the most; they all get
-    /// the right `Read`, or each keeps its own.
-    fn change_left(&self, i: usize, read: bool, p: PageNumber, edge: PageNumber) -> Change
-        requires place { i < length (cells self.now) }
-        requires page { p < edge }
-        requires within { edge ≤ MOST_PAGES }
-        ensures from { result.from ≡ p }
-        ensures past { p < result.to }
-        ensures within { result.to ≤ edge }
-        ensures state { (q : ℕ) → p ≤ q → q < result.to
-            → state_of (kind_of (place_of (cells self.now) i q))
-            (if read then Read else rights_of (rights self.now) i q)
-            ≡ given result }
-        ensures edge { result.to < edge → spec.TurnsAt (cells self.now) (rights self.now) p result.to }
+    /// Gives the pages of a page run what its origin and its right say, where none from its first on is
+    /// present.
+    fn append_given(&self, kinds: &mut RangeMap, page_run: &PageRun)
+        requires origin { (j : ℕ) → page_run.now.origin ≡ CopyOf j → j < length (cells self.now) }
+        requires order { page_run.now.range.from < page_run.now.range.to }
+        requires inside { page_run.now.range.to ≤ MOST_PAGES }
+        requires clear { (q : ℕ) → page_run.now.range.from ≤ q → state_at kinds.old q ≡ None }
+        requires few { ranges MOST_PAGES
+            (put_range (state_at kinds.old) page_run.now.range.from page_run.now.range.to
+            (given_states (cells self.now) (rights self.now) page_run.now)) ≤ MOST_RANGES }
+        ensures { (q : ℕ) → state_at kinds.new q
+            ≡ put_range (state_at kinds.old) page_run.now.range.from page_run.now.range.to
+            (given_states (cells self.now) (rights self.now) page_run.now) q }
     {
-        let (state, end) = self.run_at(i, p);
-        let right = match state {
-            Some(state) if !read => state.right,
-            _ => Right::Read,
-        };
-        Change {
-            from: p,
-            to: end.min(edge),
-            kind: kind_of(state),
-            right,
-        }
-    }
-
-    /// The kind and the right that a page of a place, and all up to a later one, have after page runs and
-    /// ranges that may only be read. The later one is where a page run or a range begins or ends, or where the
-    /// state of the place, or of the one that is copied, changes.
-    pub(crate) fn piece_at(
-        &self,
-        i: usize,
-        page_runs: &[PageRun],
-        reads: &[Range],
-        p: PageNumber,
-    ) -> Change
-        requires place { i < length (cells self.now) }
-        requires page_runs { All (IsPageRun (length (cells self.now)) i) page_runs.now }
-        requires page { p < MOST_PAGES }
-        ensures from { result.from ≡ p }
-        ensures past { p < result.to }
-        ensures within { result.to ≤ MOST_PAGES }
-        ensures state { (q : ℕ) → p ≤ q → q < result.to
-            → changed_states (cells self.now) (rights self.now) i page_runs.now reads.now q ≡ given result }
-        ensures edge { result.to < MOST_PAGES → (is_edge page_runs.now result.to ≡ true)
-            ⊎ ((spec.is_range_edge reads.now result.to ≡ true)
-            ⊎ spec.TurnsAt (cells self.now) (rights self.now) p result.to) }
-    {
-        let edge = range_edge(reads, p, page_run_edge(page_runs, p));
-        let read = have_page(reads, p);
-        match page_run_at(page_runs, p) {
-            Some(page_run) => self.change_given(page_run, read, p, edge),
-            None => self.change_left(i, read, p, edge),
+        let Range { from, to } = page_run.range;
+        let right = page_run.right;
+        match page_run.origin {
+            Origin::Absent => {}
+            Origin::Zeros => kinds.append(from, to, new_state(SegmentKind::Own, right)),
+            Origin::Common(g) => kinds.append(from, to, new_state(SegmentKind::Common(g), right)),
+            Origin::CopyOf(j) => append_part(kinds, self.segments(j), from, to, right),
         }
     }
 
@@ -216,12 +219,10 @@ impl PageCells {
     {
         let mut kinds = RangeMap::empty();
         let mut p: PageNumber = 0;
-        'pieces: while p < MOST_PAGES {
-            let piece = self.piece_at(i, page_runs, reads, p);
-            if let Some(state) = piece.state() {
-                kinds.append(p, piece.to, state);
-            }
-            p = piece.to;
+        'stretches: while p < MOST_PAGES {
+            let stretch = stretch_at(i, page_runs, reads, p);
+            self.append_given(&mut kinds, &stretch);
+            p = stretch.range.to;
         }
         kinds
     }

@@ -8,6 +8,7 @@ pub mod copies;
 pub(crate) mod kinds;
 pub mod laws;
 pub mod page_runs;
+pub(crate) mod parts;
 pub mod row_writes;
 pub mod rows;
 pub mod writes;

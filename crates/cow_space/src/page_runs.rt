@@ -11,7 +11,7 @@ ghost use Rattle.cow_space.specs.Rows.{changed_row, origin_value};
 ghost use Rattle.cow_space.specs.Seen.{cells, frames_of, free_frames, free_nodes, node_steps, pool, rights};
 
 use crate::cells::PageCells;
-use crate::kinds::{has_own_page, page_run_at, page_run_edge};
+use crate::kinds::{has_own_page, page_run_at, page_run_edge, stretch_at};
 use crate::rows::Rows;
 use lwc_base::{MOST_PAGES, Name, PageNumber, Range, Right};
 use range_map::RangeMap;
@@ -127,14 +127,12 @@ impl PageCells {
         let mut count = 0u32;
         let mut last = None;
         let mut p: PageNumber = 0;
-        'pieces: while p < MOST_PAGES {
-            let piece = self.piece_at(i, page_runs, reads, p);
-            let state = piece.state();
-            if state.is_some() && last != state {
-                count += 1;
-            }
-            last = state;
-            p = piece.to;
+        'stretches: while p < MOST_PAGES {
+            let stretch = stretch_at(i, page_runs, reads, p);
+            let (more, end) = self.count_given(&stretch, last);
+            count += more;
+            last = end;
+            p = stretch.range.to;
         }
         count
     }

@@ -5,13 +5,13 @@ use Rattle.cow_space.specs.Changes.{changed_states}
 use Rattle.cow_space.specs.Seen.{cells, rights}
 use Rattle.cow_space.proofs.cells.PageCells.count_after.Given as goal
 
-abbrev pub invariant-pieces : goal.invariant-pieces
-invariant-pieces l = record {
+abbrev pub invariant-stretches : goal.invariant-stretches
+invariant-stretches l = record {
   inside : l.p ≤ MOST_PAGES;
   counted : l.count ≡ ranges l.p (changed_states (cells l.self) (rights l.self) l.i l.page_runs l.reads);
   first : l.p ≡ 0 → l.last ≡ None;
-  later : (k : ℕ) → l.p ≡ suc k → l.last ≡ changed_states (cells l.self) (rights l.self) l.i l.page_runs l.reads k;
+  later : (n : ℕ) → l.p ≡ suc n → l.last ≡ changed_states (cells l.self) (rights l.self) l.i l.page_runs l.reads n;
 }
 
-abbrev pub decreases-pieces : goal.decreases-pieces
-decreases-pieces l = MOST_PAGES - l.p
+abbrev pub decreases-stretches : goal.decreases-stretches
+decreases-stretches l = MOST_PAGES - l.p

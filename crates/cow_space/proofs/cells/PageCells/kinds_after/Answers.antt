@@ -1,38 +1,39 @@
-use Rattle.std.proofs.Common.{◌∙◌, sym, subst, arith}
-use Rattle.cow_space.specs.Changes.{changed_states}
+use Rattle.std.proofs.Common.{sym, subst, arith}
+use Rattle.cow_space.specs.Changes.{changed_states, given_states}
 use Rattle.cow_space.specs.Seen.{cells, rights}
-use Rattle.cow_space.proofs.KindChanges.{HaveBelow, more-absent, more-few, more-present, none-below}
+use Rattle.cow_space.proofs.KindChanges.{HaveBelow, none-below, stretch-few, stretch-more}
 use Rattle.cow_space.proofs.cells.PageCells.kinds_after.Goals as goal
 
-pub pieces-init : goal.pieces-init
-pieces-init c =
+pub stretches-init : goal.stretches-init
+stretches-init c =
     let after = changed_states (cells c.args.self.now) (rights c.args.self.now) c.args.i c.args.page_runs.now c.args.reads.now in
     record {
       inside = omega arith;
       have = subst (HaveBelow 0 after) (sym c.empty-kinds.ensures) (none-below after);
     }
 
-pub append-requires-clause-few : goal.append-requires-clause-few
-append-requires-clause-few c =
-    let after = changed_states (cells c.args.self.now) (rights c.args.self.now) c.args.i c.args.page_runs.now c.args.reads.now in
-    let piece = c.piece_at-piece.ensures in
-    let few = more-few after c.pieces.p c.piece_at-piece.result.to c.pieces.kinds piece.past piece.within c.pieces.invariant.have c.in-Some.state (λ q low high. piece.state q low high ∙ sym c.state.ensures ∙ c.in-Some.is) in
+pub append_given-requires-clause-origin : goal.append_given-requires-clause-origin
+append_given-requires-clause-origin c = c.stretch_at-stretch.ensures.origin _ c.requires.place c.requires.page_runs
+
+pub append_given-requires-clause-clear : goal.append_given-requires-clause-clear
+append_given-requires-clause-clear c q low = c.stretches.invariant.have.rest q (omega (arith, low, c.stretch_at-stretch.ensures.from))
+
+pub append_given-requires-clause-few : goal.append_given-requires-clause-few
+append_given-requires-clause-few c =
+    let w = c.args.self.now in
+    let after = changed_states (cells w) (rights w) c.args.i c.args.page_runs.now c.args.reads.now in
+    let stretch = c.stretch_at-stretch.ensures in
+    let few = stretch-few after c.stretches.p c.stretch_at-stretch.result.range.to c.stretches.kinds stretch.past stretch.within c.stretches.invariant.have (given_states (cells w) (rights w) c.stretch_at-stretch.result)
+    (stretch.states (cells w) (rights w)) c.stretch_at-stretch.result.range.from stretch.from in
     omega (arith, few, c.requires.ranges)
 
-pub pieces-preserved-in-Some : goal.pieces-preserved-in-Some
-pieces-preserved-in-Some c =
-    let after = changed_states (cells c.args.self.now) (rights c.args.self.now) c.args.i c.args.page_runs.now c.args.reads.now in
-    let piece = c.piece_at-piece.ensures in
+pub stretches-preserved : goal.stretches-preserved
+stretches-preserved c =
+    let w = c.args.self.now in
+    let after = changed_states (cells w) (rights w) c.args.i c.args.page_runs.now c.args.reads.now in
+    let stretch = c.stretch_at-stretch.ensures in
     record {
-      inside = piece.within;
-      have = more-present after c.pieces.p c.piece_at-piece.result.to c.pieces.kinds piece.past piece.within c.pieces.invariant.have c.in-Some.state (λ q low high. piece.state q low high ∙ sym c.state.ensures ∙ c.in-Some.is) c.append.new.self c.append.ensures;
-    }
-
-pub pieces-preserved : goal.pieces-preserved
-pieces-preserved c =
-    let after = changed_states (cells c.args.self.now) (rights c.args.self.now) c.args.i c.args.page_runs.now c.args.reads.now in
-    let piece = c.piece_at-piece.ensures in
-    record {
-      inside = piece.within;
-      have = more-absent after c.pieces.p c.piece_at-piece.result.to c.pieces.kinds piece.past piece.within c.pieces.invariant.have (λ q low high. piece.state q low high ∙ sym c.state.ensures ∙ c.in_default.is);
+      inside = stretch.within;
+      have = stretch-more after c.stretches.p c.stretch_at-stretch.result.range.to c.stretches.kinds stretch.past stretch.within c.stretches.invariant.have (given_states (cells w) (rights w) c.stretch_at-stretch.result)
+          (stretch.states (cells w) (rights w)) c.stretch_at-stretch.result.range.from stretch.from c.append_given.new.kinds c.append_given.ensures;
     }

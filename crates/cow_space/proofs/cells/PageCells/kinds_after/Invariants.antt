@@ -5,11 +5,11 @@ use Rattle.cow_space.specs.Seen.{cells, rights}
 use Rattle.cow_space.proofs.KindChanges.{HaveBelow}
 use Rattle.cow_space.proofs.cells.PageCells.kinds_after.Given as goal
 
-abbrev pub invariant-pieces : goal.invariant-pieces
-invariant-pieces l = record {
+abbrev pub invariant-stretches : goal.invariant-stretches
+invariant-stretches l = record {
   inside : l.p ≤ MOST_PAGES;
   have : HaveBelow l.p (changed_states (cells l.self) (rights l.self) l.i l.page_runs l.reads) l.kinds;
 }
 
-abbrev pub decreases-pieces : goal.decreases-pieces
-decreases-pieces l = MOST_PAGES - l.p
+abbrev pub decreases-stretches : goal.decreases-stretches
+decreases-stretches l = MOST_PAGES - l.p
