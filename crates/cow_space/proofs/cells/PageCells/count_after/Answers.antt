@@ -9,8 +9,8 @@ pub stretches-init : goal.stretches-init
 unfolding ranges
 stretches-init c = record { inside = omega arith; counted = refl; first = λ _. refl; later = λ n is. absurd (omega (arith, is)) }
 
-pub count_given-requires-clause-origin : goal.count_given-requires-clause-origin
-count_given-requires-clause-origin c = c.stretch_at-stretch.ensures.origin _ c.requires.place c.requires.page_runs
+pub count_given-more-requires-clause-origin : goal.count_given-more-requires-clause-origin
+count_given-more-requires-clause-origin c = c.stretch_at-stretch.ensures.origin _ c.requires.place c.requires.page_runs
 
 pub overflow_add-count : goal.overflow_add-count
 overflow_add-count c =
@@ -19,7 +19,7 @@ overflow_add-count c =
     let stretch = c.stretch_at-stretch.ensures in
     let inv = c.stretches.invariant in
     let from = stretch.from in
-    let more = c.count_given.ensures.counted after (λ q low high. stretch.states (cells w) (rights w) q (omega (arith, low, from)) high)
+    let more = c.count_given-more.ensures.counted after (λ q low high. stretch.states (cells w) (rights w) q (omega (arith, low, from)) high)
     (λ zero. inv.first (omega (arith, zero, from))) (λ n is. inv.later n (omega (arith, is, from))) in
     let same = ap (λ n. ranges n after) from in
     let few = few_ranges after c.stretch_at-stretch.result.range.to in
@@ -32,12 +32,12 @@ stretches-preserved c =
     let stretch = c.stretch_at-stretch.ensures in
     let inv = c.stretches.invariant in
     let from = stretch.from in
-    let more = c.count_given.ensures.counted after (λ q low high. stretch.states (cells w) (rights w) q (omega (arith, low, from)) high)
+    let more = c.count_given-more.ensures.counted after (λ q low high. stretch.states (cells w) (rights w) q (omega (arith, low, from)) high)
     (λ zero. inv.first (omega (arith, zero, from))) (λ n is. inv.later n (omega (arith, is, from))) in
     let same = ap (λ n. ranges n after) from in
     record {
       inside = stretch.within;
       counted = omega (arith, more, same, inv.counted);
       first = λ is. absurd (omega (arith, is, stretch.past));
-      later = λ n is. c.count_given.ensures.last n is ∙ sym (stretch.states (cells w) (rights w) n (omega (arith, is, stretch.past)) (omega (arith, is)));
+      later = λ n is. c.count_given-more.ensures.last n is ∙ sym (stretch.states (cells w) (rights w) n (omega (arith, is, stretch.past)) (omega (arith, is)));
     }
