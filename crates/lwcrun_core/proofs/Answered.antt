@@ -21,8 +21,7 @@ unfolding Ended
 ended_as o command ends.Done f is h = subst (Ended IsText o (plan_of command)) (sym is) h
 ended_as o command ends.NoMemory f is h = subst (Ended IsText o (plan_of command)) (sym is) h
 ended_as o command ends.Usage f is h = absurd h
-ended_as o command (ends.Unread name) f (inl is) h = subst (Ended IsText o (plan_of command)) (sym is) h
-ended_as o command (ends.Unread name) f (inr is) h = subst (Ended IsText o (plan_of command)) (sym is) h.2
+ended_as o command (ends.Unread name) f is h = subst (Ended IsText o (plan_of command)) (sym is) h
 ended_as o command ends.Unwritten f is h = subst (Ended IsText o (plan_of command)) (sym is) h
 ended_as o command (ends.Refused rejection) f (inl is) h = subst (Ended IsText o (plan_of command)) (sym is) h
 ended_as o command (ends.Refused rejection) f (inr is) h = subst (Ended IsText o (plan_of command)) (sym is) h.1

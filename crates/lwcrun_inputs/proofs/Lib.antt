@@ -1,3 +1,4 @@
 pub mod Fetches
 pub mod Follows
+mod Pieces
 pub mod Readers

@@ -84,8 +84,7 @@ pub record IsAnswered (e : End Rejection) (status : ExitStatus) (err err_after :
   pub message : Takes (message_of e) err err_after
   pub quiet : e ≡ ends.Done → err_after ≡ err
 
--- the end that is answered: the end itself, or out of memory where there was none for its message
+-- the end that is answered: the end itself, or out of memory where there was none for the message of a refusal
 abbrev pub MayBeAnsweredAs : End Rejection → End Rejection → Type 0
-MayBeAnsweredAs (ends.Unread name) e = (e ≡ ends.Unread name) ⊎ (e ≡ ends.NoMemory)
 MayBeAnsweredAs (ends.Refused rejection) e = (e ≡ ends.Refused rejection) ⊎ (e ≡ ends.NoMemory)
 MayBeAnsweredAs end e = e ≡ end

@@ -8,7 +8,7 @@ ghost use Rattle.lwcrun_inputs.specs.Views.{end_of};
 use crate::ending::{Ending, Rejection};
 use crate::status::ExitStatus;
 use lwc_base::OutOfMemory;
-use lwc_io::{Sink, write_whole};
+use lwc_io::{Failed, Sink, write_whole};
 use std::alloc::Global;
 
 /// The message of a line that is not accepted.
@@ -23,6 +23,12 @@ const NO_MEMORY: &str = "lwcrun: no memory\n";
 
 /// The message of a call whose output was not written.
 const UNWRITTEN: &str = "lwcrun: cannot write\n";
+
+/// What stands before the name in the message of a file that was not read.
+const UNREAD: &str = "lwcrun: cannot read ";
+
+/// The end of a message's line.
+const NEWLINE: &str = "\n";
 
 /// The message of an ending: none where all was written, and else one line.
 ///
@@ -64,8 +70,8 @@ fn text_of(alloc: Global, text: &str) -> Result<String, OutOfMemory>
     Ok(String::from_str(alloc, text)?)
 }
 
-/// Writes the message of an ending and returns its exit status. If there is no memory for the message, the
-/// call ends out of memory.
+/// Writes the message of an ending and returns its exit status. If there is no memory for the message of a
+/// refusal, the call ends out of memory.
 pub fn write_message<E: Sink>(alloc: Global, err: &mut E, ending: &Ending) -> ExitStatus
     ensures { (e : End Rejection) × MayBeAnsweredAs (end_of ending.now) e
         × IsAnswered e result (E.seen err.old) (E.seen err.new) }
@@ -74,7 +80,7 @@ pub fn write_message<E: Sink>(alloc: Global, err: &mut E, ending: &Ending) -> Ex
         Ending::Done => write_nothing(err),
         Ending::NoMemory => write_no_memory(err),
         Ending::Usage => write_usage(err),
-        Ending::Unread(name) => write_unread(alloc, err, name),
+        Ending::Unread(name) => write_unread(err, name),
         Ending::Unwritten => write_unwritten(err),
         Ending::Refused(rejection) => write_rejection(alloc, err, rejection),
     }
@@ -107,18 +113,26 @@ fn write_usage<E: Sink>(err: &mut E) -> ExitStatus
     ExitStatus::Usage
 }
 
-/// Writes that a file was not read, or that memory ran out.
-fn write_unread<E: Sink>(alloc: Global, err: &mut E, name: &str) -> ExitStatus
-    ensures { IsAnswered (ends.Unread name.now) result (E.seen err.old) (E.seen err.new)
-        ⊎ IsAnswered ends.NoMemory result (E.seen err.old) (E.seen err.new) }
+/// Writes that a file was not read. It takes no memory.
+fn write_unread<E: Sink>(err: &mut E, name: &str) -> ExitStatus
+    ensures { IsAnswered (ends.Unread name.now) result (E.seen err.old) (E.seen err.new) }
 {
-    match unread_line(alloc, name) {
-        Ok(line) => {
-            write_text(err, line.as_str());
-            ExitStatus::ReadFault
-        }
-        Err(_) => write_no_memory(err),
-    }
+    let _ = write_unread_line(err, name);
+    ExitStatus::ReadFault
+}
+
+/// Writes the message of a file that was not read, in three pieces.
+///
+/// # Errors
+///
+/// `Failed` if a write failed, after which nothing is written.
+fn write_unread_line<E: Sink>(err: &mut E, name: &str) -> Result<(), Failed>
+    ensures { Takes (message_of (ends.Unread name.now)) (E.seen err.old) (E.seen err.new) }
+{
+    write_whole(err, UNREAD.as_bytes())?;
+    write_whole(err, name.as_bytes())?;
+    write_whole(err, NEWLINE.as_bytes())?;
+    Ok(())
 }
 
 /// The message of a file that was not read.
