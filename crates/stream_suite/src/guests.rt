@@ -35,6 +35,14 @@ LDW r6, r4, 0
 HALT
 ";
 
+/// What each of many threads does over one page: it stores 7 and loads it again.
+const ONE_OF_MANY: &str = ".page 0 -
+LI r5, 7
+STW r5, r4, 0
+LDW r6, r4, 0
+HALT
+";
+
 /// Reads one byte, which has to be 0, raises a counter in its page, and replies with it.
 const COUNTER_HANDLER: &str = ".entry 0
 .page 0 -
@@ -105,6 +113,28 @@ pub fn run_of_two<R: AllocGlobal + Abort>(rt: &R) -> Result<Kernel<LazyWorld>, F
 {
     let kernel = run_of(rt.alloc(), TWO_THREADS, 20000)?;
     assert!(rt; kernel.thread_count() == 2);
+    check_room(rt, &kernel);
+    Ok(kernel)
+}
+
+/// A guest of this many threads, each of which does what `ONE_OF_MANY` says.
+fn guest_of_many(alloc: Global, threads: u32) -> Result<String, AllocError> {
+    let mut guest = String::new(alloc);
+    for _thread in 0..threads {
+        guest.push_str(".entry 0\n")?;
+    }
+    guest.push_str(ONE_OF_MANY)?;
+    Ok(guest)
+}
+
+/// A kernel that is to run this many threads, each of which stores 7 in the page that they share and loads it again.
+pub fn run_of_many<R: AllocGlobal + Abort>(rt: &R, threads: u32) -> Result<Kernel<LazyWorld>, Fail>
+    requires { threads ≤ 16 }
+    ensures fresh { IfOk result (λ kernel. kernel.steps ≡ []) }
+    ensures room { IfOk result (λ kernel. kernel.room ≡ work (machine_of kernel)) }
+{
+    let guest = guest_of_many(rt.alloc(), threads)?;
+    let kernel = run_of(rt.alloc(), guest.as_str(), threads * 10000)?;
     check_room(rt, &kernel);
     Ok(kernel)
 }

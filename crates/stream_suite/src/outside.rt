@@ -4,6 +4,7 @@ use lwc_io::{Failed, Gate, MemorySink, Sink};
 use std::hint::spin_loop;
 use std::sync::Wait;
 use std::sync::atomic::{AtomicBool, AtomicU64, Ordering};
+use std::thread;
 
 /// How often a thread that is held looks.
 const LOOKS: u32 = 1_000_000_000;
@@ -117,6 +118,52 @@ impl Gate for HoldingGate {
                 return;
             }
             spin_loop();
+        }
+        self.ran_out.store(true, Ordering::SeqCst);
+    }
+}
+
+/// How often a thread that a `FullGate` holds looks, and lets others go on: seconds, so that a test fails before its
+/// time is up.
+const YIELDS: u32 = 4_000_000;
+
+/// A gate that holds the first turn of each thread until as many threads as are expected stand at it.
+#[derive(Drop)]
+pub struct FullGate {
+    expected: u64,
+    came: AtomicU64,
+    ran_out: AtomicBool,
+}
+
+impl FullGate {
+    /// A gate to which nobody has come, and that expects this many threads.
+    pub(crate) fn new(expected: u32) -> FullGate {
+        FullGate {
+            expected: u64::from(expected),
+            came: AtomicU64::new(0),
+            ran_out: AtomicBool::new(false),
+        }
+    }
+
+    /// Whether a thread that was held looked until its looks ran out.
+    pub(crate) fn has_run_out(&self) -> bool {
+        self.ran_out.load(Ordering::SeqCst)
+    }
+}
+
+impl Gate for FullGate {
+    /// Counts a thread that comes for its first turn, and holds it until all have come. Once the looks of one have run
+    /// out, those that come later are not held.
+    fn before<R: Wait>(&self, _rt: &R, _thread: u32, turn: u64) {
+        if turn != 0 || self.has_run_out() {
+            return;
+        }
+        self.came.fetch_add(1, Ordering::SeqCst);
+        for _look in 0..YIELDS {
+            if self.came.load(Ordering::SeqCst) >= self.expected {
+                return;
+            }
+            thread::yield_now();
         }
         self.ran_out.store(true, Ordering::SeqCst);
     }

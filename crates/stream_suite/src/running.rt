@@ -4,11 +4,12 @@ ghost use Rattle.std.specs.Prelude.{◌≡◌, ◌≤◌, []};
 ghost use Rattle.kernel_core.specs.Kernel.{machine_of};
 ghost use Rattle.kernel_core.specs.Machine.{work};
 
-use crate::guests::{run_of_two, serve_of};
-use crate::outside::HoldingGate;
+use crate::guests::{run_of_many, run_of_two, serve_of};
+use crate::outside::{FullGate, HoldingGate};
 use kernel_core::Kernel;
 use lazy_world::LazyWorld;
 use lwc_base::ThreadStatus;
+use lwc_io::Gate;
 use process_core::Process;
 use std::process::Abort;
 use std::sync::Wait;
@@ -16,11 +17,14 @@ use std::test::Fail;
 use std::thread::Threads;
 use thread_carrier::run_threads;
 
+/// How many threads are all held at once.
+const HELD_AT_ONCE: [u32; 2] = [3, 16];
+
 /// The kernel after its threads were carried to their ends.
-fn carried<R: AllocGlobal + Abort + Threads + Wait + Sync>(
+fn carried<R: AllocGlobal + Abort + Threads + Wait + Sync, G: Gate>(
     rt: &R,
     kernel: Kernel<LazyWorld>,
-    gate: &HoldingGate,
+    gate: &G,
 ) -> Result<Kernel<LazyWorld>, Fail>
     requires fresh { kernel.steps ≡ [] }
     requires room { work (machine_of kernel) ≤ kernel.room }
@@ -106,6 +110,47 @@ fn workers_serve_side_by_side(rt: HostRuntime) -> Result<(), Fail> {
         assert!(rt;
             left == ((16, Some(first), ends), [true; 2]) && !gate.has_run_out(),
             "thread {held} is held"
+        );
+    }
+    Ok(())
+}
+
+/// How many threads of a kernel have ended well, with 7 in register 6.
+fn count_of_sevens(kernel: &Kernel<LazyWorld>) -> u32 {
+    let seven = Some((ThreadStatus::Done { code: 0 }, 7));
+    let mut count = 0u32;
+    for thread in 0..kernel.thread_count() {
+        if left_of(kernel, thread) == seven {
+            count = count.wrapping_add(1);
+        }
+    }
+    count
+}
+
+/// The number of steps of a run of this many threads that are all held at once, how many of them ended well with what
+/// they stored, and whether the looks of the gate ran out.
+fn run_while_all_are_held<R: AllocGlobal + Abort + Threads + Wait + Sync>(
+    rt: &R,
+    threads: u32,
+) -> Result<(usize, u32, bool), Fail>
+    requires { threads ≤ 16 }
+{
+    let gate = FullGate::new(threads);
+    let kernel = carried(rt, run_of_many(rt, threads)?, &gate)?;
+    let left = (kernel.schedule().len(), count_of_sevens(&kernel));
+    drop(kernel);
+    Ok((left.0, left.1, gate.has_run_out()))
+}
+
+#[test]
+fn all_threads_of_a_run_are_held_at_once(rt: HostRuntime) -> Result<(), Fail> {
+    for threads in HELD_AT_ONCE {
+        assert!(rt; threads <= 16);
+        let left = run_while_all_are_held(&rt, threads)?;
+        // A thread makes three steps: it stores, loads and halts.
+        assert!(rt;
+            left == (3 * threads as usize, threads, false),
+            "all of {threads} threads are held"
         );
     }
     Ok(())
