@@ -9,7 +9,7 @@ import time
 from collections import Counter
 from collections.abc import Sequence
 
-from kinds import living
+from kinds import WHILE_A_GROUP_LIVES, living
 from timing import check, image_of, seconds_of, source_of, start, text_of, written
 
 REQUESTS = 1024
@@ -22,14 +22,15 @@ HANDLERS = {
     "1000 x 128 private and a store": ".entry 0\n.page 0 -\nLI r5, 1000\nl: LI r6, 42\nm: ADDI r1, r1, 1\n"
     f"ADDI r6, r6, -1\nJNZ r6, m\nSTW r1, r4, 0\nADDI r5, r5, -1\nJNZ r5, l\n{REPLY}",
 }
-# A request whose first byte is not 0 maps a page again and again in a context of 63 ranges, while 32 contexts and a
-# group live; another one replies at once.
+# A request whose first byte is not 0 overlays a page again and again in a context of 63 ranges, while 32 contexts and
+# a group live; another one replies at once.
 SLOW = (
     f".entry 0\nLI r2, 0\nLI r3, 1\nLI r1, 0\nSYS 4\nLDB r5, r4, 0\nJNZ r5, slow\n{REPLY}slow: LI r0, 0\n"
-    + living(1, 31, 63, "LI r1, 0\nLI r2, 1\nSYS 6\n").removeprefix(".entry 0\n")
+    + living(1, 31, 63, WHILE_A_GROUP_LIVES["an overlay of one page"]).removeprefix(".entry 0\n")
 )
-# How long the slow request takes, and the steps of the run that tells how many these are.
-SLOW_SECONDS, PROBE, MOST_BUDGET = 8.0, 1000, 100000
+# How long the slow request takes at most, the steps of the run that tells how many these are, and the most steps: a
+# serve of 1024 may make 16,000,000.
+SLOW_SECONDS, PROBE, MOST_BUDGET = 8.0, 1000, 15000
 
 
 def timed(lines: Sequence[Sequence[str]]) -> tuple[float, float]:
