@@ -10,6 +10,20 @@ use std::process::Abort;
 use std::test::Fail;
 use std::{env, fs, process};
 
+/// How many bytes the long file has: three pieces of 65536, and one.
+const LONG: usize = 3 * 65536 + 1;
+
+/// Where two bytes of the long file are fetched, and how many there are.
+const FETCHES: [(usize, usize); 7] = [
+    (0, 2),
+    (65535, 2),
+    (65536, 2),
+    (65537, 2),
+    (131072, 2),
+    (196608, 1),
+    (196609, 0),
+];
+
 /// Checks what fetches of two bytes each, at 0, 2, 4 and so on, answer.
 fn check_fetches<F: Files>(
     rt: &impl Abort,
@@ -141,5 +155,37 @@ fn real_files_read_what_was_written(rt: HostRuntime) -> Result<(), Fail> {
     fs::remove_file(&rt, path)?;
     check_fetches(&rt, &mut files, path, &[Err(Failed)]);
     check_fetches(&rt, &mut files, ".", &[Err(Failed)]);
+    Ok(())
+}
+
+/// The byte of the long file at an offset: other ones at the same place of each piece of 65536.
+fn long_byte(at: usize) -> u8 {
+    (at % 251) as u8
+}
+
+/// What the long file holds.
+fn long_bytes(alloc: Global) -> Result<Vec<u8>, Fail> {
+    let mut bytes = Vec::new(alloc);
+    for at in 0..LONG {
+        bytes.push(long_byte(at))?;
+    }
+    Ok(bytes)
+}
+
+#[test]
+fn real_files_read_a_long_file(rt: HostRuntime) -> Result<(), Fail> {
+    let name = format!(in rt.alloc(); "format_suite-long-{}", process::id(rt.process()))?;
+    let path = env::temp_dir(&rt)?.join(rt.alloc(), name.as_str())?;
+    let path = path.as_path().as_str();
+    fs::write(&rt, path, long_bytes(rt.alloc())?.as_slice())?;
+    let mut files = RealFiles::new(&rt);
+    for (at, count) in FETCHES {
+        let mut buffer = [0u8; 2];
+        let got = files.fetch(path, at as u64, &mut buffer);
+        let wanted = [long_byte(at), long_byte(at.saturating_add(1))];
+        check_equal(&rt, (at, got), (at, Ok(count)));
+        check_equal(&rt, &buffer[..count.min(2)], &wanted[..count.min(2)]);
+    }
+    fs::remove_file(&rt, path)?;
     Ok(())
 }
