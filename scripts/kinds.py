@@ -148,6 +148,11 @@ class Kinds:
             yield kind, self.step(self.image("among", among(63, body)), DEAR)
         alone = among(1, AMONG_63["a create or close with an item among 63 ranges"])
         yield "a create or close with an item", self.step(self.image("item", alone), DEAR)
+        # One range of many pages: a walk from page to page is dear here.
+        many = "".join(f".page {page} -\n" for page in range(1, 1024))
+        mapping = among(1, AMONG_63["a map of one page among 63 ranges"]) + many
+        yield "a map of one page among 1024", self.step(self.image("mapping", mapping), DEAR)
+        yield "a create or close with an item among 1024 pages", self.step(self.image("leaving", alone + many), DEAR)
         with open(os.path.join(TOP, "guests", "counter_handler.s"), encoding="utf-8") as source:
             handler = source.read()
         pages = "".join(f".page {2 * page} -\n" for page in range(200, 262))
