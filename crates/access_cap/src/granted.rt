@@ -12,7 +12,7 @@ ghost use Rattle.lwc_base.specs.declared.limits.TheConstants.{MOST_PAGES};
 use crate::kinds::{Mask, covers_kinds};
 use crate::sets::{covers, meet};
 use crate::whole::{empty, full};
-use lwc_base::{Cap, Descriptor, Grant, Item, Kind, Lent, PageNumber, SLOTS, Spec};
+use lwc_base::{Cap, Descriptor, Grant, Item, Items, Kind, Lent, PageNumber, SLOTS};
 
 /// The capability of lent keys.
 pub fn owned_keys(keys: Grant<'_>) -> Cap
@@ -43,7 +43,7 @@ pub fn owned(lent: Lent<'_>) -> Descriptor
 }
 
 /// `meet` of lent keys.
-pub fn meet_granted(keys: Grant<'_>, spec: &Spec) -> Cap
+pub fn meet_granted(keys: Grant<'_>, spec: &Items) -> Cap
     ensures { result ≡ restricted (keys_of keys.entry) spec.now }
 {
     match keys {
@@ -54,7 +54,7 @@ pub fn meet_granted(keys: Grant<'_>, spec: &Spec) -> Cap
 }
 
 /// `covers` of lent keys. Where they are all keys or none, no capability is made.
-pub fn grants(keys: Grant<'_>, spec: &Spec, pages: PageNumber) -> bool
+pub fn grants(keys: Grant<'_>, spec: &Items, pages: PageNumber) -> bool
     requires { pages ≤ MOST_PAGES }
     ensures { result ≡ caps.covers pages (keys_of keys.entry) spec.now }
 {

@@ -7,10 +7,10 @@ ghost use Rattle.lwc_base.specs.declared.limits.TheConstants.{MOST_PAGES};
 
 use crate::whole::full;
 use crate::words::{has_bits_of, named_word};
-use lwc_base::{Cap, Kind, PageNumber, Spec};
+use lwc_base::{Cap, Items, Kind, PageNumber};
 
 /// The capability of the keys that a capability has and a specifier names (`restricted`).
-pub fn meet(cap: &Cap, spec: &Spec) -> Cap
+pub fn meet(cap: &Cap, spec: &Items) -> Cap
     ensures { result ≡ restricted cap.now spec.now }
 {
     let items = spec.items();
@@ -27,7 +27,7 @@ pub fn meet(cap: &Cap, spec: &Spec) -> Cap
 
 /// Whether a capability has every key of a context with this number of pages that a specifier names
 /// (`covers`).
-pub fn covers(cap: &Cap, spec: &Spec, pages: PageNumber) -> bool
+pub fn covers(cap: &Cap, spec: &Items, pages: PageNumber) -> bool
     requires { pages ≤ MOST_PAGES }
     ensures { result ≡ caps.covers pages cap.now spec.now }
 {

@@ -10,7 +10,7 @@ ghost use Rattle.lwc_base.specs.declared.refusal.Refusal.{Refusal};
 ghost use Rattle.res_spec.specs.declared.items.SpecCall as calls;
 ghost use Rattle.world_face.specs.Calls.{IsLive};
 
-use lwc_base::{MOST_ITEMS, Name, Refusal, Spec};
+use lwc_base::{Items, MOST_ITEMS, Name, Refusal};
 use res_spec::{ITEM_BYTES, SpecCall, SpecFault, read_items};
 use world_face::{World, bytes_for};
 
@@ -32,7 +32,7 @@ pub fn items_for<W: World>(
     call: SpecCall,
     at: u64,
     count: u64,
-    items: &mut Spec,
+    items: &mut Items,
 ) -> Result<(), Refusal>
     requires live { IsLive (W.seen world.now) c }
     requires none { items.old ≡ [] }
@@ -62,7 +62,7 @@ fn some_items<W: World>(
     call: SpecCall,
     at: u64,
     count: u64,
-) -> Result<Spec, Refusal>
+) -> Result<Items, Refusal>
     requires live { IsLive (W.seen world.now) c }
     requires few { count ≤ MOST_ITEMS }
     ensures refused { IfErr result (λ refusal. (rows : List (Bool × Refusal)) →

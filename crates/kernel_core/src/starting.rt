@@ -18,9 +18,8 @@ use crate::thread::Thread;
 use arrayvec::ArrayVec;
 use guest_image::{Image, PageImage, SlotImage, VAULT_SLOT, Vault};
 use lwc_base::{
-    Channels, FileImage, Grant, Lent, MOST_CONTEXTS, MOST_GROUPS, MOST_JOBS, NOBODY, Name,
-    OutOfMemory, PAGE_BYTES, Range, Regs, Requests, SLOTS, Sequence, Spec, StoreFault,
-    ThreadStatus,
+    Channels, FileImage, Grant, Items, Lent, MOST_CONTEXTS, MOST_GROUPS, MOST_JOBS, NOBODY, Name,
+    OutOfMemory, PAGE_BYTES, Range, Regs, Requests, SLOTS, Sequence, StoreFault, ThreadStatus,
 };
 use std::alloc::Global;
 use world_face::{World, WorldSize};
@@ -249,7 +248,7 @@ fn put_home<W: World>(world: &mut W, image: &Image, t: u32) -> Result<(), OutOfM
         ≡ spec.homes_so_far image.now (W.seen world.old).size.frames (t + 1)) }
 {
     let entry = Regs::fresh(u64::from(image.entries.as_slice()[0]));
-    let home = world.clone_context(FIRST, &Spec::empty(), 0, &entry)?;
+    let home = world.clone_context(FIRST, &Items::empty(), 0, &entry)?;
     world.set_slot(home, 1, Lent::Empty);
     world.set_slot(home, 0, Lent::Empty);
     Ok(())

@@ -28,7 +28,7 @@ use crate::transfer::{Transfer, read_pages};
 use crate::world::PlacedWorld;
 use arrayvec::ArrayVec;
 use cow_space::{Origin, PageRun};
-use lwc_base::{Item, Kind, MOST_PAGE_RUNS, Mode, NOBODY, Name, Range, Regs, Spec};
+use lwc_base::{Item, Items, Kind, MOST_PAGE_RUNS, Mode, NOBODY, Name, Range, Regs};
 use range_map::SegmentKind;
 
 /// The page run of an item in a clone of the place `from`: its pages are shared, or left out. Pages that are
@@ -56,7 +56,7 @@ fn item_run(item: &Item, from: usize) -> Option<PageRun>
 }
 
 /// The page runs of items in a clone of the place `from`.
-fn item_runs(spec: &Spec, from: usize) -> ArrayVec<PageRun, MOST_PAGE_RUNS>
+fn item_runs(spec: &Items, from: usize) -> ArrayVec<PageRun, MOST_PAGE_RUNS>
     ensures gifts { (q : ℕ) → gift_at result.items q ≡ item_gift from (mode spec.now (Page q)) }
     ensures few { length result.items ≤ length spec.now }
     ensures given { (count to : ℕ) → from < count → from ≢ to → All (IsPageRun count to) result.items }
@@ -83,7 +83,7 @@ fn changes_pages(item: &Item) -> bool
 
 /// Whether a clone copies each page with its right: items share no page, leave none out, and copy none
 /// read-only.
-fn copies_pages(spec: &Spec) -> bool
+fn copies_pages(spec: &Items) -> bool
     ensures copied { result ≡ true → CopiesPages spec.now }
     ensures all { CopiesPages spec.now → result ≡ true }
 {
@@ -117,7 +117,7 @@ impl PlacedWorld {
 
     /// The page runs that give a place without pages those of a clone of the place `from`: at most one for
     /// each item, and one for each segment.
-    fn clone_runs(&self, spec: &Spec, from: usize) -> ArrayVec<PageRun, MOST_PAGE_RUNS>
+    fn clone_runs(&self, spec: &Items, from: usize) -> ArrayVec<PageRun, MOST_PAGE_RUNS>
         requires from { from < count self.now.places }
         requires within { IsSpec (seen self.now).size.pages spec.now }
         ensures gifts { (q : ℕ) → gift_at result.items q ≡ clone_gift (parts self.now) spec.now from q }
@@ -143,7 +143,7 @@ impl PlacedWorld {
 
     /// Where a place without pages gets those of a clone of the place `from`, where no page is left that
     /// moves. Pages that are all copied and all that place's own are taken whole.
-    fn clone_pages(&self, spec: &Spec, from: usize) -> PageOrigins
+    fn clone_pages(&self, spec: &Items, from: usize) -> PageOrigins
         requires from { from < count self.now.places }
         requires within { IsSpec (seen self.now).size.pages spec.now }
         requires settled { (q : ℕ) → moves spec.now (Page q) (rows self.now.places from) ≡ false }
@@ -165,7 +165,7 @@ impl PlacedWorld {
 
     /// Where the place `to`, which has no pages, gets the cells of a clone of the place `from`, where nothing
     /// is left that moves.
-    fn clone_origins(&self, made: Name, spec: &Spec, from: usize, to: usize) -> Origins
+    fn clone_origins(&self, made: Name, spec: &Items, from: usize, to: usize) -> Origins
         requires from { from < count self.now.places }
         requires to { to < (parts self.now).size.contexts }
         requires apart { from ≢ to }
@@ -191,7 +191,7 @@ impl PlacedWorld {
     /// A context without pages gets the cells of a clone of another one, from where its origins say.
     // The origins are a large value, which each caller would clear if this were a part of it.
     #[inline(never)]
-    fn clone_pieces(&mut self, spec: &Spec, c: Name, made: Name)
+    fn clone_pieces(&mut self, spec: &Items, c: Name, made: Name)
         requires from { IsLive (seen self.old) c }
         requires to { IsLive (seen self.old) made }
         requires apart { c ≢ made }
@@ -215,7 +215,7 @@ impl PlacedWorld {
     /// 128 node steps and 4 free nodes, and one free node besides; at most one node step and no node where
     /// all pages are the other one's own, and items share none and leave none out. No frame is taken or
     /// written.
-    pub(crate) fn clone_by(&mut self, spec: &Spec, c: Name, made: Name)
+    pub(crate) fn clone_by(&mut self, spec: &Items, c: Name, made: Name)
         requires from { IsLive (seen self.old) c }
         requires to { IsLive (seen self.old) made }
         requires apart { c ≢ made }
@@ -244,7 +244,7 @@ impl PlacedWorld {
     /// new context begins with these registers and has no saved ones. Answers its name. No frame is taken or
     /// written.
     #[tactic(auto, using(lwc_base::proofs::Facts::changes))]
-    pub(crate) fn clone_counted(&mut self, c: Name, spec: &Spec, job: u32, entry: &Regs) -> Name
+    pub(crate) fn clone_counted(&mut self, c: Name, spec: &Items, job: u32, entry: &Regs) -> Name
         requires live { IsLive (seen self.old) c }
         requires within { IsSpec (seen self.old).size.pages spec.now }
         requires may { MayName (seen self.old) job }

@@ -17,7 +17,7 @@ use crate::sharing::shares_nothing;
 use crate::transfer::Transfer;
 use crate::world::PlacedWorld;
 use cow_space::Origin;
-use lwc_base::{Cell, Spec};
+use lwc_base::{Cell, Items};
 use range_map::{Segment, SegmentKind};
 
 /// Whether a segment is of pages that are common.
@@ -103,7 +103,7 @@ impl PlacedWorld {
 
     /// Whether a transfer gives all that a place has, as it is there: nothing is shared where it marks what
     /// is, or no item names a key, and what is copied is the place's own.
-    pub(crate) fn gives_same(&self, transfer: Transfer, spec: &Spec, from: usize) -> bool
+    pub(crate) fn gives_same(&self, transfer: Transfer, spec: &Items, from: usize) -> bool
         requires { from < count self.now.places }
         ensures row { result ≡ true → (old : Row)
             → transferred_row (seen self.now) transfer spec.now (rows self.now.places from) old
@@ -120,7 +120,7 @@ impl PlacedWorld {
     }
 
     /// Whether what a transfer gives the place `to` can be copied whole.
-    pub(crate) fn can_copy(&self, transfer: Transfer, spec: &Spec, from: usize, to: usize) -> bool
+    pub(crate) fn can_copy(&self, transfer: Transfer, spec: &Items, from: usize, to: usize) -> bool
         requires from { from < count self.now.places }
         requires to { to < count self.now.places }
         ensures apart { result ≡ true → from ≢ to }

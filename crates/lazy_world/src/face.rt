@@ -2,7 +2,7 @@ use crate::lazy::{LazyWorld, set_cached_roots};
 use crate::world::PlacedWorld;
 use arrayvec::ArrayVec;
 use lwc_base::{
-    Lent, Name, OutOfMemory, PageNumber, Range, Regs, SlotNumber, Spec, StoreFault, Summary,
+    Items, Lent, Name, OutOfMemory, PageNumber, Range, Regs, SlotNumber, StoreFault, Summary,
     WorldSize,
 };
 use std::alloc::Global;
@@ -114,7 +114,7 @@ impl World for LazyWorld {
     fn clone_context(
         &mut self,
         c: Name,
-        spec: &Spec,
+        spec: &Items,
         job: u32,
         entry: &Regs,
     ) -> Result<Name, OutOfMemory>
@@ -136,7 +136,7 @@ impl World for LazyWorld {
         Ok(self.clone_counted(c, spec, job, entry))
     }
 
-    fn overlay(&mut self, to: Name, from: Name, spec: &Spec, job: u32) -> Result<(), OutOfMemory>
+    fn overlay(&mut self, to: Name, from: Name, spec: &Items, job: u32) -> Result<(), OutOfMemory>
         requires to { IsLive (lazy.seen_lazy self.old) to }
         requires from { IsLive (lazy.seen_lazy self.old) from }
         requires within { IsSpec (lazy.seen_lazy self.old).size.pages spec.now }
@@ -162,15 +162,15 @@ impl World for LazyWorld {
         self.known = true;
     }
 
-    fn needs_group(&self, c: Name, spec: &Spec) -> bool {
+    fn needs_group(&self, c: Name, spec: &Items) -> bool {
         self.world.needs_group(c, spec)
     }
 
-    fn ranges_after_clone(&self, c: Name, spec: &Spec) -> (u32, u32) {
+    fn ranges_after_clone(&self, c: Name, spec: &Items) -> (u32, u32) {
         self.world.ranges_after_clone(c, spec)
     }
 
-    fn ranges_after_overlay(&self, to: Name, from: Name, spec: &Spec) -> (u32, u32) {
+    fn ranges_after_overlay(&self, to: Name, from: Name, spec: &Items) -> (u32, u32) {
         self.world.ranges_after_overlay(to, from, spec)
     }
 

@@ -5,7 +5,7 @@ ghost use Rattle.lazy_world.specs.Worlds as placed;
 
 use crate::world::PlacedWorld;
 use arrayvec::ArrayVec;
-use lwc_base::{MOST_KEPT_ROOTS, Name, Regs, Spec};
+use lwc_base::{Items, MOST_KEPT_ROOTS, Name, Regs};
 
 /// A world by shared pages that knows what its contexts are reached from, so that a reap mostly takes no
 /// search: each live context is reached from the cached roots, where they are known.
@@ -51,7 +51,7 @@ impl LazyWorld {
     /// each range of the context and each item takes at most 128 node steps and 4 free nodes, and one free
     /// node besides if there is one; or one step and no node in all, where each page is copied and is the
     /// context's own.
-    pub fn clone_counted(&mut self, c: Name, spec: &Spec, job: u32, entry: &Regs) -> Name
+    pub fn clone_counted(&mut self, c: Name, spec: &Items, job: u32, entry: &Regs) -> Name
         requires live { IsLive (seen_lazy self.old) c }
         requires within { IsSpec (seen_lazy self.old).size.pages spec.now }
         requires may { MayName (seen_lazy self.old) job }
@@ -76,7 +76,7 @@ impl LazyWorld {
     /// `overlay`, without a `Result`. No frame is taken or written. Where no group is needed, each
     /// range of `from` and each item takes at most 3064 node steps and 16 free nodes, and 1532 steps and 9
     /// nodes besides.
-    pub fn overlay_counted(&mut self, to: Name, from: Name, spec: &Spec, job: u32)
+    pub fn overlay_counted(&mut self, to: Name, from: Name, spec: &Items, job: u32)
         requires to { IsLive (seen_lazy self.old) to }
         requires from { IsLive (seen_lazy self.old) from }
         requires within { IsSpec (seen_lazy self.old).size.pages spec.now }

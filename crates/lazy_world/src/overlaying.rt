@@ -6,7 +6,7 @@ ghost use Rattle.world_face.specs.Calls.{AreFew, HasGroupPlace, IsLive, MayName}
 
 use crate::transfer::Transfer;
 use crate::world::PlacedWorld;
-use lwc_base::{Name, Spec};
+use lwc_base::{Items, Name};
 
 impl PlacedWorld {
     ghost use Rattle.lazy_world.specs.Costs.{OverlaySteps, OverlayStore};
@@ -14,7 +14,7 @@ impl PlacedWorld {
 
     /// Takes over what the items name from another context.
     #[tactic(auto, using(lwc_base::proofs::Facts::changes))]
-    fn overlay_other(&mut self, to: Name, from: Name, spec: &Spec, job: u32)
+    fn overlay_other(&mut self, to: Name, from: Name, spec: &Items, job: u32)
         requires apart { to ≢ from }
         requires to { IsLive (seen self.old) to }
         requires from { IsLive (seen self.old) from }
@@ -34,7 +34,7 @@ impl PlacedWorld {
     /// Takes over what the items name from the context itself. Its values move at once with the change of the
     /// others, since a context that has only shared may have too many ranges.
     #[tactic(auto, using(lwc_base::proofs::Facts::changes))]
-    fn overlay_itself(&mut self, c: Name, spec: &Spec, job: u32)
+    fn overlay_itself(&mut self, c: Name, spec: &Items, job: u32)
         requires live { IsLive (seen self.old) c }
         requires within { IsSpec (seen self.old).size.pages spec.now }
         requires may { MayName (seen self.old) job }
@@ -59,7 +59,7 @@ impl PlacedWorld {
     /// gets a copy of each value of mode copy, has each value of mode share in common with `from`, and
     /// nothing under a key of mode unmap. An absent page of `from` becomes absent in `to`. No frame is taken
     /// or written.
-    pub(crate) fn overlay_counted(&mut self, to: Name, from: Name, spec: &Spec, job: u32)
+    pub(crate) fn overlay_counted(&mut self, to: Name, from: Name, spec: &Items, job: u32)
         requires to { IsLive (seen self.old) to }
         requires from { IsLive (seen self.old) from }
         requires within { IsSpec (seen self.old).size.pages spec.now }

@@ -20,7 +20,7 @@ use arrayvec::ArrayVec;
 use cow_space::{Origin, PageRun};
 use fd_table::lowest_bit;
 use lwc_base::{
-    Cell, Item, Key, Kind, MOST_PAGE_RUNS, MOST_PAGES, PageNumber, Range, Right, SlotNumber, Spec,
+    Cell, Item, Items, Key, Kind, MOST_PAGE_RUNS, MOST_PAGES, PageNumber, Range, Right, SlotNumber,
 };
 use range_map::{PageState, SegmentKind, sooner_edge};
 use res_spec::mode_of;
@@ -42,7 +42,7 @@ fn item_edge(item: &Item, p: PageNumber, edge: PageNumber) -> PageNumber
 
 /// Where an item of pages first begins or ends past a page, if that is before the edge; else the edge. Up to
 /// there the pages have the mode of this one.
-pub(crate) fn mode_edge(spec: &Spec, p: PageNumber, edge: PageNumber) -> PageNumber
+pub(crate) fn mode_edge(spec: &Items, p: PageNumber, edge: PageNumber) -> PageNumber
     requires { p < edge }
     ensures past { p < result }
     ensures within { result ≤ edge }
@@ -68,7 +68,7 @@ fn is_of_slots(item: &Item) -> bool
 }
 
 /// Whether some item names slots.
-pub(crate) fn names_slots(spec: &Spec) -> bool
+pub(crate) fn names_slots(spec: &Items) -> bool
     ensures { result ≡ false → (n : ℕ) → mode spec.now (Slot n) ≡ None }
 {
     for item in spec.items() {
@@ -180,7 +180,7 @@ impl PlacedWorld {
     fn run_from_page(
         &self,
         transfer: Transfer,
-        spec: &Spec,
+        spec: &Items,
         from: usize,
         to: usize,
         p: PageNumber,
@@ -224,7 +224,7 @@ impl PlacedWorld {
     fn runs_of_pages(
         &self,
         transfer: Transfer,
-        spec: &Spec,
+        spec: &Items,
         from: usize,
         to: usize,
     ) -> ArrayVec<PageRun, MOST_PAGE_RUNS>
@@ -280,7 +280,7 @@ impl PlacedWorld {
     fn slot_origin(
         &self,
         transfer: Transfer,
-        spec: &Spec,
+        spec: &Items,
         from: usize,
         to: usize,
         n: SlotNumber,
@@ -297,7 +297,7 @@ impl PlacedWorld {
 
     /// The slots that a transfer may change: slot n is bit n. The others are empty in both places, and no
     /// item names them.
-    fn changed_slots(&self, spec: &Spec, from: usize, to: usize) -> u64
+    fn changed_slots(&self, spec: &Items, from: usize, to: usize) -> u64
         requires from { from < count self.now.places }
         requires to { to < count self.now.places }
         ensures { (transfer : Transfer) (n : ℕ) → n < SLOTS → has_bit result n ≡ false
@@ -314,7 +314,7 @@ impl PlacedWorld {
     pub(crate) fn slot_origins(
         &self,
         transfer: Transfer,
-        spec: &Spec,
+        spec: &Items,
         from: usize,
         to: usize,
     ) -> [Option<Origin>; 64]
@@ -338,7 +338,7 @@ impl PlacedWorld {
     pub(crate) fn uid_origin(
         &self,
         transfer: Transfer,
-        spec: &Spec,
+        spec: &Items,
         from: usize,
         to: usize,
     ) -> Option<Origin>
@@ -355,7 +355,7 @@ impl PlacedWorld {
     pub(crate) fn page_origins(
         &self,
         transfer: Transfer,
-        spec: &Spec,
+        spec: &Items,
         from: usize,
         to: usize,
     ) -> PageOrigins
@@ -383,7 +383,13 @@ impl PlacedWorld {
     }
 
     /// Where the place `to` gets its cells and rights by a transfer from what the place `from` has.
-    pub(crate) fn origins(&self, transfer: Transfer, spec: &Spec, from: usize, to: usize) -> Origins
+    pub(crate) fn origins(
+        &self,
+        transfer: Transfer,
+        spec: &Items,
+        from: usize,
+        to: usize,
+    ) -> Origins
         requires from { from < count self.now.places }
         requires to { to < count self.now.places }
         requires transfer { IsFor (parts self.now).size.contexts from to transfer }

@@ -16,7 +16,7 @@ use crate::transfer::Transfer;
 use crate::world::PlacedWorld;
 use arrayvec::ArrayVec;
 use cow_space::PageRun;
-use lwc_base::{MOST_ITEMS, MOST_PAGE_RUNS, Name, Range, Spec};
+use lwc_base::{Items, MOST_ITEMS, MOST_PAGE_RUNS, Name, Range};
 
 impl Places {
     /// The number of ranges of a place.
@@ -81,7 +81,7 @@ impl PlacedWorld {
     /// `from`.
     // The origins are a large value, which each caller would clear if this were a part of it.
     #[inline(never)]
-    fn count_origins(&self, transfer: Transfer, spec: &Spec, from: usize, to: usize) -> u32
+    fn count_origins(&self, transfer: Transfer, spec: &Items, from: usize, to: usize) -> u32
         requires from { from < count self.now.places }
         requires to { to < count self.now.places }
         requires transfer { IsFor (parts self.now).size.contexts from to transfer }
@@ -95,7 +95,7 @@ impl PlacedWorld {
     }
 
     /// The number of ranges of a context once it got the cells that a transfer gives it of another one.
-    fn ranges_after(&self, transfer: Transfer, spec: &Spec, d: Name, c: Name) -> u32
+    fn ranges_after(&self, transfer: Transfer, spec: &Items, d: Name, c: Name) -> u32
         requires from { IsLive (seen self.now) d }
         requires to { IsLive (seen self.now) c }
         requires transfer { IsOfContexts transfer d c }
@@ -113,7 +113,7 @@ impl PlacedWorld {
 
     /// The numbers of ranges that the context and the new one would have after `clone_context`, in this
     /// order. They are the same for every job.
-    pub(crate) fn ranges_after_clone(&self, c: Name, spec: &Spec) -> (u32, u32)
+    pub(crate) fn ranges_after_clone(&self, c: Name, spec: &Items) -> (u32, u32)
         requires live { IsLive (seen self.now) c }
         requires within { IsSpec (seen self.now).size.pages spec.now }
         ensures value { (job : ℕ) → result ≡ ranges_after_clone (seen self.now) c job spec.now }
@@ -127,7 +127,7 @@ impl PlacedWorld {
 
     /// The numbers of ranges that the contexts `from` and `to` would have after `overlay`, in this order.
     /// They are the same for every job.
-    pub(crate) fn ranges_after_overlay(&self, to: Name, from: Name, spec: &Spec) -> (u32, u32)
+    pub(crate) fn ranges_after_overlay(&self, to: Name, from: Name, spec: &Items) -> (u32, u32)
         requires to { IsLive (seen self.now) to }
         requires from { IsLive (seen self.now) from }
         requires within { IsSpec (seen self.now).size.pages spec.now }

@@ -11,7 +11,7 @@ use crate::counts::Counts;
 use crate::ranges::{mode_edge, names_slots};
 use crate::transfer::Transfer;
 use crate::world::PlacedWorld;
-use lwc_base::{Cell, Item, Key, MOST_PAGES, Mode, NOBODY, Name, PageNumber, SLOTS, Spec};
+use lwc_base::{Cell, Item, Items, Key, MOST_PAGES, Mode, NOBODY, Name, PageNumber, SLOTS};
 use res_spec::mode_of;
 
 /// Whether an item shares what it names.
@@ -22,7 +22,7 @@ fn is_share(item: &Item) -> bool
 }
 
 /// Whether no item shares what it names, so that no value moves.
-pub(crate) fn shares_nothing(spec: &Spec) -> bool
+pub(crate) fn shares_nothing(spec: &Items) -> bool
     ensures { result ≡ true → (k : Key) → mode spec.now k ≢ Some Share }
 {
     for item in spec.items() {
@@ -51,7 +51,7 @@ impl PlacedWorld {
     ghost use Rattle.lazy_world.specs.Worlds.{parts, seen};
 
     /// Whether a page of a place moves.
-    fn moves_page(&self, i: usize, spec: &Spec) -> bool
+    fn moves_page(&self, i: usize, spec: &Items) -> bool
         requires { i < count self.now.places }
         ensures some { result ≡ true → (p : ℕ) × (moves spec.now (Page p) (rows self.now.places i) ≡ true) }
         ensures none { result ≡ false → (p : ℕ) → p < MOST_PAGES
@@ -69,7 +69,7 @@ impl PlacedWorld {
     }
 
     /// Whether a slot of a place moves.
-    fn moves_slot(&self, i: usize, spec: &Spec) -> bool
+    fn moves_slot(&self, i: usize, spec: &Items) -> bool
         requires { i < count self.now.places }
         ensures some { result ≡ true → (n : ℕ) × (n < SLOTS)
             × (moves spec.now (Slot n) (rows self.now.places i) ≡ true) }
@@ -88,7 +88,7 @@ impl PlacedWorld {
     }
 
     /// Whether the credential of a place moves.
-    fn moves_uid(&self, i: usize, spec: &Spec) -> bool
+    fn moves_uid(&self, i: usize, spec: &Items) -> bool
         requires { i < count self.now.places }
         ensures { result ≡ moves spec.now Cred (rows self.now.places i) }
     {
@@ -97,7 +97,7 @@ impl PlacedWorld {
 
     /// Whether `clone_context` and `overlay` make a group: an item of mode share names a key that is
     /// present and the context's own.
-    pub(crate) fn needs_group(&self, c: Name, spec: &Spec) -> bool
+    pub(crate) fn needs_group(&self, c: Name, spec: &Items) -> bool
         requires live { IsLive (seen self.now) c }
         requires within { IsSpec (seen self.now).size.pages spec.now }
         ensures value { result ≡ needs_group (seen self.now) c spec.now }
@@ -120,7 +120,7 @@ impl PlacedWorld {
     /// and 1532 steps and 9 nodes besides. No frame is taken or written.
     // The origins are a large value, which each caller would clear if this were a part of it.
     #[inline(never)]
-    pub(crate) fn follow(&mut self, transfer: Transfer, spec: &Spec, d: Name, c: Name)
+    pub(crate) fn follow(&mut self, transfer: Transfer, spec: &Items, d: Name, c: Name)
         requires from { IsLive (seen self.old) d }
         requires to { IsLive (seen self.old) c }
         requires transfer { IsOfContexts transfer d c }
@@ -164,7 +164,7 @@ impl PlacedWorld {
     }
 
     /// A group without values gets those of a context that items move, and nothing else.
-    pub(crate) fn fill_group(&mut self, g: Name, c: Name, spec: &Spec)
+    pub(crate) fn fill_group(&mut self, g: Name, c: Name, spec: &Items)
         requires live { IsLive (seen self.old) c }
         requires within { IsSpec (seen self.old).size.pages spec.now }
         requires empty { group (seen self.old) g ≡ new_group }
@@ -192,7 +192,7 @@ impl PlacedWorld {
     /// Moves a context's own values under share into a new group of the job, if there are any; else nothing
     /// changes.
     #[tactic(auto, using(lwc_base::proofs::Facts::changes))]
-    pub(crate) fn share(&mut self, c: Name, spec: &Spec, job: u32)
+    pub(crate) fn share(&mut self, c: Name, spec: &Items, job: u32)
         requires live { IsLive (seen self.old) c }
         requires within { IsSpec (seen self.old).size.pages spec.now }
         requires may { MayName (seen self.old) job }

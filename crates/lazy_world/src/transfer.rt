@@ -9,7 +9,7 @@ ghost use Rattle.lazy_world.specs.Transfers.{taken_origin, origin_of};
 
 use arrayvec::ArrayVec;
 use cow_space::Origin;
-use lwc_base::{Item, MOST_ITEMS, Mode, Name, Range, Right, Spec};
+use lwc_base::{Item, Items, MOST_ITEMS, Mode, Name, Range, Right};
 use range_map::SegmentKind;
 
 /// What a place gets of the cells of a context, by the modes of their keys.
@@ -51,7 +51,7 @@ fn read_range(item: &Item) -> Option<Range>
 }
 
 /// The pages that items copy and that may only be read then.
-pub(crate) fn read_pages(spec: &Spec) -> ArrayVec<Range, MOST_ITEMS>
+pub(crate) fn read_pages(spec: &Items) -> ArrayVec<Range, MOST_ITEMS>
     ensures { (q : ℕ) → have_page result.items q ≡ is_read (mode spec.now (Page q)) }
 {
     let mut pages = ArrayVec::new();
@@ -116,7 +116,7 @@ impl Found {
 
 impl Transfer {
     /// The pages that may only be read in the place that gets something.
-    pub fn reads(self, spec: &Spec) -> ArrayVec<Range, MOST_ITEMS>
+    pub fn reads(self, spec: &Items) -> ArrayVec<Range, MOST_ITEMS>
         ensures { (q : ℕ) → have_page result.items q ≡ reads self (mode spec.now (Page q)) }
     {
         match self {

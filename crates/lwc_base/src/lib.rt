@@ -8,6 +8,7 @@ pub mod channels;
 pub mod descriptor;
 pub mod fault;
 pub mod item;
+pub mod items;
 pub mod key;
 pub mod laws;
 pub mod limits;
@@ -21,7 +22,6 @@ pub mod regs;
 pub mod right;
 pub mod sequence;
 pub mod size;
-pub mod spec;
 
 pub use answer::{Answer, Moved};
 pub use cell::Cell;
@@ -29,6 +29,7 @@ pub use channels::{Channels, FileImage, Requests, may_open, may_set};
 pub use descriptor::{Cap, Descriptor, Grant, Lent, SLOTS};
 pub use fault::{Fault, ThreadStatus};
 pub use item::{Item, Mode};
+pub use items::Items;
 pub use key::{Key, Kind, NOBODY, PageNumber, SlotNumber};
 pub use limits::{
     MOST_BUDGET, MOST_BYTES_OF_CALL, MOST_BYTES_OF_FORM_ONE, MOST_CONSOLE_BYTES, MOST_CONTEXTS,
@@ -49,4 +50,3 @@ pub use regs::Regs;
 pub use right::Right;
 pub use sequence::Sequence;
 pub use size::{StoreFault, Summary, WorldSize};
-pub use spec::Spec;

@@ -50,7 +50,7 @@ pub const MOST_PAGE_PLACES: u32 = 1980;
 pub const MOST_SLOT_PLACES: u32 = 65536;
 
 /// The most runs of pages that one change of a place names: one for each edge of an item or a segment.
-pub const MOST_PAGE_RUNS: usize = 512;
+pub const MOST_PAGE_RUNS: usize = 193;
 
 /// The most roots that a world remembers between two reaps.
 pub const MOST_KEPT_ROOTS: usize = 64;

@@ -7,8 +7,8 @@ ghost use Rattle.world_face.specs.Calls.{IsLive, MayName};
 
 use guest_call::{are_too_many, items_for};
 use lwc_base::{
-    Answer, Grant, Lent, MOST_CONTEXTS_OF_JOB, MOST_GROUPS_OF_JOB, Name, OutOfMemory, Refusal,
-    Regs, Spec,
+    Answer, Grant, Items, Lent, MOST_CONTEXTS_OF_JOB, MOST_GROUPS_OF_JOB, Name, OutOfMemory,
+    Refusal, Regs,
 };
 use res_spec::SpecCall;
 use world_face::World;
@@ -35,7 +35,7 @@ pub fn create<W: World>(
     ensures err { OnErr result (W.seen world.new ≡ W.seen world.old) }
     ensures ample { W.roomy ≡ true → IsOk result }
 {
-    let mut items = Spec::empty();
+    let mut items = Items::empty();
     let slot = match allowed(world, c, job, regs, &mut items) {
         Ok(slot) => slot,
         Err(refusal) => return Ok(Answer::Refused(refusal)),
@@ -55,7 +55,7 @@ fn allowed<W: World>(
     c: Name,
     job: u32,
     regs: &Regs,
-    items: &mut Spec,
+    items: &mut Items,
 ) -> Result<u8, Refusal>
     requires live { IsLive (W.seen world.now) c }
     requires none { items.old ≡ [] }
@@ -69,7 +69,7 @@ fn allowed<W: World>(
 
 /// The slot for the descriptor of a context that is made by these items, or the first refusal.
 #[tactic(auto, unfolding(crate::specs::Create::room_refusals))]
-fn room_for<W: World>(world: &W, c: Name, job: u32, items: &Spec) -> Result<u8, Refusal>
+fn room_for<W: World>(world: &W, c: Name, job: u32, items: &Items) -> Result<u8, Refusal>
     requires live { IsLive (W.seen world.now) c }
     requires valid { IsSpec (W.seen world.now).size.pages items.now }
     ensures refused { IfErr result (λ refusal.

@@ -6,7 +6,7 @@ ghost use Rattle.world_face.specs.Calls.{IsLive};
 
 use crate::traps::Traps;
 use guest_call::{context_for, items_for};
-use lwc_base::{Item, Kind, Mode, Name, Regs, Spec};
+use lwc_base::{Item, Items, Kind, Mode, Name, Regs};
 use res_spec::SpecCall;
 use world_face::World;
 
@@ -34,7 +34,7 @@ pub fn forbids_overlay<W: World>(traps: &Traps, world: &W, c: Name, regs: &Regs)
     let Some(monitor) = monitor_of_named(traps, world, c, regs) else {
         return false;
     };
-    let mut items = Spec::empty();
+    let mut items = Items::empty();
     match items_for(
         world,
         c,

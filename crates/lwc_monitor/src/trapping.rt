@@ -11,7 +11,7 @@ ghost use Rattle.world_face.specs.Calls.{IsLive};
 use crate::traps::Traps;
 use access_cap::{Mask, grants_kinds};
 use guest_call::context_for;
-use lwc_base::{Item, Kind, Mode, Name, Refusal, Regs, SLOTS, Spec};
+use lwc_base::{Item, Items, Kind, Mode, Name, Refusal, Regs, SLOTS};
 use world_face::World;
 
 /// The bits of all kinds of keys: a context is trapped through a capability that has every key.
@@ -86,7 +86,7 @@ fn is_common<W: World>(world: &W, d: Name, n: u8) -> bool
     requires within { n < SLOTS }
     ensures { result ≡ spec.is_common ((context (W.seen world.now) d).cell (Slot n)) }
 {
-    let mut spec = Spec::empty();
+    let mut spec = Items::empty();
     spec.push(Item {
         kind: Kind::Slot,
         mode: Mode::Share,

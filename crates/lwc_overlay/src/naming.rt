@@ -9,7 +9,7 @@ ghost use Rattle.lwc_overlay.specs.Named.{items_of, link, refusals_before};
 ghost use Rattle.world_face.specs.Calls.{IsLive};
 
 use guest_call::{context_for, items_for};
-use lwc_base::{Grant, Name, Refusal, Regs, Spec};
+use lwc_base::{Grant, Items, Name, Refusal, Regs};
 use res_spec::SpecCall;
 use world_face::World;
 
@@ -21,7 +21,7 @@ pub(crate) fn named<'w, W: World>(
     c: Name,
     call: SpecCall,
     regs: &Regs,
-) -> Result<((Name, Grant<'w>), Spec), Refusal>
+) -> Result<((Name, Grant<'w>), Items), Refusal>
     requires live { IsLive (W.seen world.now) c }
     requires named { HasItsContexts (W.seen world.now) }
     ensures refused { IfErr result (λ refusal. (rows : List (Bool × Refusal)) →
@@ -36,7 +36,7 @@ pub(crate) fn named<'w, W: World>(
     ensures valid { IfOk result (λ found. IsSpec (W.seen world.now).size.pages found.1) }
 {
     let link = context_for(world, c, regs.r[1])?;
-    let mut items = Spec::empty();
+    let mut items = Items::empty();
     items_for(world, c, call, regs.r[2], regs.r[3], &mut items)?;
     Ok((link, items))
 }

@@ -13,7 +13,7 @@ ghost use Rattle.world_face.specs.Calls.{HasGroupPlace, IsLive, MayName};
 use crate::naming::named;
 use access_cap::grants;
 use guest_call::{are_too_many, with_answer};
-use lwc_base::{Answer, Grant, MOST_GROUPS_OF_JOB, Name, OutOfMemory, Refusal, Regs, Spec};
+use lwc_base::{Answer, Grant, Items, MOST_GROUPS_OF_JOB, Name, OutOfMemory, Refusal, Regs};
 use res_spec::SpecCall;
 use world_face::World;
 
@@ -56,7 +56,7 @@ fn refusal_of<W: World>(
     job: u32,
     giver: Name,
     keys: Grant<'_>,
-    items: &Spec,
+    items: &Items,
 ) -> Option<Refusal>
     requires live { IsLive (W.seen world.now) c }
     requires giver { IsLive (W.seen world.now) giver }

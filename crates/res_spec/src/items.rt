@@ -12,7 +12,7 @@ ghost use Rattle.res_spec.specs.Spelling.{Spells, IsBadMode, IsBadRange, IsOverl
 
 use arrayvec::ArrayVec;
 use byteorder::{ByteOrder, LittleEndian};
-use lwc_base::{Item, Kind, MOST_ITEMS, Mode, PageNumber, SLOTS, Spec};
+use lwc_base::{Item, Items, Kind, MOST_ITEMS, Mode, PageNumber, SLOTS};
 
 /// The number of bytes of an item: its kind, its mode, and the numbers from and to, each of four bytes, the
 /// lowest first.
@@ -42,7 +42,7 @@ pub enum SpecFault {
 /// # Errors
 ///
 /// `BadMode`, `BadRange`, `Overlap`, in this order, each tested over all items before the next.
-pub fn read_items(bytes: &[u8], call: SpecCall, pages: PageNumber) -> Result<Spec, SpecFault>
+pub fn read_items(bytes: &[u8], call: SpecCall, pages: PageNumber) -> Result<Items, SpecFault>
     requires items { length bytes.now % ITEM_BYTES ≡ 0 }
     requires few { length bytes.now ≤ MOST_ITEMS * ITEM_BYTES }
     requires pages { pages ≤ MOST_PAGES }
@@ -70,7 +70,7 @@ pub fn items_that_are_read_are_a_spec()
 
 /// The items that bytes spell, tested in the order of the faults.
 #[tactic(auto, unfolding(crate::specs::Items::faults, crate::specs::Items::read))]
-fn test_items(bytes: &[u8], call: SpecCall, pages: PageNumber) -> Result<Spec, SpecFault>
+fn test_items(bytes: &[u8], call: SpecCall, pages: PageNumber) -> Result<Items, SpecFault>
     requires few { length bytes.now ≤ MOST_ITEMS * ITEM_BYTES }
     requires pages { pages ≤ MOST_PAGES }
     ensures read { read call pages bytes.now ≡ result }
@@ -229,12 +229,12 @@ fn items_in(call: SpecCall, bytes: &[u8]) -> ArrayVec<Item, MOST_ITEMS>
 }
 
 /// The specifier of these items.
-fn spec_of(items: &[Item]) -> Spec
+fn spec_of(items: &[Item]) -> Items
     requires few { length items.now ≤ MOST_ITEMS }
     requires valid { IsSpec MOST_PAGES items.now }
     ensures { result ≡ items.now }
 {
-    let mut spec = Spec::empty();
+    let mut spec = Items::empty();
     for item in items {
         spec.push(*item);
     }

@@ -2,11 +2,11 @@ ghost use Rattle.std.specs.Prelude.{◌≡◌};
 ghost use Rattle.lwc_base.specs.Modes as modes;
 ghost use Rattle.lwc_base.specs.Modes.{kind_of, names, number_of};
 
-use lwc_base::{Item, Key, Kind, Mode, Spec};
+use lwc_base::{Item, Items, Key, Kind, Mode};
 
 /// The mode of the item that names a key (`mode`); `None` exactly where no item names it.
 #[tactic(auto, unfolding(lwc_base::specs::Modes::mode))]
-pub fn mode_of(spec: &Spec, key: Key) -> Option<Mode>
+pub fn mode_of(spec: &Items, key: Key) -> Option<Mode>
     ensures { result ≡ modes.mode spec.now key }
 {
     spec.items()
@@ -17,7 +17,7 @@ pub fn mode_of(spec: &Spec, key: Key) -> Option<Mode>
 
 /// What becomes of a key in a new context: its mode, and a copy where no item names it (`mode_or_copy`).
 #[tactic(auto, unfolding(lwc_base::specs::Modes::mode_or_copy))]
-pub fn mode_or_copy(spec: &Spec, key: Key) -> Mode
+pub fn mode_or_copy(spec: &Items, key: Key) -> Mode
     ensures { result ≡ modes.mode_or_copy spec.now key }
 {
     mode_of(spec, key).unwrap_or(Mode::Copy)

@@ -6,7 +6,7 @@ ghost use Rattle.snapshot_host.specs.Begin as spec;
 ghost use Rattle.snapshot_host.specs.Begin.{IsNewJob};
 ghost use Rattle.world_face.specs.Calls.{HasPlace, IsLive};
 
-use lwc_base::{Lent, Name, OutOfMemory, Spec};
+use lwc_base::{Items, Lent, Name, OutOfMemory};
 use world_face::World;
 
 /// Makes the context that request `r` is served in: a whole copy of the home, but for slots 0 and 1, which
@@ -26,7 +26,7 @@ pub fn begin<W: World>(world: &mut W, home: Name, r: u16) -> Result<Name, OutOfM
     ensures ample { W.roomy ≡ true → IsOk result }
 {
     let entry = world.entry(home);
-    let name = world.clone_context(home, &Spec::empty(), u32::from(r) + 1, &entry)?;
+    let name = world.clone_context(home, &Items::empty(), u32::from(r) + 1, &entry)?;
     world.set_slot(name, 1, Lent::Reply { r });
     world.set_slot(name, 0, Lent::Request { r, at: 0 });
     Ok(name)

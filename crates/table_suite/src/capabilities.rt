@@ -7,7 +7,7 @@ use access_cap::kinds::{Mask, covers_kinds};
 use access_cap::sets::{covers, meet};
 use access_cap::whole::{empty, full};
 use bitflags::Flags;
-use lwc_base::{Cap, Grant, Item, Kind, MOST_PAGES, Mode, PAGES_OF_FORM_ONE, Spec};
+use lwc_base::{Cap, Grant, Item, Items, Kind, MOST_PAGES, Mode, PAGES_OF_FORM_ONE};
 
 /// An item that copies what it names.
 fn item(kind: Kind, from: u32, to: u32) -> Item
@@ -22,8 +22,8 @@ fn item(kind: Kind, from: u32, to: u32) -> Item
 }
 
 /// Pages 62 to 65, slot 3 and the credential.
-fn some_keys() -> Spec {
-    let mut spec = Spec::empty();
+fn some_keys() -> Items {
+    let mut spec = Items::empty();
     spec.push(item(Kind::Page, 62, 66));
     spec.push(item(Kind::Slot, 3, 4));
     spec.push(item(Kind::Cred, 0, 1));
@@ -31,8 +31,8 @@ fn some_keys() -> Spec {
 }
 
 /// A page of the second thousand.
-fn far_page() -> Spec {
-    let mut spec = Spec::empty();
+fn far_page() -> Items {
+    let mut spec = Items::empty();
     spec.push(item(Kind::Page, 1500, 1501));
     spec
 }
@@ -66,11 +66,11 @@ fn a_restriction_has_the_keys_that_both_name(rt: HostRuntime) {
     let part = meet(&full(65), &spec);
     let words = words_from(&part, 0);
     let answers = [
-        meet(&full(MOST_PAGES), &Spec::empty()) == empty(),
+        meet(&full(MOST_PAGES), &Items::empty()) == empty(),
         covers(&part, &spec, 65),
         covers(&part, &spec, 66),
         covers(&empty(), &spec, 1),
-        covers(&empty(), &Spec::empty(), MOST_PAGES),
+        covers(&empty(), &Items::empty(), MOST_PAGES),
     ];
     check_equal(&rt, words, [3 << 62, 1, 0]);
     check_equal(&rt, (part.slots, part.cred), (8, true));
@@ -114,7 +114,7 @@ const ALL: Grant<'static> = Grant::All { pages: 70 };
 
 /// Whether lent keys are those that they stand for: all of 70 pages, none, those of a capability, and those
 /// that all keys and an item of a far page have in common.
-fn are_owned(part: &Cap, far: &Spec) -> [bool; 4] {
+fn are_owned(part: &Cap, far: &Items) -> [bool; 4] {
     [
         owned_keys(ALL) == full(70),
         owned_keys(Grant::None) == empty(),
@@ -124,7 +124,7 @@ fn are_owned(part: &Cap, far: &Spec) -> [bool; 4] {
 }
 
 /// Whether all keys of 70 pages grant some pages and a far one, and no key does, where there are so many pages.
-fn are_granted(far: &Spec) -> [[bool; 3]; 2] {
+fn are_granted(far: &Items) -> [[bool; 3]; 2] {
     let some = some_keys();
     [
         [
@@ -158,7 +158,7 @@ fn lent_keys_are_those_of_their_capability(rt: HostRuntime) {
     let owned = are_owned(&part, &far);
     let granted = are_granted(&far);
     let others = [
-        grants(Grant::None, &Spec::empty(), MOST_PAGES),
+        grants(Grant::None, &Items::empty(), MOST_PAGES),
         grants(Grant::Of(&part), &far, MOST_PAGES),
     ];
     let kinds = are_kinds_granted();

@@ -2,7 +2,7 @@ ghost use Rattle.std.specs.Prelude.{◌≡◌, ◌≤◌, ◌%◌, length};
 
 use crate::checks::check_equal;
 use byteorder::{ByteOrder, LittleEndian};
-use lwc_base::{Item, Key, Kind, Mode, Spec};
+use lwc_base::{Item, Items, Key, Kind, Mode};
 use res_spec::{ITEM_BYTES, SpecCall, SpecFault, mode_of, mode_or_copy, read_items};
 use std::process::Abort;
 
@@ -80,7 +80,7 @@ fn items_are_tested_together(rt: HostRuntime) {
 }
 
 /// The modes of pages 0 and 2 and of slot 2, and the mode of page 3 or else a copy.
-fn modes_of(spec: &Spec) -> ([Option<Mode>; 3], Mode) {
+fn modes_of(spec: &Items) -> ([Option<Mode>; 3], Mode) {
     let modes = [
         mode_of(spec, Key::Page(0)),
         mode_of(spec, Key::Page(2)),
@@ -91,7 +91,7 @@ fn modes_of(spec: &Spec) -> ([Option<Mode>; 3], Mode) {
 
 #[test]
 fn a_key_has_the_mode_of_its_item(rt: HostRuntime) {
-    let mut spec = Spec::empty();
+    let mut spec = Items::empty();
     spec.push(Item {
         kind: Kind::Page,
         mode: Mode::Share,

@@ -2,7 +2,7 @@ ghost use Rattle.std.specs.Prelude.{◌≡◌, ◌∷◌, [], IfOk};
 ghost use Rattle.lwc_base.specs.Channels.{opened};
 
 use crate::checks::check_equal;
-use lwc_base::{Channels, Item, Kind, Mode, PageBytes, Sequence, Spec, may_open};
+use lwc_base::{Channels, Item, Items, Kind, Mode, PageBytes, Sequence, may_open};
 use std::alloc::Global;
 use std::test::Fail;
 
@@ -76,7 +76,7 @@ fn items_are_kept_in_order(rt: HostRuntime) {
         from: 0,
         to: 1,
     };
-    let mut spec = Spec::empty();
+    let mut spec = Items::empty();
     check_equal(&rt, spec.items().len(), 0);
     spec.push(pages);
     spec.push(cred);

@@ -13,8 +13,8 @@ use crate::key_value::KeyValue;
 use crate::world::WholeWorld;
 use access_cap::owned;
 use lwc_base::{
-    Key, Mode, NOBODY, Name, OutOfMemory, PageBytes, PageNumber, PageValue, Regs, Right, SLOTS,
-    Spec,
+    Items, Key, Mode, NOBODY, Name, OutOfMemory, PageBytes, PageNumber, PageValue, Regs, Right,
+    SLOTS,
 };
 use res_spec::mode_of;
 use std::alloc::Global;
@@ -33,7 +33,7 @@ fn copied_page(alloc: Global, value: Option<&PageValue>) -> Result<Option<PageVa
 }
 
 /// The mode of a key, or another one where no item names it.
-fn mode_or(spec: &Spec, key: Key, rest: Mode) -> Mode
+fn mode_or(spec: &Items, key: Key, rest: Mode) -> Mode
     ensures { result ≡ unwrap_or (mode spec.now key) rest }
 {
     mode_of(spec, key).unwrap_or(rest)
@@ -56,7 +56,7 @@ impl WholeWorld {
     pub(crate) fn cloned_row(
         &self,
         c: Name,
-        spec: &Spec,
+        spec: &Items,
         job: u32,
         rest: Mode,
         entry: &Regs,
@@ -81,7 +81,7 @@ impl WholeWorld {
     }
 
     /// Gives each page of the new context its right.
-    fn clone_rights(&self, c: Name, spec: &Spec, rest: Mode, row: &mut ContextRow)
+    fn clone_rights(&self, c: Name, spec: &Items, rest: Mode, row: &mut ContextRow)
         requires live { IsTrue (is_live (seen self.now) c) }
         requires whole { IsWhole (seen self.now).size.pages row.old }
         ensures whole { IsWhole (seen self.now).size.pages row.new }
@@ -123,7 +123,7 @@ impl WholeWorld {
     fn clone_pages(
         &self,
         c: Name,
-        spec: &Spec,
+        spec: &Items,
         job: u32,
         rest: Mode,
         row: &mut ContextRow,
@@ -148,7 +148,7 @@ impl WholeWorld {
     fn clone_slots(
         &self,
         c: Name,
-        spec: &Spec,
+        spec: &Items,
         job: u32,
         rest: Mode,
         row: &mut ContextRow,
@@ -172,7 +172,7 @@ impl WholeWorld {
     fn clone_key(
         &self,
         c: Name,
-        spec: &Spec,
+        spec: &Items,
         job: u32,
         rest: Mode,
         key: Key,

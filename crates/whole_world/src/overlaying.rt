@@ -8,7 +8,7 @@ ghost use Rattle.whole_world.specs.Sound.{HasSizeOf, IsWhole};
 
 use crate::context_row::ContextRow;
 use crate::world::WholeWorld;
-use lwc_base::{Key, Kind, Name, PageNumber, SlotNumber, Spec};
+use lwc_base::{Items, Key, Kind, Name, PageNumber, SlotNumber};
 use res_spec::mode_of;
 
 /// The key of a kind that has a number.
@@ -24,7 +24,7 @@ fn key_of(kind: Kind, n: usize) -> Key
 }
 
 /// Takes what there is for the keys of a kind that a spec names, out of as much else.
-fn take_cells<T>(mine: &mut Vec<T>, mut theirs: Vec<T>, kind: Kind, spec: &Spec)
+fn take_cells<T>(mine: &mut Vec<T>, mut theirs: Vec<T>, kind: Kind, spec: &Items)
 where
     T: Drop,
     requires many { vec_len mine.old ≡ vec_len theirs }
@@ -43,7 +43,7 @@ where
 
 impl ContextRow {
     /// Takes the cells of the keys that a spec names, and the rights of its pages, out of another row.
-    pub fn take_named(&mut self, pages: PageNumber, spec: &Spec, other: ContextRow)
+    pub fn take_named(&mut self, pages: PageNumber, spec: &Items, other: ContextRow)
         requires pages { pages ≤ MOST_PAGES }
         requires whole { IsWhole pages self.old }
         requires other { IsWhole pages other }
@@ -67,7 +67,7 @@ impl WholeWorld {
     ghost use Rattle.whole_world.specs.Worlds.{seen};
 
     /// A context takes the cells of the keys that a spec names, and the rights of its pages, out of a row.
-    pub(crate) fn take_over(&mut self, c: Name, spec: &Spec, row: ContextRow)
+    pub(crate) fn take_over(&mut self, c: Name, spec: &Items, row: ContextRow)
         requires live { IsTrue (is_live (seen self.old) c) }
         requires whole { IsWhole (seen self.old).size.pages row }
         requires old_groups { InContext (named_groups (seen self.old).next) c.job (context_of row) }

@@ -5,7 +5,7 @@ ghost use Rattle.whole_world.specs.declared.holder.Holder.TheVariants.{Nobody, O
 
 use crate::holder::{Holder, Side};
 use crate::world::WholeWorld;
-use lwc_base::{Key, Mode, Name, PageNumber, Range, Right, Spec};
+use lwc_base::{Items, Key, Mode, Name, PageNumber, Range, Right};
 use res_spec::{mode_of, mode_or_copy};
 
 /// Who has a value once a clone has moved the context's own values of mode share.
@@ -75,7 +75,7 @@ impl WholeWorld {
     ghost use Rattle.whole_world.specs.Worlds.{seen};
 
     /// The numbers of ranges that the context and the new one would have after a clone, in this order.
-    pub(crate) fn clone_ranges(&self, c: Name, spec: &Spec) -> (u32, u32)
+    pub(crate) fn clone_ranges(&self, c: Name, spec: &Items) -> (u32, u32)
         requires live { IsTrue (is_live (seen self.now) c) }
         requires within { IsSpec (seen self.now).size.pages spec.now }
         ensures { (job : ℕ) → result ≡ ranges_after_clone (seen self.now) c job spec.now }
@@ -88,7 +88,7 @@ impl WholeWorld {
     }
 
     /// The numbers of ranges that the contexts `from` and `to` would have after an overlay, in this order.
-    pub(crate) fn overlay_ranges(&self, to: Name, from: Name, spec: &Spec) -> (u32, u32)
+    pub(crate) fn overlay_ranges(&self, to: Name, from: Name, spec: &Items) -> (u32, u32)
         requires to { IsTrue (is_live (seen self.now) to) }
         requires from { IsTrue (is_live (seen self.now) from) }
         requires within { IsSpec (seen self.now).size.pages spec.now }
@@ -124,7 +124,7 @@ impl WholeWorld {
 
     /// The holder of a page of the context after it has been cloned.
     #[tactic(auto, unfolding(crate::specs::Holders::holder_after_clone))]
-    fn holder_after_clone(&self, c: Name, spec: &Spec, p: PageNumber) -> Holder
+    fn holder_after_clone(&self, c: Name, spec: &Items, p: PageNumber) -> Holder
         requires { IsTrue (is_live (seen self.now) c) }
         ensures { result ≡ holder_after_clone (seen self.now) c spec.now p }
     {
@@ -134,7 +134,7 @@ impl WholeWorld {
 
     /// The holder of a page of the clone.
     #[tactic(auto, unfolding(crate::specs::Holders::holder_in_clone))]
-    fn holder_in_clone(&self, c: Name, spec: &Spec, p: PageNumber) -> Holder
+    fn holder_in_clone(&self, c: Name, spec: &Items, p: PageNumber) -> Holder
         requires { IsTrue (is_live (seen self.now) c) }
         ensures { result ≡ holder_in_clone (seen self.now) c spec.now p }
     {
@@ -147,7 +147,7 @@ impl WholeWorld {
 
     /// The holder of a page of the context `to` once it has taken over from the context `from`.
     #[tactic(auto, unfolding(crate::specs::Holders::holder_after_overlay))]
-    fn holder_after_overlay(&self, to: Name, from: Name, spec: &Spec, p: PageNumber) -> Holder
+    fn holder_after_overlay(&self, to: Name, from: Name, spec: &Items, p: PageNumber) -> Holder
         requires to { IsTrue (is_live (seen self.now) to) }
         requires from { IsTrue (is_live (seen self.now) from) }
         ensures { result ≡ holder_after_overlay (seen self.now) to from spec.now p }
@@ -174,7 +174,7 @@ impl WholeWorld {
     }
     /// A page of the context after it has been cloned.
     #[tactic(auto, unfolding(crate::specs::Holders::side_after_clone))]
-    fn side_after_clone(&self, c: Name, spec: &Spec, p: PageNumber) -> Side
+    fn side_after_clone(&self, c: Name, spec: &Items, p: PageNumber) -> Side
         requires { IsTrue (is_live (seen self.now) c) }
         ensures { result ≡ side_after_clone (seen self.now) c spec.now p }
     {
@@ -186,7 +186,7 @@ impl WholeWorld {
 
     /// A page of the clone.
     #[tactic(auto, unfolding(crate::specs::Holders::side_in_clone))]
-    fn side_in_clone(&self, c: Name, spec: &Spec, p: PageNumber) -> Side
+    fn side_in_clone(&self, c: Name, spec: &Items, p: PageNumber) -> Side
         requires { IsTrue (is_live (seen self.now) c) }
         ensures { result ≡ side_in_clone (seen self.now) c spec.now p }
     {
@@ -198,7 +198,7 @@ impl WholeWorld {
 
     /// A page of the context `to` once it has taken over from the context `from`.
     #[tactic(auto, unfolding(crate::specs::Holders::side_after_overlay))]
-    fn side_after_overlay(&self, to: Name, from: Name, spec: &Spec, p: PageNumber) -> Side
+    fn side_after_overlay(&self, to: Name, from: Name, spec: &Items, p: PageNumber) -> Side
         requires to { IsTrue (is_live (seen self.now) to) }
         requires from { IsTrue (is_live (seen self.now) from) }
         ensures { result ≡ side_after_overlay (seen self.now) to from spec.now p }
@@ -210,7 +210,7 @@ impl WholeWorld {
     }
 
     /// The right of a page of the context `to` once it has taken over from the context `from`.
-    fn overlaid_right(&self, to: Name, from: Name, spec: &Spec, p: PageNumber) -> Right
+    fn overlaid_right(&self, to: Name, from: Name, spec: &Items, p: PageNumber) -> Right
         requires to { IsTrue (is_live (seen self.now) to) }
         requires from { IsTrue (is_live (seen self.now) from) }
         ensures { result ≡ overlaid_right (seen self.now) from p (mode spec.now (Page p))

@@ -16,13 +16,13 @@ ghost use Rattle.whole_world.specs.Sound.{HasGroupSizeOf, HasKey, HasSizeOf, Has
 use crate::context_row::ContextRow;
 use crate::group_row::GroupRow;
 use crate::world::WholeWorld;
-use lwc_base::{Key, Mode, Name, OutOfMemory, PageNumber, SLOTS, Spec};
+use lwc_base::{Items, Key, Mode, Name, OutOfMemory, PageNumber, SLOTS};
 use res_spec::mode_or_copy;
 
 impl ContextRow {
     /// Whether any value moves into a group, where the spec gives each key its mode.
     #[tactic(auto, unfolding(lwc_base::specs::Sharing::any_key))]
-    pub fn moves_any(&self, pages: PageNumber, spec: &Spec) -> bool
+    pub fn moves_any(&self, pages: PageNumber, spec: &Items) -> bool
         requires { IsWhole pages self.now }
         ensures { result ≡ any_key pages (λ k. is_moved (mode_or_copy spec.now k) k
             ((context_of self.now).cell k)) }
@@ -31,7 +31,7 @@ impl ContextRow {
     }
 
     /// Whether the value of any page moves.
-    fn moves_pages(&self, pages: PageNumber, spec: &Spec) -> bool
+    fn moves_pages(&self, pages: PageNumber, spec: &Items) -> bool
         ensures { result ≡ list_any (λ p. is_moved (mode_or_copy spec.now (Page p)) (Page p)
             ((context_of self.now).cell (Page p))) (range_with_len 0 pages) }
     {
@@ -39,7 +39,7 @@ impl ContextRow {
     }
 
     /// Whether the value of any slot moves.
-    fn moves_slots(&self, spec: &Spec) -> bool
+    fn moves_slots(&self, spec: &Items) -> bool
         requires { vec_len self.now.slots ≡ SLOTS }
         ensures { result ≡ list_any (λ n. is_moved (mode_or_copy spec.now (Slot n)) (Slot n)
             ((context_of self.now).cell (Slot n))) (range_with_len 0 SLOTS) }
@@ -48,7 +48,7 @@ impl ContextRow {
     }
 
     /// Whether the value under a key moves.
-    fn moves(&self, spec: &Spec, key: Key) -> bool
+    fn moves(&self, spec: &Items, key: Key) -> bool
         requires { HasSlot (vec_len self.now.slots) key }
         ensures { result ≡ is_moved (mode_or_copy spec.now key) key ((context_of self.now).cell key) }
     {
@@ -56,7 +56,7 @@ impl ContextRow {
     }
 
     /// Moves the own values under share into a group of this name with nothing in it.
-    pub fn move_values(&mut self, pages: PageNumber, spec: &Spec, name: Name, group: &mut GroupRow)
+    pub fn move_values(&mut self, pages: PageNumber, spec: &Items, name: Name, group: &mut GroupRow)
         requires whole { IsWhole pages self.old }
         requires whole_group { IsWholeGroup pages group.old }
         requires within { IsSpec pages spec.now }
@@ -72,7 +72,7 @@ impl ContextRow {
     }
 
     /// Moves the own pages under share.
-    fn move_pages(&mut self, pages: PageNumber, spec: &Spec, name: Name, group: &mut GroupRow)
+    fn move_pages(&mut self, pages: PageNumber, spec: &Items, name: Name, group: &mut GroupRow)
         requires whole { IsWhole pages self.old }
         requires whole_group { IsWholeGroup pages group.old }
         ensures whole { IsWhole pages self.new }
@@ -89,7 +89,7 @@ impl ContextRow {
     }
 
     /// Moves the own slots under share.
-    fn move_slots(&mut self, pages: PageNumber, spec: &Spec, name: Name, group: &mut GroupRow)
+    fn move_slots(&mut self, pages: PageNumber, spec: &Items, name: Name, group: &mut GroupRow)
         requires whole { IsWhole pages self.old }
         requires whole_group { IsWholeGroup pages group.old }
         ensures whole { IsWhole pages self.new }
@@ -133,7 +133,7 @@ impl WholeWorld {
 
     /// Whether a clone moves a value into a new group.
     #[tactic(auto, unfolding(lwc_base::specs::Sharing::needs_group))]
-    pub(crate) fn moves_any(&self, c: Name, spec: &Spec) -> bool
+    pub(crate) fn moves_any(&self, c: Name, spec: &Items) -> bool
         requires { IsTrue (is_live (seen self.now) c) }
         ensures { result ≡ needs_group (seen self.now) c spec.now }
     {
@@ -142,7 +142,7 @@ impl WholeWorld {
 
     /// Moves a context's own values under share into a new group of the job, if there are any. The only
     /// error is out of memory; that for the row of the group has been taken.
-    pub(crate) fn share(&mut self, c: Name, spec: &Spec, job: u32) -> Result<(), OutOfMemory>
+    pub(crate) fn share(&mut self, c: Name, spec: &Items, job: u32) -> Result<(), OutOfMemory>
         requires live { IsTrue (is_live (seen self.old) c) }
         requires within { IsSpec (seen self.old).size.pages spec.now }
         requires may { MayName (seen self.old) job }
@@ -160,7 +160,7 @@ impl WholeWorld {
     }
 
     /// Moves a context's own values under share into the job's next group, which gets this empty row.
-    fn share_into(&mut self, c: Name, spec: &Spec, job: u32, mut group: GroupRow)
+    fn share_into(&mut self, c: Name, spec: &Items, job: u32, mut group: GroupRow)
         requires live { IsTrue (is_live (seen self.old) c) }
         requires within { IsSpec (seen self.old).size.pages spec.now }
         requires needed { needs_group (seen self.old) c spec.now ≡ true }
@@ -180,7 +180,7 @@ impl WholeWorld {
     }
 
     /// Moves a context's own values under share into an empty group, whose name its job has counted.
-    fn move_out(&mut self, c: Name, spec: &Spec, name: Name, group: &mut GroupRow)
+    fn move_out(&mut self, c: Name, spec: &Items, name: Name, group: &mut GroupRow)
         requires within { IsSpec (seen self.old).size.pages spec.now }
         requires counted { IsNamedGroup (seen self.old).next name }
         requires whole { IsWholeGroup (seen self.old).size.pages group.old }

@@ -10,7 +10,7 @@ use crate::key_value::KeyValue;
 use crate::table::Table;
 use access_cap::owned;
 use lwc_base::{
-    Lent, Mode, Name, OutOfMemory, PageNumber, Range, Regs, SLOTS, SlotNumber, Spec, StoreFault,
+    Items, Lent, Mode, Name, OutOfMemory, PageNumber, Range, Regs, SLOTS, SlotNumber, StoreFault,
     Summary, WorldSize, touched_pages,
 };
 use std::alloc::Global;
@@ -143,7 +143,7 @@ impl World for WholeWorld {
     fn clone_context(
         &mut self,
         c: Name,
-        spec: &Spec,
+        spec: &Items,
         job: u32,
         entry: &Regs,
     ) -> Result<Name, OutOfMemory> {
@@ -153,7 +153,7 @@ impl World for WholeWorld {
         Ok(self.add_context(job, row))
     }
 
-    fn overlay(&mut self, to: Name, from: Name, spec: &Spec, job: u32) -> Result<(), OutOfMemory> {
+    fn overlay(&mut self, to: Name, from: Name, spec: &Items, job: u32) -> Result<(), OutOfMemory> {
         let row = self.cloned_row(from, spec, job, Mode::Unmap, &Regs::fresh(0))?;
         self.reserve()?;
         self.share(from, spec, job)?;
@@ -166,15 +166,15 @@ impl World for WholeWorld {
         self.drop_groups();
     }
 
-    fn needs_group(&self, c: Name, spec: &Spec) -> bool {
+    fn needs_group(&self, c: Name, spec: &Items) -> bool {
         self.moves_any(c, spec)
     }
 
-    fn ranges_after_clone(&self, c: Name, spec: &Spec) -> (u32, u32) {
+    fn ranges_after_clone(&self, c: Name, spec: &Items) -> (u32, u32) {
         self.clone_ranges(c, spec)
     }
 
-    fn ranges_after_overlay(&self, to: Name, from: Name, spec: &Spec) -> (u32, u32) {
+    fn ranges_after_overlay(&self, to: Name, from: Name, spec: &Items) -> (u32, u32) {
         self.overlay_ranges(to, from, spec)
     }
 

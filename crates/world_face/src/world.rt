@@ -25,7 +25,7 @@ ghost use Rattle.lwc_base.specs.declared.page.TheConstants.{PAGE_BYTES};
 ghost use Rattle.world_face.specs.Calls.{AreFew, HasGroupPlace, HasPlace, IsSize, IsLive, MayName};
 
 use lwc_base::{
-    Lent, Name, OutOfMemory, PageNumber, Range, Regs, SlotNumber, Spec, StoreFault, Summary,
+    Items, Lent, Name, OutOfMemory, PageNumber, Range, Regs, SlotNumber, StoreFault, Summary,
     WorldSize,
 };
 use std::alloc::Global;
@@ -178,7 +178,7 @@ pub trait World: Sized + Drop + Send + Sync {
     fn clone_context(
         &mut self,
         c: Name,
-        spec: &Spec,
+        spec: &Items,
         job: u32,
         entry: &Regs,
     ) -> Result<Name, OutOfMemory>
@@ -200,7 +200,7 @@ pub trait World: Sized + Drop + Send + Sync {
     /// under a key of mode unmap. A page has the right that it has in `from`, and the right Read where its
     /// mode is copy read-only. An absent page of `from` becomes absent in `to`. The only error is out of
     /// memory.
-    fn overlay(&mut self, to: Name, from: Name, spec: &Spec, job: u32) -> Result<(), OutOfMemory>
+    fn overlay(&mut self, to: Name, from: Name, spec: &Items, job: u32) -> Result<(), OutOfMemory>
         requires to { IsLive (seen self.old) to }
         requires from { IsLive (seen self.old) from }
         requires within { IsSpec (seen self.old).size.pages spec.now }
@@ -220,21 +220,21 @@ pub trait World: Sized + Drop + Send + Sync {
 
     /// Whether `clone_context` and `overlay` make a group: an item of mode share names a key that is present
     /// and the context's own.
-    fn needs_group(&self, c: Name, spec: &Spec) -> bool
+    fn needs_group(&self, c: Name, spec: &Items) -> bool
         requires live { IsLive (seen self.now) c }
         requires within { IsSpec (seen self.now).size.pages spec.now }
         ensures value { result ≡ needs_group (seen self.now) c spec.now };
 
     /// The numbers of ranges that the context and the new one would have after `clone_context`, in this
     /// order. They are the same for every job.
-    fn ranges_after_clone(&self, c: Name, spec: &Spec) -> (u32, u32)
+    fn ranges_after_clone(&self, c: Name, spec: &Items) -> (u32, u32)
         requires live { IsLive (seen self.now) c }
         requires within { IsSpec (seen self.now).size.pages spec.now }
         ensures value { (job : ℕ) → result ≡ ranges_after_clone (seen self.now) c job spec.now };
 
     /// The numbers of ranges that the contexts `from` and `to` would have after `overlay`, in this order.
     /// They are the same for every job.
-    fn ranges_after_overlay(&self, to: Name, from: Name, spec: &Spec) -> (u32, u32)
+    fn ranges_after_overlay(&self, to: Name, from: Name, spec: &Items) -> (u32, u32)
         requires to { IsLive (seen self.now) to }
         requires from { IsLive (seen self.now) from }
         requires within { IsSpec (seen self.now).size.pages spec.now }

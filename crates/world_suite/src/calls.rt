@@ -8,7 +8,7 @@ ghost use Rattle.world_suite.specs.Begun.{IsBegun};
 use access_cap::owned;
 use lazy_world::LazyWorld;
 use lwc_base::{
-    Cap, Descriptor, Grant, Item, Kind, Lent, Mode, Name, Range, Regs, SlotNumber, Spec,
+    Cap, Descriptor, Grant, Item, Items, Kind, Lent, Mode, Name, Range, Regs, SlotNumber,
     StoreFault, Summary, WorldSize,
 };
 use std::alloc::Global;
@@ -288,10 +288,10 @@ fn maps_pages<W: World>(alloc: Global) -> Result<bool, Fail> {
 }
 
 /// The specifier of one item, which gives the second page a mode.
-fn second_page(mode: Mode) -> Spec
+fn second_page(mode: Mode) -> Items
     ensures { IsSpec 4 result }
 {
-    let mut spec = Spec::empty();
+    let mut spec = Items::empty();
     spec.push(Item {
         kind: Kind::Page,
         mode,

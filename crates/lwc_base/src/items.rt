@@ -10,11 +10,11 @@ use std::marker::Model;
 /// A resource specifier: at most 32 items, each within the limit of its kind, no two with a key in common. It
 /// is seen as the list of its items.
 #[derive(Drop)]
-pub struct Spec {
+pub struct Items {
     items: ArrayVec<Item, 32>,
 }
 
-impl Model for Spec {
+impl Model for Items {
     ghost use Rattle.std.specs.Prelude.{List};
     ghost use Rattle.lwc_base.specs.Modes.{IsSpec};
     ghost use Rattle.lwc_base.specs.declared.item.Item.{Item};
@@ -27,12 +27,12 @@ impl Model for Spec {
     ghost invariant = { λ spec. IsSpec MOST_PAGES spec.items.items };
 }
 
-impl Spec {
+impl Items {
     /// No items.
-    pub fn empty() -> Spec
+    pub fn empty() -> Items
         ensures { result ≡ [] }
     {
-        Spec {
+        Items {
             items: ArrayVec::new(),
         }
     }
