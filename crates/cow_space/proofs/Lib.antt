@@ -9,6 +9,7 @@ mod OwnTags
 mod PartLemmas
 pub mod PieceLemmas
 pub mod Places
+mod RisingRuns
 mod RowViews
 mod Stretches
 pub mod TagLemmas

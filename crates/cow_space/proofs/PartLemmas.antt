@@ -6,7 +6,7 @@ use Rattle.lwc_base.specs.declared.limits.TheConstants.{MOST_PAGES}
 use Rattle.lwc_base.specs.declared.right.Right.{Right}
 use Rattle.range_map.specs.declared.segment.PageState.{PageState}
 use Rattle.range_map.specs.declared.segment.Segment.{Segment}
-use Rattle.range_map.specs.Kinds.{IsCanonical, is_between, put_state, ranges, state_at, state_in}
+use Rattle.range_map.specs.Kinds.{IsCanonical, put_state, ranges, state_at, state_in}
 use Rattle.range_map.proofs.Built.{between, not_between}
 use Rattle.range_map.proofs.Edges.{none, own, owned}
 use Rattle.range_map.proofs.Ranges.{absent_tail, few_ranges}

@@ -1,5 +1,5 @@
 -- The states that a page run gives, by its origin.
-use Rattle.std.proofs.Common.{◌≡◌, ℕ, ◌≤◌, ◌<◌, ⊎_elim, inl, inr, ap, cond, refl, sym, ◌∙◌, List, Option, None, Some}
+use Rattle.std.proofs.Common.{◌≡◌, ℕ, ◌≤◌, ⊎_elim, inl, inr, ap, cond, refl, sym, ◌∙◌, List, Option, None, Some}
 use Rattle.std.specs.Prelude.{unwrap_or}
 use Rattle.std.specs.Option.{option_map}
 use Rattle.std.proofs.lemmas.Bool.{cases_lt}

@@ -1,6 +1,6 @@
 -- The cells and the rights of a place once page runs of its pages have changed.
-use Rattle.std.specs.Prelude.{◌==◌, ◌&&◌, ◌||◌, ◌≢◌, ◌<◌, ◌≤◌, if◌then◌else◌, ℕ, Bool, List, Option}
-use Rattle.std.specs.Prelude.{None, Some, is_some, not, unwrap_or}
+use Rattle.std.specs.Prelude.{◌≡◌, ◌==◌, ◌&&◌, ◌||◌, ◌≢◌, ◌<◌, ◌≤◌, if◌then◌else◌, ℕ, Bool, true, List, Option}
+use Rattle.std.specs.Prelude.{None, Some, drop, is_some, length, not, slice_index_or, take, unwrap_or}
 use Rattle.std.specs.List.{find, list_any}
 use Rattle.std.specs.Option.{option_eq, option_map}
 use Rattle.lwc_base.specs.declared.cell.Cell.{Cell}
@@ -14,6 +14,7 @@ use Rattle.range_map.specs.Kinds.{is_between, kind_of, state_at, state_of}
 use Rattle.range_map.specs.contracts.segment.PageStatePartialEq.TheImpl.{eq-value}
 use Rattle.range_map.specs.declared.segment.PageState.{PageState}
 use Rattle.range_map.specs.declared.segment.Segment.{Segment}
+use Rattle.cow_space.specs.declared.kinds.Rising.{Rising}
 use Rattle.cow_space.specs.declared.page_runs.Origin.{Origin}
 use Rattle.cow_space.specs.declared.page_runs.Origin.TheVariants.{Absent, Zeros, Common, CopyOf}
 use Rattle.lwc_base.specs.declared.range.Range.{Range}
@@ -39,6 +40,23 @@ page_run_at page_runs p = find (λ s. is_between s.range.from s.range.to p) page
 -- whether a page run begins or ends at a page
 abbrev pub is_edge : List PageRun → ℕ → Bool
 is_edge page_runs p = list_any (λ s. (s.range.from == p) || (s.range.to == p)) page_runs
+
+-- page runs from a number on rise: each one begins where those before it end, or later
+pub record RiseFrom (n : ℕ) (page_runs : List PageRun) : Type 0 where
+  pub order : (k : ℕ) (d : PageRun) → n ≤ k → k < length page_runs →
+      (slice_index_or page_runs k d).range.from ≤ (slice_index_or page_runs k d).range.to
+  pub apart : (j k : ℕ) (d : PageRun) → n ≤ j → j < k → k < length page_runs →
+      (slice_index_or page_runs j d).range.to ≤ (slice_index_or page_runs k d).range.from
+
+-- all page runs rise
+abbrev pub Rise : List PageRun → Type 0
+Rise page_runs = RiseFrom 0 page_runs
+
+-- page runs rise from a number on, and those before it do where that is said
+pub record IsSplit (rising : Rising) (page_runs : List PageRun) : Type 0 where
+  pub within : rising.from ≤ length page_runs
+  pub last : Rise (drop rising.from page_runs)
+  pub first : rising.first ≡ true → Rise (take rising.from page_runs)
 
 -- the cells of a place after page runs
 unfoldable pub changed_place : List Place → ℕ → List PageRun → Place

@@ -1,5 +1,5 @@
 ghost use Rattle.std.specs.Prelude.{◌≡◌, ◌<◌, ◌≤◌, ◌+◌, ◌⊎◌, if◌then◌else◌, ℕ, suc, true, false, []};
-ghost use Rattle.std.specs.Prelude.{All, List, None, Option, Some, length, unwrap_or};
+ghost use Rattle.std.specs.Prelude.{All, List, None, Option, Some, length, nat_le, slice_index_or, unwrap_or};
 ghost use Rattle.std.specs.Option.{option_copied};
 ghost use Rattle.lwc_base.specs.declared.limits.TheConstants.{MOST_PAGES, MOST_RANGES};
 ghost use Rattle.lwc_base.specs.declared.right.Right.{Right};
@@ -9,7 +9,8 @@ ghost use Rattle.range_map.specs.declared.segment.PageState.{PageState};
 ghost use Rattle.cow_space.specs.Kept.{HasNoOwnPage, has_own};
 ghost use Rattle.cow_space.specs.Cells.{Place};
 ghost use Rattle.cow_space.specs.Changes as spec;
-ghost use Rattle.cow_space.specs.Changes.{IsPageRun, begun, changed_states, given_states, is_edge};
+ghost use Rattle.cow_space.specs.Changes.{IsPageRun, IsSplit, Rise, RiseFrom, begun, changed_states};
+ghost use Rattle.cow_space.specs.Changes.{given_states, is_edge};
 ghost use Rattle.cow_space.specs.Maps.{put_range};
 ghost use Rattle.cow_space.specs.declared.page_runs.Origin.TheVariants.{CopyOf};
 ghost use Rattle.cow_space.specs.Seen.{cells, rights};
@@ -20,15 +21,15 @@ use crate::parts::{append_part, begun, count_part};
 use lwc_base::{MOST_PAGES, PageNumber, Range, Right};
 use range_map::{PageState, RangeMap, Segment, SegmentKind, sooner_edge};
 
-/// The first page run that has a page.
-pub(crate) fn page_run_at(page_runs: &[PageRun], p: PageNumber) -> Option<&PageRun>
+/// The first page run that has a page. It looks at each.
+fn page_run_at(page_runs: &[PageRun], p: PageNumber) -> Option<&PageRun>
     ensures { option_copied result ≡ spec.page_run_at page_runs.now p }
 {
     page_runs.iter().find(|page_run| page_run.range.from <= p && p < page_run.range.to)
 }
 
-/// Where the first page run after a page begins or ends, or the end of all pages.
-pub(crate) fn page_run_edge(page_runs: &[PageRun], p: PageNumber) -> PageNumber
+/// Where the first page run after a page begins or ends, or the end of all pages. It looks at each.
+fn page_run_edge(page_runs: &[PageRun], p: PageNumber) -> PageNumber
     requires { p < MOST_PAGES }
     ensures past { p < result }
     ensures within { result ≤ MOST_PAGES }
@@ -41,6 +42,124 @@ pub(crate) fn page_run_edge(page_runs: &[PageRun], p: PageNumber) -> PageNumber
         edge = sooner_edge(page_run.range.from, page_run.range.to, p, edge);
     }
     edge
+}
+
+/// How many page runs that rise end at a page or before it, by halving.
+fn ended_by(page_runs: &[PageRun], p: PageNumber) -> usize
+    requires { Rise page_runs.now }
+    ensures before { (k : ℕ) (d : PageRun) → k < result → (slice_index_or page_runs.now k d).range.to ≤ p }
+    ensures after { (d : PageRun) → result < length page_runs.now
+        → p < (slice_index_or page_runs.now result d).range.to }
+{
+    page_runs.partition_point(
+        |page_run: &PageRun| -> bool
+            ensures { result ≡ nat_le page_run.now.range.to p }
+        { page_run.range.to <= p },
+    )
+}
+
+/// The page run of those that rise that has a page, and where the next one begins or this one ends, or the end
+/// of all pages.
+fn rising_run(page_runs: &[PageRun], p: PageNumber) -> (Option<PageRun>, PageNumber)
+    requires rise { Rise page_runs.now }
+    requires page { p < MOST_PAGES }
+    ensures run { result.0 ≡ spec.page_run_at page_runs.now p }
+    ensures past { p < result.1 }
+    ensures within { result.1 ≤ MOST_PAGES }
+    ensures alike { (q : ℕ) → p ≤ q → q < result.1
+        → spec.page_run_at page_runs.now q ≡ spec.page_run_at page_runs.now p }
+    ensures edge { result.1 < MOST_PAGES → is_edge page_runs.now result.1 ≡ true }
+{
+    match page_runs.get(ended_by(page_runs, p)) {
+        Some(page_run) if p < page_run.range.from => (None, page_run.range.from.min(MOST_PAGES)),
+        Some(page_run) => (Some(*page_run), page_run.range.to.min(MOST_PAGES)),
+        None => (None, MOST_PAGES),
+    }
+}
+
+/// The first page run that has a page, and where the next one begins or ends, or the end of all pages. Page
+/// runs that rise are searched by halving.
+fn run_from(page_runs: &[PageRun], rise: bool, p: PageNumber) -> (Option<PageRun>, PageNumber)
+    requires rise { rise ≡ true → Rise page_runs.now }
+    requires page { p < MOST_PAGES }
+    ensures run { result.0 ≡ spec.page_run_at page_runs.now p }
+    ensures past { p < result.1 }
+    ensures within { result.1 ≤ MOST_PAGES }
+    ensures alike { (q : ℕ) → p ≤ q → q < result.1
+        → spec.page_run_at page_runs.now q ≡ spec.page_run_at page_runs.now p }
+    ensures edge { result.1 < MOST_PAGES → is_edge page_runs.now result.1 ≡ true }
+{
+    if rise {
+        rising_run(page_runs, p)
+    } else {
+        (
+            page_run_at(page_runs, p).copied(),
+            page_run_edge(page_runs, p),
+        )
+    }
+}
+
+/// Whether a page run begins where it ends or before, and ends where the next one begins or before.
+fn rises_at(page_runs: &[PageRun], k: usize) -> bool
+    requires { k < length page_runs.now }
+    ensures order { result ≡ true → (d : PageRun) → (slice_index_or page_runs.now k d).range.from
+        ≤ (slice_index_or page_runs.now k d).range.to }
+    ensures next { result ≡ true → (d : PageRun) → k + 1 < length page_runs.now
+        → (slice_index_or page_runs.now k d).range.to ≤ (slice_index_or page_runs.now (k + 1) d).range.from }
+{
+    let range = page_runs[k].range;
+    range.from <= range.to && (k + 1 == page_runs.len() || range.to <= page_runs[k + 1].range.from)
+}
+
+/// How many page runs come before the last ones that rise.
+fn rising_from(page_runs: &[PageRun]) -> usize
+    ensures within { result ≤ length page_runs.now }
+    ensures rise { RiseFrom result page_runs.now }
+{
+    let mut from = page_runs.len();
+    'rising: while from > 0 && rises_at(page_runs, from - 1) {
+        from -= 1;
+    }
+    from
+}
+
+/// Where the page runs begin that rise up to the last one, and whether those before them rise too.
+#[derive(Clone, Copy, PartialEq, Eq)]
+pub(crate) struct Rising {
+    from: usize,
+    first: bool,
+}
+
+/// Where page runs rise. Those of items, in the order of their pages, and those of segments after them are two
+/// parts that do.
+pub(crate) fn rising_parts(page_runs: &[PageRun]) -> Rising
+    ensures { IsSplit result page_runs.now }
+{
+    let from = rising_from(page_runs);
+    Rising {
+        from,
+        first: rising_from(&page_runs[..from]) == 0,
+    }
+}
+
+/// The first page run that has a page, and where the next one begins or ends, or the end of all pages.
+pub(crate) fn found_run(
+    page_runs: &[PageRun],
+    rising: Rising,
+    p: PageNumber,
+) -> (Option<PageRun>, PageNumber)
+    requires rising { IsSplit rising page_runs.now }
+    requires page { p < MOST_PAGES }
+    ensures run { result.0 ≡ spec.page_run_at page_runs.now p }
+    ensures past { p < result.1 }
+    ensures within { result.1 ≤ MOST_PAGES }
+    ensures alike { (q : ℕ) → p ≤ q → q < result.1
+        → spec.page_run_at page_runs.now q ≡ spec.page_run_at page_runs.now p }
+    ensures edge { result.1 < MOST_PAGES → is_edge page_runs.now result.1 ≡ true }
+{
+    let (first, first_edge) = run_from(&page_runs[..rising.from], rising.first, p);
+    let (last, last_edge) = rising_run(&page_runs[rising.from..], p);
+    (first.or(last), first_edge.min(last_edge))
 }
 
 /// Whether ranges have a page.
@@ -94,8 +213,15 @@ fn right_given(right: Option<Right>, read: bool) -> Option<Right>
 /// What a page of a place, and all up to a later one, get by page runs and by ranges that may only be read,
 /// as one page run: of their own place where none has them. The later page is where a page run or a range
 /// begins or ends.
-pub(crate) fn stretch_at(i: usize, page_runs: &[PageRun], reads: &[Range], p: PageNumber) -> PageRun
-    requires { p < MOST_PAGES }
+pub(crate) fn stretch_at(
+    i: usize,
+    page_runs: &[PageRun],
+    rising: Rising,
+    reads: &[Range],
+    p: PageNumber,
+) -> PageRun
+    requires rising { IsSplit rising page_runs.now }
+    requires page { p < MOST_PAGES }
     ensures from { result.range.from ≡ p }
     ensures past { p < result.range.to }
     ensures within { result.range.to ≤ MOST_PAGES }
@@ -107,10 +233,11 @@ pub(crate) fn stretch_at(i: usize, page_runs: &[PageRun], reads: &[Range], p: Pa
         → (is_edge page_runs.now result.range.to ≡ true)
         ⊎ (spec.is_range_edge reads.now result.range.to ≡ true) }
 {
-    let to = range_edge(reads, p, page_run_edge(page_runs, p));
+    let (found, edge) = found_run(page_runs, rising, p);
+    let to = range_edge(reads, p, edge);
     let range = Range { from: p, to };
     let read = have_page(reads, p);
-    match page_run_at(page_runs, p) {
+    match found {
         Some(page_run) => PageRun {
             range,
             origin: page_run.origin,
@@ -145,7 +272,7 @@ fn count_alike(before: Option<PageState>, state: Option<PageState>) -> (u32, Opt
 impl PageCells {
     /// The number of ranges that begin at the pages of a page run, and the state of the last of them.
     /// `before` is the state of the page before the first.
-    pub(crate) fn count_given(
+    pub fn count_given(
         &self,
         page_run: &PageRun,
         before: Option<PageState>,
@@ -217,10 +344,11 @@ impl PageCells {
             ≡ changed_states (cells self.now) (rights self.now) i page_runs.now reads.now p }
         ensures past { (p : ℕ) → MOST_PAGES ≤ p → state_at result p ≡ None }
     {
+        let rising = rising_parts(page_runs);
         let mut kinds = RangeMap::empty();
         let mut p: PageNumber = 0;
         'stretches: while p < MOST_PAGES {
-            let stretch = stretch_at(i, page_runs, reads, p);
+            let stretch = stretch_at(i, page_runs, rising, reads, p);
             self.append_given(&mut kinds, &stretch);
             p = stretch.range.to;
         }

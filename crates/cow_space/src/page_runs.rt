@@ -11,7 +11,7 @@ ghost use Rattle.cow_space.specs.Rows.{changed_row, origin_value};
 ghost use Rattle.cow_space.specs.Seen.{cells, frames_of, free_frames, free_nodes, node_steps, pool, rights};
 
 use crate::cells::PageCells;
-use crate::kinds::{has_own_page, page_run_at, page_run_edge, stretch_at};
+use crate::kinds::{found_run, has_own_page, rising_parts, stretch_at};
 use crate::rows::Rows;
 use lwc_base::{MOST_PAGES, Name, PageNumber, Range, Right};
 use range_map::RangeMap;
@@ -105,10 +105,11 @@ fn fill_row(rows: &mut Rows, i: usize, page_runs: &[PageRun])
     ensures cost_empty { rows_seen.HasNoTree rows.old i
         → rows_seen.node_steps rows.new ≤ rows_seen.node_steps rows.old + 128 * length page_runs.now }
 {
+    let rising = rising_parts(page_runs);
     let mut p: PageNumber = 0;
     'pieces: while p < MOST_PAGES {
-        let edge = page_run_edge(page_runs, p);
-        if let Some(page_run) = page_run_at(page_runs, p) {
+        let (found, edge) = found_run(page_runs, rising, p);
+        if let Some(page_run) = found {
             let range = Range { from: p, to: edge };
             fill_range(rows, i, page_run.origin, range);
         }
@@ -124,11 +125,12 @@ impl PageCells {
         ensures { result ≡ ranges MOST_PAGES
             (changed_states (cells self.now) (rights self.now) i page_runs.now reads.now) }
     {
+        let rising = rising_parts(page_runs);
         let mut count = 0u32;
         let mut last = None;
         let mut p: PageNumber = 0;
         'stretches: while p < MOST_PAGES {
-            let stretch = stretch_at(i, page_runs, reads, p);
+            let stretch = stretch_at(i, page_runs, rising, reads, p);
             let (more, end) = self.count_given(&stretch, last);
             count += more;
             last = end;

@@ -1,5 +1,5 @@
 use Rattle.std.proofs.Common.{◌<◌, ◌≡◌, ℕ, ◌∙◌, inl, ⊎_elim, ap, arith, length, refl, subst, sym, true, Option, None, Some}
-use Rattle.std.specs.Option.{MatchOption, option_copied}
+use Rattle.std.specs.Option.{MatchOption}
 use Rattle.std.proofs.lemmas.Bool.{cases_eq}
 use Rattle.std.proofs.Math.ListN.{length-set}
 use Rattle.lwc_base.specs.declared.limits.TheConstants.{MOST_PAGES}
@@ -41,9 +41,9 @@ pub fill_range-requires-clause-given : goal.fill_range-requires-clause-given
 fill_range-requires-clause-given c =
     let page_runs = c.args.page_runs.now in
     let count = length (maps c.args.rows.now) in
-    let holds = subst (λ o. MatchOption o (Unit {0}) (λ s. IsPageRun count c.args.i s × (is_between s.range.from s.range.to c.pieces.p ≡ true))) (sym c.page_run_at.ensures ∙ ap option_copied c.in-Some.is)
+    let holds = subst (λ o. MatchOption o (Unit {0}) (λ s. IsPageRun count c.args.i s × (is_between s.range.from s.range.to c.pieces.p ≡ true))) (sym c.found_run-found.ensures.run ∙ c.in-Some.is)
     (find-holds (λ (s : PageRun). is_between s.range.from s.range.to c.pieces.p) (IsPageRun count c.args.i) page_runs c.requires.page_runs) in
-    subst (λ n. IsApart n c.args.i c.in-Some.page_run.now.origin) (sym (ap length c.pieces.invariant.maps ∙ length-set (maps c.args.rows.now) c.args.i _)) holds.0.given
+    subst (λ n. IsApart n c.args.i c.in-Some.page_run.origin) (sym (ap length c.pieces.invariant.maps ∙ length-set (maps c.args.rows.now) c.args.i _)) holds.0.given
 
 pub pieces-preserved-in-Some : goal.pieces-preserved-in-Some
 pieces-preserved-in-Some c =
@@ -52,20 +52,20 @@ pieces-preserved-in-Some c =
     let count = length before in
     let after = changed_row before c.args.i page_runs in
     let p = c.pieces.p in
-    let e = c.page_run_edge-edge.result in
-    let edge = c.page_run_edge-edge.ensures in
+    let e = c.found_run-found.result.1 in
+    let edge = c.found_run-found.ensures in
     let inv = c.pieces.invariant in
     let mine = c.fill_range.ensures in
-    let origin = c.in-Some.page_run.now.origin in
-    let found = sym c.page_run_at.ensures ∙ ap option_copied c.in-Some.is in
+    let origin = c.in-Some.page_run.origin in
+    let found = sym edge.run ∙ c.in-Some.is in
     let holds = subst (λ o. MatchOption o (Unit {0}) (λ s. IsPageRun count c.args.i s × (is_between s.range.from s.range.to p ≡ true))) found
     (find-holds (λ (s : PageRun). is_between s.range.from s.range.to p) (IsPageRun count c.args.i) page_runs c.requires.page_runs) in
     let kept = ap (λ ms. origin_value ms origin) inv.maps ∙ origin-kept before c.args.i count (put_range (row_of before c.args.i) 0 p after) origin holds.0.given in
-    let more = piece-edge count c.args.i page_runs p e c.in-Some.page_run.now c.requires.page_runs edge.past edge.within found edge.edge in
+    let more = piece-edge count c.args.i page_runs p e c.in-Some.page_run c.requires.page_runs edge.past edge.within found edge.edge in
     record {
       inside = edge.within;
       maps = filled-more before c.args.i after c.requires.row p e (maps c.pieces.rows) (maps c.fill_range.new.rows) (origin_value (maps c.pieces.rows) origin) (omega (arith, edge.past)) inv.maps mine.maps
-          (λ q low high. by-page_run before c.args.i q page_runs (Some c.in-Some.page_run.now) (edge.alike q low high ∙ found) ∙ ap (λ (f : ℕ → Option PageValue). f q) (sym kept));
+          (λ q low high. by-page_run before c.args.i q page_runs (Some c.in-Some.page_run) (edge.alike q low high ∙ found) ∙ ap (λ (f : ℕ → Option PageValue). f q) (sym kept));
       frames = mine.frames ∙ inv.frames;
       pool = mine.pool ∙ inv.pool;
       free = omega (arith, mine.free, inv.free);
@@ -87,10 +87,10 @@ pieces-preserved c =
     let before = maps c.args.rows.now in
     let after = changed_row before c.args.i page_runs in
     let p = c.pieces.p in
-    let e = c.page_run_edge-edge.result in
-    let edge = c.page_run_edge-edge.ensures in
+    let e = c.found_run-found.result.1 in
+    let edge = c.found_run-found.ensures in
     let inv = c.pieces.invariant in
-    let found = sym c.page_run_at.ensures ∙ ap option_copied c.in_default.is in
+    let found = sym edge.run ∙ c.in_default.is in
     let more = λ (early : e < MOST_PAGES). edges-edge (λ (s : PageRun). s.range.from) (λ (s : PageRun). s.range.to) page_runs p e edge.past (edge.edge early) in
     let grows = edges-grow (λ (s : PageRun). s.range.from) (λ (s : PageRun). s.range.to) page_runs p e (omega (arith, edge.past)) in
     record {

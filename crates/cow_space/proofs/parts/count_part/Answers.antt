@@ -1,6 +1,5 @@
-use Rattle.std.proofs.Common.{◌≡◌, ◌≤◌, ◌+◌, ◌∙◌, ℕ, Option, Some, ap, arith, subst, sym}
+use Rattle.std.proofs.Common.{◌+◌, ◌∙◌, Some, ap, arith, subst, sym}
 use Rattle.std.proofs.lemmas.List.{get_or_default}
-use Rattle.range_map.specs.declared.segment.PageState.{PageState}
 use Rattle.range_map.proofs.Edges.{none}
 use Rattle.cow_space.specs.Changes.{begun}
 use Rattle.cow_space.proofs.PartLemmas.{ArePassed, IsCounted, counted-all, counted-more, few-segments, last-all, none-passed, not-counted, skipped, taken}

@@ -1,9 +1,9 @@
-use Rattle.std.proofs.Common.{◌≡◌, ◌≤◌, ℕ, ◌∙◌, ap, subst, sym, Option, Some}
+use Rattle.std.proofs.Common.{◌≤◌, ℕ, ◌∙◌, ap, subst, sym, Option, Some}
 use Rattle.lwc_base.specs.declared.limits.TheConstants.{MOST_PAGES, MOST_RANGES}
 use Rattle.range_map.specs.declared.segment.PageState.{PageState}
 use Rattle.range_map.specs.Kinds.{ranges, state_at}
 use Rattle.cow_space.specs.Changes.{given_states, states_with}
-use Rattle.cow_space.specs.declared.page_runs.Origin.TheVariants.{Absent, Zeros, Common, CopyOf}
+use Rattle.cow_space.specs.declared.page_runs.Origin.TheVariants.{Absent, Zeros, Common}
 use Rattle.cow_space.specs.Seen.{cells, rights}
 use Rattle.cow_space.proofs.Stretches.{by-copy, by-origin, put-none, put-same}
 use Rattle.cow_space.proofs.cells.PageCells.append_given.Goals as goal

@@ -1,4 +1,4 @@
-use Rattle.std.proofs.Common.{◌≡◌, ◌+◌, ◌∙◌, ap, arith, refl, sym}
+use Rattle.std.proofs.Common.{◌∙◌, ap, arith, refl, sym}
 use Rattle.range_map.specs.Kinds.{ranges}
 use Rattle.range_map.proofs.Ranges.{few_ranges}
 use Rattle.cow_space.specs.Changes.{changed_states}

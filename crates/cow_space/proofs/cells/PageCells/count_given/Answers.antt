@@ -1,10 +1,10 @@
-use Rattle.std.proofs.Common.{◌≡◌, ◌<◌, ◌≤◌, ◌+◌, ℕ, suc, ◌∙◌, ap, arith, sym, List, Option, None, Some}
+use Rattle.std.proofs.Common.{◌≡◌, ◌<◌, ◌≤◌, ◌+◌, ℕ, suc, ◌∙◌, ap, sym, List, Option, None, Some}
 use Rattle.lwc_base.specs.declared.right.Right.{Right}
 use Rattle.range_map.specs.declared.segment.PageState.{PageState}
 use Rattle.range_map.specs.Kinds.{ranges}
 use Rattle.cow_space.specs.Cells.{Place}
 use Rattle.cow_space.specs.Changes.{begun, given_states}
-use Rattle.cow_space.specs.declared.page_runs.Origin.TheVariants.{Absent, Zeros, Common, CopyOf}
+use Rattle.cow_space.specs.declared.page_runs.Origin.TheVariants.{Absent, Zeros, Common}
 use Rattle.cow_space.specs.declared.page_runs.PageRun.{PageRun}
 use Rattle.cow_space.specs.Seen.{cells, rights}
 use Rattle.cow_space.proofs.KindChanges.{piece-counts}
