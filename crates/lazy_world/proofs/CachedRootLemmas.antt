@@ -9,13 +9,16 @@ use Rattle.lwc_base.specs.declared.cell.Cell.TheVariants.{Own, Common}
 use Rattle.lwc_base.specs.declared.descriptor.Descriptor.{Descriptor}
 use Rattle.lwc_base.specs.declared.key.Key.TheVariants.{Slot, Cred}
 use Rattle.lwc_base.specs.declared.name.Name.{Name}
+use Rattle.lwc_base.specs.declared.item.Item.{Item}
 use Rattle.lwc_base.specs.declared.regs.Regs.{Regs}
 use Rattle.lwc_base.specs.Cells.{put_slot, put_uid, slot_at, value_at, value_of}
 use Rattle.lwc_base.specs.Facts.{AddsContext, ChangesContext}
 use Rattle.lwc_base.specs.Fresh.{IsFresh}
 use Rattle.lwc_base.specs.Life.{IsReaped, Link, Reaches, Root, is_among}
 use Rattle.lwc_base.specs.Mapping.{map_pages, unmap_pages}
+use Rattle.lwc_base.specs.Modes.{mode}
 use Rattle.lwc_base.specs.Names.{name_cmp}
+use Rattle.lwc_base.specs.Overlay.{overlay, overlaid_cell}
 use Rattle.lwc_base.specs.Saved.{save}
 use Rattle.lwc_base.specs.Sharing.{clone_context, cloned_context, share}
 use Rattle.lwc_base.specs.Store.{Done, Piece, store}
@@ -27,6 +30,7 @@ use Rattle.lwc_base.proofs.Facts.{changes, stays_fresh}
 use Rattle.lwc_base.proofs.Life.{or_cases, or_left, or_right, reached_by_way, way_of_reached}
 use Rattle.lwc_base.proofs.Common.{put-other_key}
 use Rattle.lwc_base.proofs.Orders.{cases_name, name-itself}
+use Rattle.lwc_base.proofs.Sharing.{value_at-share}
 use Rattle.lwc_base.proofs.Slots.{put_slot-reads}
 use Rattle.lwc_base.proofs.StoredBytes.{store-other_keys}
 
@@ -71,6 +75,26 @@ pub reached-more : (w : World) (names : List Name) (o : Option Name) → AreReac
 reached-more w names o reached =
     reached-still w w names o (record { live = λ c live. live; slots = λ c d n live is. inl is }) (λ c live. inl live) reached
 
+-- a context changes, but none of its slots does
+changed-slots : (w : World) (c : Name) (f : Context → Context) (v : World) → ChangesContext w c f v → ((x : Context) (n : ℕ) → (f x).cell (Slot n) ≡ x.cell (Slot n)) →
+    (d : Name) (n : ℕ) → slot_at v d n ≡ slot_at w d n
+unfolding value_at
+changed-slots w c f v leaves same d n = value-same ((context v d).cell (Slot n)) ∙ ap (value_of w (Slot n)) cell-same
+  where
+    value-same : (cell : Cell Descriptor) → value_of v (Slot n) cell ≡ value_of w (Slot n) cell
+    value-same (Own value) = refl
+    value-same (Common g) = ap (λ (x : Group). x.value (Slot n)) (leaves.groups g)
+
+    by-live : (b : Bool) → is_live w c ≡ b → (context v c).cell (Slot n) ≡ (context w c).cell (Slot n)
+    by-live true live = ap (λ (x : Context). x.cell (Slot n)) (leaves.changed live) ∙ same (context w c) n
+    by-live false dead = ap (λ (u : World). (context u c).cell (Slot n)) (leaves.same dead)
+
+    cell-same : (context v d).cell (Slot n) ≡ (context w d).cell (Slot n)
+    cell-same =
+        cases_name d c
+        (λ is. ap (λ e. (context v e).cell (Slot n)) is ∙ by-live (is_live w c) refl ∙ ap (λ e. (context w e).cell (Slot n)) (sym is))
+        (λ other. ap (λ (x : Context). x.cell (Slot n)) (leaves.others d other))
+
 module _ (w : World) (names : List Name) (reached : AreReached w names) where
   -- where slots are as they were
   same-slots : (v : World) → ((c : Name) → is_live v c ≡ is_live w c) → ((c : Name) (n : ℕ) → slot_at v c n ≡ slot_at w c n) → AreReached v names
@@ -79,28 +103,8 @@ module _ (w : World) (names : List Name) (reached : AreReached w names) where
       (record { live = λ c was. live c ∙ was; slots = λ c d n was is. inl (ap context_of (slots c n) ∙ is) })
       (λ c lives. inl (sym (live c) ∙ lives)) reached
 
-  -- a context changes, but none of its slots does
-  changed-slots : (c : Name) (f : Context → Context) (v : World) → ChangesContext w c f v → ((x : Context) (n : ℕ) → (f x).cell (Slot n) ≡ x.cell (Slot n)) →
-      (d : Name) (n : ℕ) → slot_at v d n ≡ slot_at w d n
-  unfolding value_at
-  changed-slots c f v leaves same d n = value-same ((context v d).cell (Slot n)) ∙ ap (value_of w (Slot n)) cell-same
-    where
-      value-same : (cell : Cell Descriptor) → value_of v (Slot n) cell ≡ value_of w (Slot n) cell
-      value-same (Own value) = refl
-      value-same (Common g) = ap (λ (x : Group). x.value (Slot n)) (leaves.groups g)
-
-      by-live : (b : Bool) → is_live w c ≡ b → (context v c).cell (Slot n) ≡ (context w c).cell (Slot n)
-      by-live true live = ap (λ (x : Context). x.cell (Slot n)) (leaves.changed live) ∙ same (context w c) n
-      by-live false dead = ap (λ (u : World). (context u c).cell (Slot n)) (leaves.same dead)
-
-      cell-same : (context v d).cell (Slot n) ≡ (context w d).cell (Slot n)
-      cell-same =
-          cases_name d c
-          (λ is. ap (λ e. (context v e).cell (Slot n)) is ∙ by-live (is_live w c) refl ∙ ap (λ e. (context w e).cell (Slot n)) (sym is))
-          (λ other. ap (λ (x : Context). x.cell (Slot n)) (leaves.others d other))
-
   by-change : (c : Name) (f : Context → Context) (v : World) → ChangesContext w c f v → ((x : Context) (n : ℕ) → (f x).cell (Slot n) ≡ x.cell (Slot n)) → AreReached v names
-  by-change c f v leaves same = same-slots v leaves.names.live (changed-slots c f v leaves same)
+  by-change c f v leaves same = same-slots v leaves.names.live (changed-slots w c f v leaves same)
 
   pub reached-map : (c : Name) (from to : ℕ) → AreReached (map_pages w c from to) names
   reached-map c from to = by-change c _ _ (changes.mapped w c from to) (λ x n. refl)
@@ -138,36 +142,62 @@ module _ (w : World) (names : List Name) (reached : AreReached w names) where
       })
       (λ d lives. inl (sym (live d) ∙ lives)) reached
 
-  -- a new context without items is one more cached root
-  pub reached-clone : IsFresh w → (c : Name) (job : ℕ) (entry : Regs) → share w c job [] ≡ w → AreReached (clone_context w c job [] entry) (with_cached_root names (Some (next_context w job)))
-  unfolding value_at
-  reached-clone fresh c job entry same =
-      reached-still w v names (Some (next_context w job))
-      (record {
-        live = λ d was. adds.still_live d (not-new d was) ∙ was;
-        slots = λ d e n was named. inl (ap context_of (slot-same d n was) ∙ named);
-      })
-      new reached
-    where
-      v : World
-      v = clone_context w c job [] entry
+  module _ (fresh : IsFresh w) where
+    -- sharing changes no value
+    shared-slots : (c : Name) (job : ℕ) (items : List Item) (d : Name) (n : ℕ) → slot_at (share w c job items) d n ≡ slot_at w d n
+    shared-slots c job items d n = value_at-share w c job items fresh d (Slot n)
 
-      adds : AddsContext w job (cloned_context (share w c job []) c [] entry) v
-      adds = subst (λ u. AddsContext u job (cloned_context (share w c job []) c [] entry) v) same (changes.cloned w c job [] entry)
+    -- items that name no slot cut no link
+    pub reached-overlay : (to from : Name) (job : ℕ) (items : List Item) → ((n : ℕ) → mode items (Slot n) ≡ None) → AreReached (overlay w to from job items) names
+    reached-overlay to from job items none =
+        let s = share w from job items in
+        let overlaid = changes.overlaid w to from job items in
+        let stays = λ (x : Context) (n : ℕ). ap (λ o. overlaid_cell s from (Slot n) o (x.cell (Slot n))) (none n) in
+        same-slots (overlay w to from job items)
+        (λ d. overlaid.names.live d ∙ (changes.shared w from job items).live d)
+        (λ d n. changed-slots s to _ _ overlaid stays d n ∙ shared-slots from job items d n)
 
-      not-new : (d : Name) → is_live w d ≡ true → d ≢ next_context w job
-      not-new d was is = false≢true (sym (stays_fresh.next_context_is_new w job fresh) ∙ ap (is_live w) (sym is) ∙ was)
+    -- a new context is one more cached root
+    pub reached-clone : (c : Name) (job : ℕ) (items : List Item) (entry : Regs) → AreReached (clone_context w c job items entry) (with_cached_root names (Some (next_context w job)))
+    unfolding value_at
+    reached-clone c job items entry =
+        reached-still w v names (Some (next_context w job))
+        (record {
+          live = λ d was. still d (not-new d was) ∙ was;
+          slots = λ d e n was named. inl (ap context_of (slot-same d n was) ∙ named);
+        })
+        new reached
+      where
+        s : World
+        s = share w c job items
 
-      slot-same : (d : Name) (n : ℕ) → is_live w d ≡ true → slot_at v d n ≡ slot_at w d n
-      slot-same d n was = value-same ((context v d).cell (Slot n)) ∙ ap (λ (x : Context). value_of w (Slot n) (x.cell (Slot n))) (adds.others d (not-new d was))
-        where
-          value-same : (cell : Cell Descriptor) → value_of v (Slot n) cell ≡ value_of w (Slot n) cell
-          value-same (Own value) = refl
-          value-same (Common g) = ap (λ (x : Group). x.value (Slot n)) (changes.same_groups w v g adds.groups)
+        v : World
+        v = clone_context w c job items entry
 
-      new : (d : Name) → is_live v d ≡ true → (is_live w d ≡ true) ⊎ (Some (next_context w job) ≡ Some d)
-      new d lives =
-          cases_name d (next_context w job) (λ same. inr (ap Some (sym same))) (λ other. inl (sym (adds.still_live d other) ∙ lives))
+        adds : AddsContext s job (cloned_context s c items entry) v
+        adds = changes.cloned w c job items entry
+
+        next : next_context s job ≡ next_context w job
+        next = changes.next_shared w c job job items
+
+        still : (d : Name) → d ≢ next_context s job → is_live v d ≡ is_live w d
+        still d other = adds.still_live d other ∙ (changes.shared w c job items).live d
+
+        not-new : (d : Name) → is_live w d ≡ true → d ≢ next_context s job
+        not-new d was is = false≢true (sym (stays_fresh.next_context_is_new w job fresh) ∙ ap (is_live w) (sym (is ∙ next)) ∙ was)
+
+        slot-same : (d : Name) (n : ℕ) → is_live w d ≡ true → slot_at v d n ≡ slot_at w d n
+        slot-same d n was =
+            value-same ((context v d).cell (Slot n)) ∙ ap (λ (x : Context). value_of s (Slot n) (x.cell (Slot n))) (adds.others d (not-new d was))
+            ∙ shared-slots c job items d n
+          where
+            value-same : (cell : Cell Descriptor) → value_of v (Slot n) cell ≡ value_of s (Slot n) cell
+            value-same (Own value) = refl
+            value-same (Common g) = ap (λ (x : Group). x.value (Slot n)) (changes.same_groups s v g adds.groups)
+
+        new : (d : Name) → is_live v d ≡ true → (is_live w d ≡ true) ⊎ (Some (next_context w job) ≡ Some d)
+        new d lives =
+            cases_name d (next_context s job) (λ same. inr (ap Some (sym (same ∙ next)))) (λ other. inl (sym (still d other) ∙ lives))
 
 -- what is reaped is reached from the roots
 pub reached-reaped : (w : World) (roots : List Name) → IsReaped w roots → AreReached w roots

@@ -3,6 +3,7 @@ ghost use Rattle.lwc_base.specs.declared.limits.TheConstants.{MOST_ROOTS};
 ghost use Rattle.lazy_world.specs.CachedRoots.{AreReached};
 ghost use Rattle.lazy_world.specs.Worlds as placed;
 
+use crate::ranges::names_slots;
 use crate::world::PlacedWorld;
 use arrayvec::ArrayVec;
 use lwc_base::{Items, MOST_KEPT_ROOTS, Name, Regs};
@@ -64,10 +65,6 @@ impl LazyWorld {
         ensures store { CloneStore (placed self.old) (placed self.new) c job spec.now }
         ensures steps { CloneSteps (placed self.old) (placed self.new) c job spec.now }
     {
-        if !spec.items().is_empty() {
-            self.known = false;
-            return self.world.clone_counted(c, spec, job, entry);
-        }
         let next = self.world.next_name(job);
         self.add_cached_root(Some(next));
         self.world.clone_counted(c, spec, job, entry)
@@ -88,7 +85,10 @@ impl LazyWorld {
         ensures store { OverlayStore (placed self.old) (placed self.new) from job spec.now }
         ensures steps { OverlaySteps (placed self.old) (placed self.new) from job spec.now }
     {
-        self.known = false;
+        // The context may lose the only link to another one where a slot is named, and no link else.
+        if names_slots(spec) {
+            self.known = false;
+        }
         self.world.overlay_counted(to, from, spec, job);
     }
 }

@@ -5,23 +5,19 @@ use Rattle.lwc_base.specs.declared.name.Name.{Name}
 use Rattle.lazy_world.specs.CachedRoots.{AreReached, with_cached_root}
 use Rattle.lazy_world.specs.Worlds.{parts, seen}
 use Rattle.lazy_world.proofs.CachedRootLemmas.{reached-clone}
-use Rattle.lazy_world.proofs.CopyLemmas.{no-items, none-needed}
-use Rattle.lwc_base.proofs.Facts.{changes}
 use Rattle.lazy_world.proofs.lazy.LazyWorld.clone_counted.Goals as goal
 
-pub invariant_of-self-2 : goal.invariant_of-self-2
+pub invariant_of-self : goal.invariant_of-self
 unfolding seen parts
-invariant_of-self-2 c =
+invariant_of-self c =
     let old = c.args.self.now in
     let w = seen old.world in
     let names = old.cached_roots.items in
-    let none = no-items c.items.result.now c.args.spec.now c.is_empty.result c.items.ensures.items c.is_empty.ensures c.if-not-is_empty.false in
-    let made = c.clone_counted-2.ensures.cloned ∙ (λ e. clone_context (seen (c.add_cached_root.ensures.world e)) c.args.c c.args.job (none e) c.args.entry.now) in
+    let made = c.clone_counted.ensures.cloned ∙ (λ e. clone_context (seen (c.add_cached_root.ensures.world e)) c.args.c c.args.job c.args.spec.now c.args.entry.now) in
     record {
       reached = λ known.
-          subst (AreReached (seen c.clone_counted-2.new.self))
+          subst (AreReached (seen c.clone_counted.new.self))
           (sym (c.add_cached_root.ensures.cached_roots known ∙ ap (λ (n : Name). with_cached_root names (Some n)) c.next_name-next.ensures))
           (subst (λ (v : World). AreReached v (with_cached_root names (Some (next_context w c.args.job)))) (sym made)
-          (reached-clone w names (old.reached (c.add_cached_root.ensures.kept known)) old.world.sound.fresh c.args.c c.args.job c.args.entry.now
-          ((changes.shared w c.args.c c.args.job _).none (none-needed w c.args.c))));
+          (reached-clone w names (old.reached (c.add_cached_root.ensures.kept known)) old.world.sound.fresh c.args.c c.args.job c.args.spec.now c.args.entry.now));
     }
