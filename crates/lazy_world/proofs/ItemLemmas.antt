@@ -1,5 +1,5 @@
 -- Items that share nothing, and items that name no slot.
-use Rattle.std.proofs.Common.{◌≡◌, ◌≢◌, ℕ, ◌+◌, ◌<◌, ◌∙◌, Bool, true, false, cond, List, get_or, length, take, refl, sym, ap, arith, Option, Some, None}
+use Rattle.std.proofs.Common.{◌≡◌, ◌≢◌, ℕ, ◌+◌, ◌<◌, ◌∙◌, Bool, true, false, cond, List, get_or, length, take, refl, sym, ap, Option, Some, None}
 use Rattle.std.specs.Prelude.{◌&&◌, ◌||◌, nat_le, nat_lt, not, unwrap_or}
 use Rattle.std.specs.Int.Bits.{bit_or}
 use Rattle.std.specs.Option.{option_or}
@@ -16,7 +16,7 @@ use Rattle.lwc_base.specs.declared.key.Kind.TheVariants as kind
 use Rattle.lwc_base.specs.declared.name.Name.{Name}
 use Rattle.lwc_base.specs.Capabilities.{has_bit}
 use Rattle.lwc_base.specs.Keys.{ValueOf}
-use Rattle.lwc_base.specs.Modes.{mode, mode_or_copy, names, same_kind}
+use Rattle.lwc_base.specs.Modes.{mode, names, same_kind}
 use Rattle.lwc_base.specs.Sharing.{needs_group, shared_cell}
 use Rattle.lwc_base.specs.World.{World}
 use Rattle.fd_table.specs.Slots as slots

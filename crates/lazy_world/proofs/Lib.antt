@@ -9,6 +9,7 @@ mod CommonPages
 mod CopyLemmas
 mod CostLemmas
 mod CountLemmas
+mod CountedLemmas
 mod DropLemmas
 mod EdgeLemmas
 mod EmptyLemmas

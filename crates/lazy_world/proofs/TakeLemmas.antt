@@ -24,7 +24,7 @@ use Rattle.lazy_world.specs.Transfers.{CanGet, given, given_or}
 use Rattle.arrayvec.specs.ArrayVec.{ArrayVec}
 use Rattle.lazy_world.specs.declared.pieces.PageOrigins.{PageOrigins}
 use Rattle.lazy_world.specs.declared.pieces.PageOrigins.TheVariants.{PageRuns}
-use Rattle.lazy_world.specs.Origins.{gift_at, gift_of, gift_right, origin_right, page_origin, shown_right, slot_origin, origin_at, with_pages, with_slots, with_states}
+use Rattle.lazy_world.specs.Origins.{gift_at, gift_of, gift_right, origin_right, page_origin, run_states, shown_right, slot_origin, origin_at, with_pages, with_slots, with_states}
 use Rattle.lazy_world.proofs.PlaceLemmas.{choose, pages-put, pass, same_rows}
 
 module _ (cells : List Place) (table : List (ℕ → slots.Slot)) (uids : List (Cell ℕ)) (i : ℕ) where
@@ -82,6 +82,19 @@ module _ (cells : List Place) (table : List (ℕ → slots.Slot)) (uids : List (
   pub states-given : (rights : List (ℕ → Right)) (page_runs : ArrayVec PageRun) (reads : ArrayVec Range) →
       changed_states cells rights i page_runs.items reads.items ≡ with_states old (rights_of rights) i (PageRuns page_runs reads)
   states-given rights page_runs reads = λ e p. state_of (kind_of (page_runs-given page_runs.items p e)) (rights-given rights page_runs.items reads.items p e)
+
+-- the states that a page run gives
+pub states-run : (cells : List Place) (table : List (ℕ → slots.Slot)) (uids : List (Cell ℕ)) (page_run : PageRun) (rights : List (ℕ → Right)) (q : ℕ) →
+    run_states (rows_of cells table uids) (rights_of rights) page_run q ≡ page_changes.given_states cells rights page_run q
+unfolding rows_of
+states-run cells table uids page_run rights q = at page_run.origin
+  where
+    at : (o : Origin) → state_of (kind_of (given (rows_of cells table uids) (Page q) o)) (unwrap_or page_run.right (origin_right (rights_of rights) o q))
+        ≡ state_of (kind_of (origin_cell cells o q)) (unwrap_or page_run.right (page_changes.origin_right rights o q))
+    at origins.Absent = refl
+    at origins.Zeros = refl
+    at (origins.Common g) = refl
+    at (origins.CopyOf j) = refl
 
 key_same : (k q : Key) (row : Row) → with_key Cell k (row k) row q ≡ row q
 key_same (Page p) (Page q) row = ⊎_elim (λ same. choose p q (row (Page p)) (row (Page q)) same ∙ ap (λ n. row (Page n)) (sym same)) (λ other. pass p q (row (Page p)) (row (Page q)) other) (cases_eq q p)

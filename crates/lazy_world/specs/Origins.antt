@@ -20,7 +20,7 @@ use Rattle.lazy_world.specs.declared.pieces.PageOrigins.{PageOrigins}
 use Rattle.lazy_world.specs.declared.pieces.PageOrigins.TheVariants.{AllOf, PageRuns}
 use Rattle.lazy_world.specs.declared.pieces.Origins.{Origins}
 use Rattle.lazy_world.specs.Cells.{Row, states_of}
-use Rattle.lazy_world.specs.Transfers.{CanGet, given_or}
+use Rattle.lazy_world.specs.Transfers.{CanGet, given, given_or}
 
 -- what pages get: an origin, and a right if it is not the origin's
 abbrev pub Gift : Type 0
@@ -74,6 +74,12 @@ with_rights rows rights i (PageRuns page_runs reads) p =
 -- the states of the pages of the place i with those that origins give
 abbrev pub with_states : (ℕ → Row) → (ℕ → ℕ → Right) → ℕ → PageOrigins → ℕ → Option PageState
 with_states rows rights i pages = states_of (with_pages rows pages (rows i)) (with_rights rows rights i pages)
+
+-- the states that a page run gives its pages
+abbrev pub run_states : (ℕ → Row) → (ℕ → ℕ → Right) → PageRun → ℕ → Option PageState
+run_states rows rights page_run q =
+    state_of (kind_of (given rows (Page q) page_run.origin))
+    (unwrap_or page_run.right (origin_right rights page_run.origin q))
 
 -- the most free nodes that pages take of a place that had none
 abbrev pub most_nodes : PageOrigins → ℕ

@@ -1,5 +1,5 @@
 ghost use Rattle.std.specs.Prelude.{◌≡◌, ◌≢◌, ◌==◌, ◌||◌, ◌<◌, ◌≤◌, ◌+◌, ◌*◌, ◌⊎◌, ℕ, false, true};
-ghost use Rattle.std.specs.Prelude.{All, IfSome, None, length};
+ghost use Rattle.std.specs.Prelude.{if◌then◌else◌, All, IfSome, None, length, unwrap_or};
 ghost use Rattle.std.specs.List.{list_any};
 ghost use Rattle.std.specs.Option.{option_map};
 ghost use Rattle.lwc_base.specs.declared.descriptor.TheConstants.{SLOTS};
@@ -103,6 +103,49 @@ fn page_run_of(origin: Option<Origin>, range: Range, right: Option<Right>) -> Op
     }
 }
 
+/// What pages get by a transfer up to a later one: what a page run gives, or what they have. They may only be
+/// read then, if that is said.
+#[derive(Clone, Copy)]
+pub(crate) struct Stretch {
+    pub(crate) page_run: Option<PageRun>,
+    pub(crate) to: PageNumber,
+    pub(crate) read: bool,
+}
+
+impl Stretch {
+    ghost use Rattle.lwc_base.specs.declared.right.Right.{Right};
+    ghost use Rattle.lwc_base.specs.declared.right.Right.TheVariants.{Read};
+    ghost use Rattle.cow_space.specs.declared.page_runs.Origin.TheVariants.{CopyOf};
+    ghost use Rattle.lazy_world.specs.Cells.{Row};
+    ghost use Rattle.lazy_world.specs.Origins.{gift_of, gift_right, origin_right};
+    ghost use Rattle.lazy_world.specs.Transfers.{CanGet, given, given_or};
+
+    /// The page run that gives them all at the place i, from a page on: those that stay are copied from there.
+    pub(crate) fn whole(self, i: usize, from: PageNumber) -> PageRun
+        ensures begin { result.range.from ≡ from }
+        ensures end { result.range.to ≡ self.to }
+        ensures gives { (rows : ℕ → Row) (q : ℕ) → given rows (Page q) result.origin
+            ≡ given_or rows (Page q) (rows i (Page q)) (option_map (λ s. s.origin) self.page_run) }
+        ensures right { (rights : ℕ → ℕ → Right) (q : ℕ)
+            → unwrap_or result.right (origin_right rights result.origin q)
+            ≡ (if self.read then Read
+            else gift_right rights q (rights i q) (option_map gift_of self.page_run)) }
+        ensures inside { (count : ℕ) → i < count
+            → CanGet count i (option_map (λ s. s.origin) self.page_run)
+            → (j : ℕ) → result.origin ≡ CopyOf j → j < count }
+    {
+        let (origin, right) = match self.page_run {
+            Some(page_run) => (page_run.origin, page_run.right),
+            None => (Origin::CopyOf(i), None),
+        };
+        PageRun {
+            range: Range { from, to: self.to },
+            origin,
+            right: if self.read { Some(Right::Read) } else { right },
+        }
+    }
+}
+
 impl PlacedWorld {
     ghost use Rattle.cow_space.specs.Changes.{IsPageRun};
     ghost use Rattle.lwc_base.specs.Capabilities.{has_bit};
@@ -175,48 +218,55 @@ impl PlacedWorld {
         (self.found_state(state), edge)
     }
 
-    /// The page run by a transfer of a page and of all up to a later one, where a range or an item begins or
-    /// ends; none where these pages stay.
-    fn run_from_page(
+    /// What a page gets by a transfer, and all up to a later one, where a range or an item begins or ends.
+    pub(crate) fn stretch_from(
         &self,
         transfer: Transfer,
         spec: &Items,
         from: usize,
         to: usize,
         p: PageNumber,
-    ) -> (Option<PageRun>, PageNumber)
+    ) -> Stretch
         requires from { from < count self.now.places }
         requires transfer { IsFor (parts self.now).size.contexts from to transfer }
         requires page { p < MOST_PAGES }
-        ensures past { p < result.1 }
-        ensures within { result.1 ≤ MOST_PAGES }
-        ensures from { IfSome result.0 (λ s. s.range.from ≡ p) }
-        ensures to { IfSome result.0 (λ s. s.range.to ≡ result.1) }
-        ensures gives { (q : ℕ) → p ≤ q → q < result.1
+        ensures past { p < result.to }
+        ensures within { result.to ≤ MOST_PAGES }
+        ensures begin { IfSome result.page_run (λ s. s.range.from ≡ p) }
+        ensures end { IfSome result.page_run (λ s. s.range.to ≡ result.to) }
+        ensures gives { (q : ℕ) → p ≤ q → q < result.to
             → given_or (rows self.now.places) (Page q) (rows self.now.places to (Page q))
-            (option_map (λ s. s.origin) result.0) ≡ transferred self.now transfer spec.now from to (Page q) }
-        ensures rights { (q : ℕ) → p ≤ q → q < result.1
+            (option_map (λ s. s.origin) result.page_run)
+            ≡ transferred self.now transfer spec.now from to (Page q) }
+        ensures rights { (q : ℕ) → p ≤ q → q < result.to
             → shown_right (transferred self.now transfer spec.now from to (Page q))
             (reads transfer (mode spec.now (Page q)))
             (gift_right (rights self.now.places) q (rights self.now.places to q)
-            (option_map gift_of result.0))
+            (option_map gift_of result.page_run))
             ≡ right_transferred self.now transfer spec.now from to q }
-        ensures can { CanGet (count self.now.places) to (option_map (λ s. s.origin) result.0) }
-        ensures alike { (q : ℕ) → p ≤ q → q < result.1
+        ensures read { (q : ℕ) → p ≤ q → q < result.to
+            → reads transfer (mode spec.now (Page q)) ≡ result.read }
+        ensures can { CanGet (count self.now.places) to (option_map (λ s. s.origin) result.page_run) }
+        ensures alike { (q : ℕ) → p ≤ q → q < result.to
             → states_of (rows self.now.places from) (rights self.now.places from) q
             ≡ states_of (rows self.now.places from) (rights self.now.places from) p }
-        ensures edge { result.1 < MOST_PAGES
-            → (states_of (rows self.now.places from) (rights self.now.places from) result.1
+        ensures edge { result.to < MOST_PAGES
+            → (states_of (rows self.now.places from) (rights self.now.places from) result.to
             ≢ states_of (rows self.now.places from) (rights self.now.places from) p)
-            ⊎ (list_any (λ item. (item.from == result.1) || (item.to == result.1)) spec.now ≡ true) }
+            ⊎ (list_any (λ item. (item.from == result.to) || (item.to == result.to)) spec.now ≡ true) }
         ensures few { ranges MOST_PAGES (states_of (rows self.now.places from) (rights self.now.places from))
             ≤ MOST_RANGES }
     {
         let (found, edge) = self.found_page(from, p);
         let end = mode_edge(spec, p, edge);
-        let origin = transfer.origin(mode_of(spec, Key::Page(p)), found, from, to);
+        let mode = mode_of(spec, Key::Page(p));
+        let origin = transfer.origin(mode, found, from, to);
         let range = Range { from: p, to: end };
-        (page_run_of(origin, range, found.right), end)
+        Stretch {
+            page_run: page_run_of(origin, range, found.right),
+            to: end,
+            read: transfer.makes_read(mode),
+        }
     }
 
     /// The page runs that give a place its pages by a transfer: at most one from each edge of a range or of
@@ -248,11 +298,11 @@ impl PlacedWorld {
         let mut page_runs = ArrayVec::new();
         let mut p: PageNumber = 0;
         'pages: while p < MOST_PAGES {
-            let (page_run, end) = self.run_from_page(transfer, spec, from, to, p);
-            if let Some(page_run) = page_run {
+            let stretch = self.stretch_from(transfer, spec, from, to, p);
+            if let Some(page_run) = stretch.page_run {
                 page_runs.push(page_run);
             }
-            p = end;
+            p = stretch.to;
         }
         page_runs
     }

@@ -1,22 +1,21 @@
 #![tactic(auto, unfolding(crate::specs::Seen::rows, crate::specs::Seen::rights, crate::specs::Cells::rows_of))]
 
-ghost use Rattle.std.specs.Prelude.{◌≡◌, ◌<◌, ◌≤◌, ℕ, All};
+ghost use Rattle.std.specs.Prelude.{◌≡◌, ◌<◌, ◌≤◌, ◌+◌, ℕ, suc, None, Option};
 ghost use Rattle.lwc_base.specs.declared.limits.TheConstants.{MOST_PAGES};
 ghost use Rattle.lwc_base.specs.Modes.{IsSpec};
 ghost use Rattle.range_map.specs.Kinds.{ranges};
-ghost use Rattle.cow_space.specs.Changes.{IsPageRun};
+ghost use Rattle.range_map.specs.declared.segment.PageState.{PageState};
+ghost use Rattle.cow_space.specs.declared.page_runs.Origin.TheVariants.{CopyOf};
 ghost use Rattle.lazy_world.specs.Cells.{states_of};
-ghost use Rattle.lazy_world.specs.Origins.{ArePagesGiven, with_states};
-ghost use Rattle.lazy_world.specs.declared.pieces.PageOrigins.TheVariants.{PageRuns};
+ghost use Rattle.lazy_world.specs.Origins.{run_states};
 ghost use Rattle.lazy_world.specs.Seen.{count, rights, rows};
 
-use crate::pieces::PageOrigins;
 use crate::places::Places;
 use crate::transfer::Transfer;
 use crate::world::PlacedWorld;
-use arrayvec::ArrayVec;
 use cow_space::PageRun;
-use lwc_base::{Items, MOST_ITEMS, MOST_PAGE_RUNS, Name, Range};
+use lwc_base::{Items, MOST_PAGES, Name, PageNumber};
+use range_map::PageState;
 
 impl Places {
     /// The number of ranges of a place.
@@ -27,33 +26,22 @@ impl Places {
         self.pages.count(i)
     }
 
-    /// The number of ranges of a place once the pages of each page run were what their origin says, and those
-    /// of the ranges such as may only be read.
-    fn count_changed(
-        &self,
-        i: usize,
-        page_runs: &ArrayVec<PageRun, MOST_PAGE_RUNS>,
-        reads: &ArrayVec<Range, MOST_ITEMS>,
-    ) -> u32
-        requires place { i < count self.now }
-        requires given { All (IsPageRun (count self.now) i) page_runs.now.items }
-        ensures { result ≡ ranges MOST_PAGES
-            (with_states (rows self.now) (rights self.now) i (PageRuns page_runs.now reads.now)) }
+    /// The number of ranges that begin at the pages of a page run, and the state of the last of them. `before`
+    /// is the state of the page before the first.
+    fn count_run(&self, page_run: &PageRun, before: Option<PageState>) -> (u32, Option<PageState>)
+        requires origin { (j : ℕ) → page_run.now.origin ≡ CopyOf j → j < count self.now }
+        requires order { page_run.now.range.from < page_run.now.range.to }
+        requires inside { page_run.now.range.to ≤ MOST_PAGES }
+        ensures counted { (after : ℕ → Option PageState)
+            → ((q : ℕ) → page_run.now.range.from ≤ q → q < page_run.now.range.to
+            → after q ≡ run_states (rows self.now) (rights self.now) page_run.now q)
+            → (page_run.now.range.from ≡ 0 → before ≡ None)
+            → ((n : ℕ) → page_run.now.range.from ≡ suc n → before ≡ after n)
+            → ranges page_run.now.range.to after ≡ ranges page_run.now.range.from after + result.0 }
+        ensures last { (n : ℕ) → page_run.now.range.to ≡ suc n
+            → result.1 ≡ run_states (rows self.now) (rights self.now) page_run.now n }
     {
-        self.pages
-            .count_after(i, page_runs.as_slice(), reads.as_slice())
-    }
-
-    /// The number of ranges of a place once it had the pages that origins give it.
-    fn count_with(&self, i: usize, pages: &PageOrigins) -> u32
-        requires place { i < count self.now }
-        requires given { ArePagesGiven (count self.now) i pages.now }
-        ensures { result ≡ ranges MOST_PAGES (with_states (rows self.now) (rights self.now) i pages.now) }
-    {
-        match pages {
-            PageOrigins::AllOf(j) => self.range_count(*j),
-            PageOrigins::PageRuns(page_runs, reads) => self.count_changed(i, page_runs, reads),
-        }
+        self.pages.count_given(page_run, before)
     }
 }
 
@@ -78,20 +66,27 @@ impl PlacedWorld {
     }
 
     /// The number of ranges of the place `to` once it got the cells that a transfer gives it of the place
-    /// `from`.
-    // The origins are a large value, which each caller would clear if this were a part of it.
-    #[inline(never)]
-    fn count_origins(&self, transfer: Transfer, spec: &Items, from: usize, to: usize) -> u32
+    /// `from`. It goes from stretch to stretch.
+    fn count_transferred(&self, transfer: Transfer, spec: &Items, from: usize, to: usize) -> u32
         requires from { from < count self.now.places }
         requires to { to < count self.now.places }
         requires transfer { IsFor (parts self.now).size.contexts from to transfer }
-        requires within { IsSpec (seen self.now).size.pages spec.now }
         ensures { result ≡ ranges MOST_PAGES
             (states_of (transferred self.now transfer spec.now from to)
             (right_transferred self.now transfer spec.now from to)) }
     {
-        let pages = self.page_origins(transfer, spec, from, to);
-        self.places.count_with(to, &pages)
+        let mut count = 0u32;
+        let mut last = None;
+        let mut p: PageNumber = 0;
+        'pages: while p < MOST_PAGES {
+            let stretch = self.stretch_from(transfer, spec, from, to, p);
+            let page_run = stretch.whole(to, p);
+            let (more, end) = self.places.count_run(&page_run, last);
+            count += more;
+            last = end;
+            p = stretch.to;
+        }
+        count
     }
 
     /// The number of ranges of a context once it got the cells that a transfer gives it of another one.
@@ -107,7 +102,7 @@ impl PlacedWorld {
         if self.gives_same(transfer, spec, from) {
             self.places.range_count(from)
         } else {
-            self.count_origins(transfer, spec, from, to)
+            self.count_transferred(transfer, spec, from, to)
         }
     }
 

@@ -125,6 +125,19 @@ impl Transfer {
         }
     }
 
+    /// Whether pages of a mode may only be read in the place that gets something.
+    pub fn makes_read(self, mode: Option<Mode>) -> bool
+        ensures { result ≡ reads self mode }
+    {
+        match self {
+            Transfer::Mark(_) | Transfer::Move => false,
+            Transfer::Clone(_) | Transfer::Overlay(_) => match mode {
+                Some(Mode::CopyRead) => true,
+                _ => false,
+            },
+        }
+    }
+
     /// What the place `to` gets under a key of a mode, where this is found at the place `from`; `None`
     /// where it keeps what it has.
     pub fn origin(self, mode: Option<Mode>, found: Found, from: usize, to: usize) -> Option<Origin>

@@ -1,4 +1,4 @@
-use Rattle.std.proofs.Common.{Bool, arith, ap, sym, true, false, ◌≡◌, ◌∙◌}
+use Rattle.std.proofs.Common.{Bool, arith, ap, sym, true, false, ◌≡◌}
 use Rattle.lwc_base.specs.declared.key.Key.TheVariants.{Slot, Cred}
 use Rattle.lwc_base.specs.World.{Context, context}
 use Rattle.lazy_world.specs.Seen.{rows}

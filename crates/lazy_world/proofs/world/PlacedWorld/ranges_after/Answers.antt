@@ -8,8 +8,8 @@ use Rattle.lazy_world.specs.Worlds.{parts, seen}
 use Rattle.lazy_world.proofs.FollowLemmas.{followed-few, same-place, transfer-for}
 use Rattle.lazy_world.proofs.world.PlacedWorld.ranges_after.Goals as goal
 
-pub count_origins-requires-clause-transfer : goal.count_origins-requires-clause-transfer
-count_origins-requires-clause-transfer c =
+pub count_transferred-requires-clause-transfer : goal.count_transferred-requires-clause-transfer
+count_transferred-requires-clause-transfer c =
     transfer-for c.args.transfer (parts c.args.self.now).size.contexts c.args.d c.args.c c.place-from.result c.place-to.result c.requires.transfer
     (λ same. same-place (parts c.args.self.now).contexts.map c.args.d c.args.c c.place-from.result c.place-to.result same c.place-from.ensures.found c.place-to.ensures.found) c.place-to.ensures.low
 
@@ -17,7 +17,7 @@ pub returns-else-gives_same : goal.returns-else-gives_same
 unfolding seen parts world_of
 returns-else-gives_same c =
     let w = c.args.self.now in
-    c.count_origins.ensures
+    c.count_transferred.ensures
     ∙ sym
     (followed-few (parts w) w.sound w.placed c.args.transfer c.args.spec.now c.requires.within c.args.d c.args.c c.place-from.result c.place-to.result c.place-from.ensures.context c.place-to.ensures.found)
 

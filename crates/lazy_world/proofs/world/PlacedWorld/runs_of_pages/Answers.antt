@@ -29,26 +29,26 @@ pub push-requires : goal.push-requires
 push-requires c =
     let w = c.args.self.now in
     let inside : c.pages.p < MOST_PAGES = omega (arith, c.pages-test.true) in
-    (omega arith, few-turns (states_of (rows w.places c.args.from) (rights w.places c.args.from)) c.args.spec.now c.pages.p (length c.pages.page_runs.items) inside c.run_from_page-page_run.ensures.few c.requires.within.few (c.pages.invariant.few inside))
+    (omega arith, few-turns (states_of (rows w.places c.args.from) (rights w.places c.args.from)) c.args.spec.now c.pages.p (length c.pages.page_runs.items) inside c.stretch_from-stretch.ensures.few c.requires.within.few (c.pages.invariant.few inside))
 
 pub pages-preserved-in-Some : goal.pages-preserved-in-Some
 pages-preserved-in-Some c =
     let w = c.args.self.now in
-    let got = c.run_from_page-page_run.ensures in
+    let got = c.stretch_from-stretch.ensures in
     let is = c.in-Some.is in
     let fit = fits w c.args.transfer c.args.spec.now c.args.from c.args.to in
     record {
       inside = got.within;
-      has = subst (HasGiven (count w.places) c.args.to fit c.run_from_page-page_run.result.1) (sym c.push.ensures.items)
-          (given_more (count w.places) c.args.to fit c.pages.p c.run_from_page-page_run.result.1 c.pages.page_runs.items got.past c.pages.invariant.has c.in-Some.page_run
-          (subst (λ o. IfSome o (λ (s : PageRun). s.range.from ≡ c.pages.p)) is got.from) (subst (λ o. IfSome o (λ (s : PageRun). s.range.to ≡ c.run_from_page-page_run.result.1)) is got.to) got.within
+      has = subst (HasGiven (count w.places) c.args.to fit c.stretch_from-stretch.result.to) (sym c.push.ensures.items)
+          (given_more (count w.places) c.args.to fit c.pages.p c.stretch_from-stretch.result.to c.pages.page_runs.items got.past c.pages.invariant.has c.in-Some.page_run
+          (subst (λ o. IfSome o (λ (s : PageRun). s.range.from ≡ c.pages.p)) is got.begin) (subst (λ o. IfSome o (λ (s : PageRun). s.range.to ≡ c.stretch_from-stretch.result.to)) is got.end) got.within
           (λ q low high. record {
             cell = sym (ap (λ o. given_or (rows w.places) (Page q) (rows w.places c.args.to (Page q)) (option_map (λ (s : PageRun). s.origin) o)) is) ∙ got.gives q low high;
             right = sym (ap (λ o. shown_right (transferred w c.args.transfer c.args.spec.now c.args.from c.args.to (Page q)) (reads c.args.transfer (mode c.args.spec.now (Page q)))
                 (gift_right (rights w.places) q (rights w.places c.args.to q) (option_map gift_of o))) is) ∙ got.rights q low high;
           })
           (subst (λ o. CanGet (count w.places) c.args.to (option_map (λ (s : PageRun). s.origin) o)) is got.can));
-      few = λ early. more-turns (states_of (rows w.places c.args.from) (rights w.places c.args.from)) c.args.spec.now c.pages.p c.run_from_page-page_run.result.1 (length c.pages.page_runs.items) (length c.push.new.self.items) got.past got.alike (got.edge early)
+      few = λ early. more-turns (states_of (rows w.places c.args.from) (rights w.places c.args.from)) c.args.spec.now c.pages.p c.stretch_from-stretch.result.to (length c.pages.page_runs.items) (length c.push.new.self.items) got.past got.alike (got.edge early)
           (omega (arith, ap length c.push.ensures.items, length-append c.pages.page_runs.items (c.in-Some.page_run ∷ []))) (c.pages.invariant.few (omega (arith, c.pages-test.true)));
       most =
           let inside : c.pages.p < MOST_PAGES = omega (arith, c.pages-test.true) in
@@ -59,18 +59,18 @@ pages-preserved-in-Some c =
 pub pages-preserved : goal.pages-preserved
 pages-preserved c =
     let w = c.args.self.now in
-    let got = c.run_from_page-page_run.ensures in
+    let got = c.stretch_from-stretch.ensures in
     let is = c.in_default.is in
     let fit = fits w c.args.transfer c.args.spec.now c.args.from c.args.to in
     record {
       inside = got.within;
-      has = given_kept (count w.places) c.args.to fit c.pages.p c.run_from_page-page_run.result.1 c.pages.page_runs.items got.past c.pages.invariant.has
+      has = given_kept (count w.places) c.args.to fit c.pages.p c.stretch_from-stretch.result.to c.pages.page_runs.items got.past c.pages.invariant.has
           (λ q low high. record {
             cell = sym (ap (λ o. given_or (rows w.places) (Page q) (rows w.places c.args.to (Page q)) (option_map (λ (s : PageRun). s.origin) o)) is) ∙ got.gives q low high;
             right = sym (ap (λ o. shown_right (transferred w c.args.transfer c.args.spec.now c.args.from c.args.to (Page q)) (reads c.args.transfer (mode c.args.spec.now (Page q)))
                 (gift_right (rights w.places) q (rights w.places c.args.to q) (option_map gift_of o))) is) ∙ got.rights q low high;
           });
-      few = λ early. more-turns (states_of (rows w.places c.args.from) (rights w.places c.args.from)) c.args.spec.now c.pages.p c.run_from_page-page_run.result.1 (length c.pages.page_runs.items) (length c.pages.page_runs.items) got.past got.alike (got.edge early)
+      few = λ early. more-turns (states_of (rows w.places c.args.from) (rights w.places c.args.from)) c.args.spec.now c.pages.p c.stretch_from-stretch.result.to (length c.pages.page_runs.items) (length c.pages.page_runs.items) got.past got.alike (got.edge early)
           (omega arith) (c.pages.invariant.few (omega (arith, c.pages-test.true)));
       most = c.pages.invariant.most;
     }

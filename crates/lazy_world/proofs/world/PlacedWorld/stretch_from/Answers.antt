@@ -3,7 +3,7 @@ use Rattle.std.specs.Option.{option_map}
 use Rattle.lwc_base.specs.declared.key.Key.TheVariants.{Page}
 use Rattle.std.proofs.lemmas.Bool.{cases_lt}
 use Rattle.lwc_base.specs.Modes.{mode}
-use Rattle.lazy_world.specs.Transfers.{CanGet, given_or, origin_of}
+use Rattle.lazy_world.specs.Transfers.{CanGet, given_or, origin_of, reads}
 use Rattle.lazy_world.specs.Cells.{states_of}
 use Rattle.lazy_world.specs.Seen.{count, rights, rows}
 use Rattle.lazy_world.specs.Worlds.{parts, seen}
@@ -11,13 +11,13 @@ use Rattle.lazy_world.proofs.AbsentLemmas.{no-right}
 use Rattle.lazy_world.proofs.RightLemmas.{right-found}
 use Rattle.lazy_world.proofs.PageRunLemmas.{gift-of, origin-of}
 use Rattle.lazy_world.proofs.TransferLemmas.{transfer-can, transfer-gives}
-use Rattle.lazy_world.proofs.world.PlacedWorld.run_from_page.Goals as goal
+use Rattle.lazy_world.proofs.world.PlacedWorld.stretch_from.Goals as goal
 
 pub returns-clause-gives : goal.returns-clause-gives
 returns-clause-gives c q low high =
     let w = c.args.self.now in
     let within = c.mode_edge-end.ensures.within in
-    let mode_is = c.mode_of.ensures ∙ sym (c.mode_edge-end.ensures.alike q low high) in
+    let mode_is = c.mode_of-mode.ensures ∙ sym (c.mode_edge-end.ensures.alike q low high) in
     ap (given_or (rows w.places) (Page q) (rows w.places c.args.to (Page q)))
     (origin-of c.origin-origin.result _ c.found_page-edge.result.0.right c.page_run_of.result c.page_run_of.ensures ∙ c.origin-origin.ensures ∙ ap (λ m. origin_of c.args.transfer m c.found_page-edge.result.0 c.args.from c.args.to) mode_is)
     ∙ transfer-gives (seen w) (parts w).size.contexts (count w.places) (rows w.places) (Page q) c.args.from c.args.to c.found_page-edge.result.0
@@ -28,7 +28,7 @@ unfolding seen parts
 returns-clause-rights c q low high =
     let w = c.args.self.now in
     let within = c.mode_edge-end.ensures.within in
-    let mode_is = c.mode_of.ensures ∙ sym (c.mode_edge-end.ensures.alike q low high) in
+    let mode_is = c.mode_of-mode.ensures ∙ sym (c.mode_edge-end.ensures.alike q low high) in
     let found = c.found_page-edge.result.0 in
     right-found (parts w) w.sound.pages (no-right w.places) q c.args.from c.args.to found (c.found_page-edge.ensures.found q low (omega arith)).kind (c.found_page-edge.ensures.right q low (omega arith))
     c.args.transfer (mode c.args.spec.now (Page q)) c.requires.transfer _
@@ -39,7 +39,7 @@ returns-clause-can c =
     let w = c.args.self.now in
     let found = c.found_page-edge.ensures.found c.args.p (omega arith) c.found_page-edge.ensures.past in
     subst (CanGet (count w.places) c.args.to) (sym (origin-of c.origin-origin.result _ c.found_page-edge.result.0.right c.page_run_of.result c.page_run_of.ensures ∙ c.origin-origin.ensures))
-    (transfer-can (parts w).size.contexts (count w.places) c.args.from c.args.to c.requires.from c.found_page-edge.result.0 found.behind found.inside c.args.transfer c.mode_of.result c.requires.transfer)
+    (transfer-can (parts w).size.contexts (count w.places) c.args.from c.args.to c.requires.from c.found_page-edge.result.0 found.behind found.inside c.args.transfer c.mode_of-mode.result c.requires.transfer)
 
 pub returns-clause-edge : goal.returns-clause-edge
 returns-clause-edge c early =
@@ -52,3 +52,7 @@ returns-clause-edge c early =
     let same : c.found_page-edge.result.1 ≡ c.mode_edge-end.result = omega (arith, last, end.within) in
     inl (subst (λ e. states_of (rows w.places c.args.from) (rights w.places c.args.from) e ≢ states_of (rows w.places c.args.from) (rights w.places c.args.from) c.args.p) same (found.other (omega (arith, early, same)))))
     (cases_lt c.mode_edge-end.result c.found_page-edge.result.1)
+
+pub returns-clause-read : goal.returns-clause-read
+returns-clause-read c q low high =
+    ap (reads c.args.transfer) (c.mode_edge-end.ensures.alike q low high ∙ sym c.mode_of-mode.ensures) ∙ sym c.makes_read.ensures

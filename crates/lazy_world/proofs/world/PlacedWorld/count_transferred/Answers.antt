@@ -1,0 +1,53 @@
+use Rattle.std.proofs.Common.{◌∙◌, ap, arith, refl, sym}
+use Rattle.range_map.specs.Kinds.{ranges}
+use Rattle.range_map.proofs.Ranges.{few_ranges}
+use Rattle.lazy_world.specs.Cells.{states_of}
+use Rattle.lazy_world.specs.Seen.{count, rights, rows}
+use Rattle.lazy_world.specs.Worlds.{right_transferred, transferred}
+use Rattle.lazy_world.proofs.CountedLemmas.{shown_state}
+use Rattle.lazy_world.proofs.world.PlacedWorld.count_transferred.Goals as goal
+
+pub pages-init : goal.pages-init
+unfolding ranges
+pages-init c = record { inside = omega arith; counted = refl; first = λ _. refl; later = λ n is. absurd (omega (arith, is)) }
+
+pub count_run-more-requires-clause-origin : goal.count_run-more-requires-clause-origin
+count_run-more-requires-clause-origin c = c.whole-page_run.ensures.inside (count c.args.self.now.places) c.requires.to c.stretch_from-stretch.ensures.can
+
+pub overflow_add-count : goal.overflow_add-count
+overflow_add-count c =
+    let w = c.args.self.now in
+    let after = states_of (transferred w c.args.transfer c.args.spec.now c.args.from c.args.to) (right_transferred w c.args.transfer c.args.spec.now c.args.from c.args.to) in
+    let stretch = c.stretch_from-stretch.ensures in
+    let run = c.whole-page_run.ensures in
+    let inv = c.pages.invariant in
+    let more = c.count_run-more.ensures.counted after
+    (λ q low high. shown_state _ _ _ _ _ _ _ (run.gives (rows w.places) q ∙ stretch.gives q (omega (arith, low, run.begin)) (omega (arith, high, run.end))) (stretch.read q (omega (arith, low, run.begin)) (omega (arith, high, run.end)))
+    (stretch.rights q (omega (arith, low, run.begin)) (omega (arith, high, run.end))) (run.right (rights w.places) q))
+    (λ zero. inv.first (omega (arith, zero, run.begin))) (λ n is. inv.later n (omega (arith, is, run.begin))) in
+    let same = ap (λ n. ranges n after) run.begin in
+    let few = few_ranges after c.whole-page_run.result.range.to in
+    omega (arith, few, more, same, inv.counted, stretch.within, run.end)
+
+pub pages-preserved : goal.pages-preserved
+pages-preserved c =
+    let w = c.args.self.now in
+    let after = states_of (transferred w c.args.transfer c.args.spec.now c.args.from c.args.to) (right_transferred w c.args.transfer c.args.spec.now c.args.from c.args.to) in
+    let stretch = c.stretch_from-stretch.ensures in
+    let run = c.whole-page_run.ensures in
+    let inv = c.pages.invariant in
+    let more = c.count_run-more.ensures.counted after
+    (λ q low high. shown_state _ _ _ _ _ _ _ (run.gives (rows w.places) q ∙ stretch.gives q (omega (arith, low, run.begin)) (omega (arith, high, run.end))) (stretch.read q (omega (arith, low, run.begin)) (omega (arith, high, run.end)))
+    (stretch.rights q (omega (arith, low, run.begin)) (omega (arith, high, run.end))) (run.right (rights w.places) q))
+    (λ zero. inv.first (omega (arith, zero, run.begin))) (λ n is. inv.later n (omega (arith, is, run.begin))) in
+    let same = ap (λ n. ranges n after) run.begin in
+    let whole = ap (λ n. ranges n after) run.end in
+    record {
+      inside = stretch.within;
+      counted = omega (arith, more, same, whole, inv.counted);
+      first = λ is. absurd (omega (arith, is, stretch.past));
+      later = λ n is.
+          c.count_run-more.ensures.last n (run.end ∙ is)
+          ∙ sym (shown_state _ _ _ _ _ _ _ (run.gives (rows w.places) n ∙ stretch.gives n (omega (arith, is, stretch.past)) (omega (arith, is))) (stretch.read n (omega (arith, is, stretch.past)) (omega (arith, is)))
+          (stretch.rights n (omega (arith, is, stretch.past)) (omega (arith, is))) (run.right (rights w.places) n));
+    }
