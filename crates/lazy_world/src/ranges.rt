@@ -1,5 +1,5 @@
 ghost use Rattle.std.specs.Prelude.{◌≡◌, ◌≢◌, ◌==◌, ◌||◌, ◌<◌, ◌≤◌, ◌+◌, ◌*◌, ◌⊎◌, ℕ, false, true};
-ghost use Rattle.std.specs.Prelude.{if◌then◌else◌, All, IfSome, None, length, unwrap_or};
+ghost use Rattle.std.specs.Prelude.{if◌then◌else◌, All, IfSome, List, None, length, unwrap_or};
 ghost use Rattle.std.specs.List.{list_any};
 ghost use Rattle.std.specs.Option.{option_map};
 ghost use Rattle.lwc_base.specs.declared.descriptor.TheConstants.{SLOTS};
@@ -10,7 +10,8 @@ ghost use Rattle.lwc_base.specs.declared.cell.Cell.{Cell};
 ghost use Rattle.lwc_base.specs.declared.key.Key.{Key};
 ghost use Rattle.lwc_base.specs.declared.key.Kind.TheVariants as kind;
 ghost use Rattle.lwc_base.specs.Keys.{ValueOf};
-ghost use Rattle.lazy_world.specs.Transfers.{kind_in, owner};
+ghost use Rattle.lwc_base.specs.declared.item.Item.{Item};
+ghost use Rattle.lazy_world.specs.Transfers.{IsModeRun, kind_in, owner};
 ghost use Rattle.lazy_world.specs.declared.transfer.Transfer.{Transfer};
 
 use crate::pieces::{Origins, PageOrigins};
@@ -20,7 +21,8 @@ use arrayvec::ArrayVec;
 use cow_space::{Origin, PageRun};
 use fd_table::lowest_bit;
 use lwc_base::{
-    Cell, Item, Items, Key, Kind, MOST_PAGE_RUNS, MOST_PAGES, PageNumber, Range, Right, SlotNumber,
+    Cell, Item, Items, Key, Kind, MOST_PAGE_RUNS, MOST_PAGES, Mode, PageNumber, Range, Right,
+    SlotNumber,
 };
 use range_map::{PageState, SegmentKind, sooner_edge};
 use res_spec::mode_of;
@@ -55,6 +57,39 @@ pub(crate) fn mode_edge(spec: &Items, p: PageNumber, edge: PageNumber) -> PageNu
         next = item_edge(item, p, next);
     }
     next
+}
+
+/// The mode of the pages from one on, up to a later one.
+#[derive(Clone, Copy)]
+pub(crate) struct ModeRun {
+    pub(crate) mode: Option<Mode>,
+    pub(crate) to: PageNumber,
+}
+
+impl ModeRun {
+    /// The mode of no page.
+    pub(crate) fn empty() -> ModeRun
+        ensures { (items : List Item) → IsModeRun items 0 result }
+    {
+        ModeRun { mode: None, to: 0 }
+    }
+
+    /// The mode of a page and of all up to a later one, where an item begins or ends. The items are looked
+    /// through once for all pages of one mode.
+    pub(crate) fn next(self, spec: &Items, p: PageNumber) -> ModeRun
+        requires page { p < MOST_PAGES }
+        requires known { IsModeRun spec.now p self }
+        ensures past { p < result.to }
+        ensures run { IsModeRun spec.now p result }
+    {
+        if p < self.to {
+            return self;
+        }
+        ModeRun {
+            mode: mode_of(spec, Key::Page(p)),
+            to: mode_edge(spec, p, MOST_PAGES),
+        }
+    }
 }
 
 /// Whether an item names slots.
@@ -104,12 +139,13 @@ fn page_run_of(origin: Option<Origin>, range: Range, right: Option<Right>) -> Op
 }
 
 /// What pages get by a transfer up to a later one: what a page run gives, or what they have. They may only be
-/// read then, if that is said.
+/// read then, if that is said. `modes` is what the next stretch is found by.
 #[derive(Clone, Copy)]
 pub(crate) struct Stretch {
     pub(crate) page_run: Option<PageRun>,
     pub(crate) to: PageNumber,
     pub(crate) read: bool,
+    pub(crate) modes: ModeRun,
 }
 
 impl Stretch {
@@ -223,13 +259,16 @@ impl PlacedWorld {
         &self,
         transfer: Transfer,
         spec: &Items,
+        modes: ModeRun,
         from: usize,
         to: usize,
         p: PageNumber,
     ) -> Stretch
+        requires modes { IsModeRun spec.now p modes }
         requires from { from < count self.now.places }
         requires transfer { IsFor (parts self.now).size.contexts from to transfer }
         requires page { p < MOST_PAGES }
+        ensures modes { IsModeRun spec.now result.to result.modes }
         ensures past { p < result.to }
         ensures within { result.to ≤ MOST_PAGES }
         ensures begin { IfSome result.page_run (λ s. s.range.from ≡ p) }
@@ -258,14 +297,15 @@ impl PlacedWorld {
             ≤ MOST_RANGES }
     {
         let (found, edge) = self.found_page(from, p);
-        let end = mode_edge(spec, p, edge);
-        let mode = mode_of(spec, Key::Page(p));
-        let origin = transfer.origin(mode, found, from, to);
+        let modes = modes.next(spec, p);
+        let end = edge.min(modes.to);
+        let origin = transfer.origin(modes.mode, found, from, to);
         let range = Range { from: p, to: end };
         Stretch {
             page_run: page_run_of(origin, range, found.right),
             to: end,
-            read: transfer.makes_read(mode),
+            read: transfer.makes_read(modes.mode),
+            modes,
         }
     }
 
@@ -296,9 +336,11 @@ impl PlacedWorld {
             + length spec.now) }
     {
         let mut page_runs = ArrayVec::new();
+        let mut modes = ModeRun::empty();
         let mut p: PageNumber = 0;
         'pages: while p < MOST_PAGES {
-            let stretch = self.stretch_from(transfer, spec, from, to, p);
+            let stretch = self.stretch_from(transfer, spec, modes, from, to, p);
+            modes = stretch.modes;
             if let Some(page_run) = stretch.page_run {
                 page_runs.push(page_run);
             }

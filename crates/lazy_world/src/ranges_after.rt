@@ -11,6 +11,7 @@ ghost use Rattle.lazy_world.specs.Origins.{run_states};
 ghost use Rattle.lazy_world.specs.Seen.{count, rights, rows};
 
 use crate::places::Places;
+use crate::ranges::ModeRun;
 use crate::transfer::Transfer;
 use crate::world::PlacedWorld;
 use cow_space::PageRun;
@@ -77,13 +78,15 @@ impl PlacedWorld {
     {
         let mut count = 0u32;
         let mut last = None;
+        let mut modes = ModeRun::empty();
         let mut p: PageNumber = 0;
         'pages: while p < MOST_PAGES {
-            let stretch = self.stretch_from(transfer, spec, from, to, p);
+            let stretch = self.stretch_from(transfer, spec, modes, from, to, p);
             let page_run = stretch.whole(to, p);
             let (more, end) = self.places.count_run(&page_run, last);
             count += more;
             last = end;
+            modes = stretch.modes;
             p = stretch.to;
         }
         count

@@ -9,7 +9,7 @@ use Rattle.lazy_world.proofs.world.PlacedWorld.count_transferred.Goals as goal
 
 pub pages-init : goal.pages-init
 unfolding ranges
-pages-init c = record { inside = omega arith; counted = refl; first = λ _. refl; later = λ n is. absurd (omega (arith, is)) }
+pages-init c = record { inside = omega arith; modes = c.empty-modes.ensures c.args.spec.now; counted = refl; first = λ _. refl; later = λ n is. absurd (omega (arith, is)) }
 
 pub count_run-more-requires-clause-origin : goal.count_run-more-requires-clause-origin
 count_run-more-requires-clause-origin c = c.whole-page_run.ensures.inside (count c.args.self.now.places) c.requires.to c.stretch_from-stretch.ensures.can
@@ -44,6 +44,7 @@ pages-preserved c =
     let whole = ap (λ n. ranges n after) run.end in
     record {
       inside = stretch.within;
+      modes = stretch.modes;
       counted = omega (arith, more, same, whole, inv.counted);
       first = λ is. absurd (omega (arith, is, stretch.past));
       later = λ n is.

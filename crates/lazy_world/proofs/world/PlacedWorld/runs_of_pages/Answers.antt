@@ -20,6 +20,7 @@ pages-init c =
     let w = c.args.self.now in
     record {
       inside = omega arith;
+      modes = c.empty-modes.ensures c.args.spec.now;
       has = subst (HasGiven (count w.places) c.args.to (fits w c.args.transfer c.args.spec.now c.args.from c.args.to) 0) (sym c.new-page_runs.ensures) (none_given (count w.places) c.args.to (fits w c.args.transfer c.args.spec.now c.args.from c.args.to));
       few = λ _. omega (arith, ap length c.new-page_runs.ensures, no-turns (states_of (rows w.places c.args.from) (rights w.places c.args.from)) c.args.spec.now);
       most = omega (arith, ap length c.new-page_runs.ensures);
@@ -39,6 +40,7 @@ pages-preserved-in-Some c =
     let fit = fits w c.args.transfer c.args.spec.now c.args.from c.args.to in
     record {
       inside = got.within;
+      modes = got.modes;
       has = subst (HasGiven (count w.places) c.args.to fit c.stretch_from-stretch.result.to) (sym c.push.ensures.items)
           (given_more (count w.places) c.args.to fit c.pages.p c.stretch_from-stretch.result.to c.pages.page_runs.items got.past c.pages.invariant.has c.in-Some.page_run
           (subst (λ o. IfSome o (λ (s : PageRun). s.range.from ≡ c.pages.p)) is got.begin) (subst (λ o. IfSome o (λ (s : PageRun). s.range.to ≡ c.stretch_from-stretch.result.to)) is got.end) got.within
@@ -64,6 +66,7 @@ pages-preserved c =
     let fit = fits w c.args.transfer c.args.spec.now c.args.from c.args.to in
     record {
       inside = got.within;
+      modes = got.modes;
       has = given_kept (count w.places) c.args.to fit c.pages.p c.stretch_from-stretch.result.to c.pages.page_runs.items got.past c.pages.invariant.has
           (λ q low high. record {
             cell = sym (ap (λ o. given_or (rows w.places) (Page q) (rows w.places c.args.to (Page q)) (option_map (λ (s : PageRun). s.origin) o)) is) ∙ got.gives q low high;
