@@ -9,6 +9,8 @@ mod checks;
 #[cfg(test)]
 mod items;
 #[cfg(test)]
+mod late;
+#[cfg(test)]
 mod names;
 #[cfg(test)]
 mod places;

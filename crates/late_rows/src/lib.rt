@@ -1,0 +1,6 @@
+//! Tables whose rows are made when they are first changed.
+#![tactic(auto)]
+
+pub mod rows;
+
+pub use rows::{Fresh, LateRows};
