@@ -41,7 +41,7 @@ own-same f zero (Some (Common g)) (Some v) fit = absurd cc
 module _ (w : PageCells) where
   pub own-rows : {A : Type 0} (f : Option PageValue → A) → f (Some Zero) ≡ f None → (i p : ℕ) → f (own_values (place_of (cells w) i) p) ≡ f (row_of (maps w.rows) i p)
   own-rows f zero i p =
-      ap (λ (place : Place). f (own_values place p)) (place-at w i) ∙ own-same f zero (kind_at (segments_of w.kinds.items i) p) (row_of (maps w.rows) i p) (w.kept.fit i p)
+      ap (λ (place : Place). f (own_values place p)) (place-at w i) ∙ own-same f zero (kind_at (segments_of w.kinds i) p) (row_of (maps w.rows) i p) (w.kept.fit i p)
 
   pub tags-rows : tags (cells w) ≡ row_tags (maps w.rows)
   unfolding tags row_tags tags_of_place tags_of_map

@@ -24,42 +24,42 @@ use Rattle.lwc_base.specs.declared.limits.TheConstants.{MOST_PAGES}
 module _ (w : PageCells) where
   pub row-count : length (cells w) ≡ length (maps w.rows)
   unfolding cells
-  row-count = length-cells w.kinds.items (maps w.rows)
+  row-count = length-cells w.kinds (maps w.rows)
 
   pub row-in : (i : ℕ) → i < length (cells w) → i < length (maps w.rows)
   row-in i inside = omega (arith, inside, row-count)
 
-  pub kinds-in : (i : ℕ) → i < length (cells w) → i < length w.kinds.items
+  pub kinds-in : (i : ℕ) → i < length (cells w) → i < length w.kinds
   kinds-in i inside = omega (arith, inside, row-count, w.kept.places)
 
-  pub place-at : (i : ℕ) → place_of (cells w) i ≡ place_cells (segments_of w.kinds.items i) (row_of (maps w.rows) i)
+  pub place-at : (i : ℕ) → place_of (cells w) i ≡ place_cells (segments_of w.kinds i) (row_of (maps w.rows) i)
   unfolding cells
-  place-at i = at-place w.kinds.items (maps w.rows) i w.kept.places
+  place-at i = at-place w.kinds (maps w.rows) i w.kept.places
 
   -- each place has its rights
   pub rights-count : length (rights w) ≡ length (cells w)
   unfolding rights all_rights
-  rights-count = length-map w.kinds.items place_rights ∙ w.kept.places ∙ sym row-count
+  rights-count = length-map w.kinds place_rights ∙ w.kept.places ∙ sym row-count
 
-  pub rights-at : (i : ℕ) → rights_of (rights w) i ≡ place_rights (segments_of w.kinds.items i)
+  pub rights-at : (i : ℕ) → rights_of (rights w) i ≡ place_rights (segments_of w.kinds i)
   unfolding rights
-  rights-at i = at-rights w.kinds.items i
+  rights-at i = at-rights w.kinds i
 
   -- what is read of the kinds is the segments of a place, and those give its kinds and its states
-  pub read-segments : (i : ℕ) (segments : List Segment) → i < length (cells w) → segments ≡ get_or w.kinds.items i segments → segments ≡ segments_of w.kinds.items i
-  read-segments i segments inside is = get_or_read w.kinds.items i segments (kinds-in i inside) is []
+  pub read-segments : (i : ℕ) (segments : List Segment) → i < length (cells w) → segments ≡ get_or w.kinds i segments → segments ≡ segments_of w.kinds i
+  read-segments i segments inside is = get_or_read w.kinds i segments (kinds-in i inside) is []
 
-  pub place-kinds : (i : ℕ) → kind_at (segments_of w.kinds.items i) ≡ kinds_of (place_of (cells w) i)
-  place-kinds i = sym (ap kinds_of (place-at i) ∙ (λ k p. kind-cell (kind_at (segments_of w.kinds.items i) p) (row_of (maps w.rows) i p) k))
+  pub place-kinds : (i : ℕ) → kind_at (segments_of w.kinds i) ≡ kinds_of (place_of (cells w) i)
+  place-kinds i = sym (ap kinds_of (place-at i) ∙ (λ k p. kind-cell (kind_at (segments_of w.kinds i) p) (row_of (maps w.rows) i p) k))
 
-  pub read-kinds : (i : ℕ) (segments : List Segment) → i < length (cells w) → segments ≡ get_or w.kinds.items i segments → kind_at segments ≡ kinds_of (place_of (cells w) i)
+  pub read-kinds : (i : ℕ) (segments : List Segment) → i < length (cells w) → segments ≡ get_or w.kinds i segments → kind_at segments ≡ kinds_of (place_of (cells w) i)
   read-kinds i segments inside is = ap kind_at (read-segments i segments inside is) ∙ place-kinds i
 
-  pub place-states : (i : ℕ) → state_at (segments_of w.kinds.items i) ≡ states_of (place_of (cells w) i) (rights_of (rights w) i)
+  pub place-states : (i : ℕ) → state_at (segments_of w.kinds i) ≡ states_of (place_of (cells w) i) (rights_of (rights w) i)
   place-states i =
-      sym ((λ k. states_of (place-at i k) (rights-at i k)) ∙ (λ k p. state-again (state_at (segments_of w.kinds.items i) p) (row_of (maps w.rows) i p) k))
+      sym ((λ k. states_of (place-at i k) (rights-at i k)) ∙ (λ k p. state-again (state_at (segments_of w.kinds i) p) (row_of (maps w.rows) i p) k))
 
-  pub read-states : (i : ℕ) (segments : List Segment) → i < length (cells w) → segments ≡ get_or w.kinds.items i segments →
+  pub read-states : (i : ℕ) (segments : List Segment) → i < length (cells w) → segments ≡ get_or w.kinds i segments →
       state_at segments ≡ states_of (place_of (cells w) i) (rights_of (rights w) i)
   read-states i segments inside is = ap state_at (read-segments i segments inside is) ∙ place-states i
 
@@ -71,7 +71,7 @@ module _ (w : PageCells) where
       ∙ ap (λ cell. right_in (state_of (kind_of cell) (rights_of (rights w) i p))) none
 
   -- a page that is the place's own is one by its segments, and none past the last one
-  pub own-segments : (i p : ℕ) → IsOwnPage (place_of (cells w) i p) → kind_at (segments_of w.kinds.items i) p ≡ Some Own
+  pub own-segments : (i p : ℕ) → IsOwnPage (place_of (cells w) i p) → kind_at (segments_of w.kinds i) p ≡ Some Own
   own-segments i p own = ap (λ (f : ℕ → Option SegmentKind). f p) (place-kinds i) ∙ own
 
   pub own-page : (i p : ℕ) → IsOwnPage (place_of (cells w) i p) → p < MOST_PAGES
@@ -85,20 +85,20 @@ module _ (w : PageCells) where
 
   -- a place has other segments and another row
   module _ (i : ℕ) (segments : List Segment) (row : ℕ → Option PageValue) (rows : List (ℕ → Option PageValue)) (inside : i < length (cells w)) (are : rows ≡ set (maps w.rows) i row) where
-    pub cells-set : all_cells (set w.kinds.items i segments) rows ≡ set (cells w) i (place_cells segments row)
+    pub cells-set : all_cells (set w.kinds i segments) rows ≡ set (cells w) i (place_cells segments row)
     unfolding cells
-    cells-set = ap (all_cells (set w.kinds.items i segments)) are ∙ set-cells (maps w.rows) w.kinds.items i segments row w.kept (row-in i inside)
+    cells-set = ap (all_cells (set w.kinds i segments)) are ∙ set-cells (maps w.rows) w.kinds i segments row w.kept (row-in i inside)
 
-    pub kept-still : ((p : ℕ) → may_have (kind_at segments p) (row p) ≡ true) → ((p : ℕ) → MOST_PAGES ≤ p → state_at segments p ≡ None) → IsKept rows (set w.kinds.items i segments)
+    pub kept-still : ((p : ℕ) → may_have (kind_at segments p) (row p) ≡ true) → ((p : ℕ) → MOST_PAGES ≤ p → state_at segments p ≡ None) → IsKept rows (set w.kinds i segments)
     kept-still fit within =
-        subst (λ ms. IsKept ms (set w.kinds.items i segments)) (sym are) (kept-set (maps w.rows) w.kinds.items i segments row w.kept (row-in i inside) fit within)
+        subst (λ ms. IsKept ms (set w.kinds i segments)) (sym are) (kept-set (maps w.rows) w.kinds i segments row w.kept (row-in i inside) fit within)
 
   -- a place has other segments: its rights
-  pub rights-set : (i : ℕ) (segments : List Segment) → all_rights (set w.kinds.items i segments) ≡ set (rights w) i (place_rights segments)
+  pub rights-set : (i : ℕ) (segments : List Segment) → all_rights (set w.kinds i segments) ≡ set (rights w) i (place_rights segments)
   unfolding rights
-  rights-set i segments = set-rights w.kinds.items i segments
+  rights-set i segments = set-rights w.kinds i segments
 
   pub bare-still : (i : ℕ) (segments : List Segment) (after : ℕ → Type 0) → i < length (cells w) → ((j : ℕ) → j ≢ i → HasNoTree w.rows j → after j) → (HasNoOwnPage segments → after i) →
-      (j : ℕ) → HasNoOwnPage (segments_of (set w.kinds.items i segments) j) → after j
+      (j : ℕ) → HasNoOwnPage (segments_of (set w.kinds i segments) j) → after j
   bare-still i segments after inside others here =
-      by-place (maps w.rows) w.kinds.items i segments (row_of (maps w.rows) i) w.kept (row-in i inside) (λ j s _. HasNoOwnPage s → after j) here (λ j off none. others j off (w.bare j none))
+      by-place (maps w.rows) w.kinds i segments (row_of (maps w.rows) i) w.kept (row-in i inside) (λ j s _. HasNoOwnPage s → after j) here (λ j off none. others j off (w.bare j none))

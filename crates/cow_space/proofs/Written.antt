@@ -25,7 +25,7 @@ use Rattle.cow_space.proofs.OwnTags.{own-rows, parting-rows}
 
 module _ (w : PageCells) (i p : ℕ) (piece : Piece) (tag : Tag) (rows : List (ℕ → Option PageValue)) (inside : i < length (cells w)) (own : IsOwnPage (place_of (cells w) i p)) (written : rows ≡ row.write_page (maps w.rows) i p piece tag) where
   abbrev segments : List Segment
-  segments = segments_of w.kinds.items i
+  segments = segments_of w.kinds i
 
   abbrev value : PageValue
   value = row.written_value (maps w.rows) i p piece tag
@@ -46,9 +46,9 @@ module _ (w : PageCells) (i p : ℕ) (piece : Piece) (tag : Tag) (rows : List (�
       (λ off. grind (arith, nat_tests, off, at))
       (cases_eq q p)
 
-  pub cells-written : all_cells w.kinds.items rows ≡ write_page (cells w) i p piece tag
+  pub cells-written : all_cells w.kinds rows ≡ write_page (cells w) i p piece tag
   cells-written =
-      ap (λ ks. all_cells ks rows) (sym (set-get_or w.kinds.items i []))
+      ap (λ ks. all_cells ks rows) (sym (set-get_or w.kinds i []))
       ∙ cells-set w i segments (put_page (row_of (maps w.rows) i) p (Some value)) rows inside written
       ∙ ap (set (cells w) i) ((λ x q. cell-put q x) ∙ (λ x. put_page (place_of (cells w) i) p (cell.Own (Some (value-same x)))))
 
@@ -57,12 +57,12 @@ module _ (w : PageCells) (i p : ℕ) (piece : Piece) (tag : Tag) (rows : List (�
       let fit = w.kept.fit i q in
       ⊎_elim (λ is. let kind = here q is in grind (arith, kind)) (λ off. grind (arith, nat_tests, off, fit)) (cases_eq q p)
 
-  pub kept-written : IsKept rows w.kinds.items
+  pub kept-written : IsKept rows w.kinds
   kept-written =
-      subst (IsKept rows) (set-get_or w.kinds.items i [])
+      subst (IsKept rows) (set-get_or w.kinds i [])
       (kept-still w i segments (put_page (row_of (maps w.rows) i) p (Some value)) rows inside written fit-put (w.kept.within i))
 
   -- a place without pages has no tree still
-  pub bare-written : (after : ℕ → Type 0) → ((j : ℕ) → j ≢ i → HasNoTree w.rows j → after j) → (j : ℕ) → HasNoOwnPage (segments_of w.kinds.items j) → after j
+  pub bare-written : (after : ℕ → Type 0) → ((j : ℕ) → j ≢ i → HasNoTree w.rows j → after j) → (j : ℕ) → HasNoOwnPage (segments_of w.kinds j) → after j
   bare-written after others j none =
-      others j (λ same. absurd (subst (λ k. HasNoOwnPage (segments_of w.kinds.items k)) same none p (here p refl))) (w.bare j none)
+      others j (λ same. absurd (subst (λ k. HasNoOwnPage (segments_of w.kinds k)) same none p (here p refl))) (w.bare j none)

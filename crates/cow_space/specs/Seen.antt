@@ -8,11 +8,11 @@ use Rattle.cow_space.specs.Cells.{Place, all_cells, all_rights}
 
 -- the cells of each place
 unfoldable pub cells : PageCells → List Place
-cells w = all_cells w.kinds.items (rows.maps w.rows)
+cells w = all_cells w.kinds (rows.maps w.rows)
 
 -- the rights of each place; an absent page has Write
 unfoldable pub rights : PageCells → List (ℕ → Right)
-rights w = all_rights w.kinds.items
+rights w = all_rights w.kinds
 
 -- how many frames there are
 abbrev pub frames_of : PageCells → ℕ

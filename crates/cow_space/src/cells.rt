@@ -1,4 +1,4 @@
-ghost use Rattle.std.specs.Prelude.{◌≡◌, ℕ, [], IfOk, replicate};
+ghost use Rattle.std.specs.Prelude.{◌≡◌, ℕ, IfOk, replicate};
 ghost use Rattle.cow_space.specs.RowSeen as rows_seen;
 ghost use Rattle.std.proofs.Props.{props};
 ghost use Rattle.cow_space.specs.Cells.{segments_of};
@@ -6,6 +6,7 @@ ghost use Rattle.cow_space.specs.Kept.{HasNoOwnPage, IsKept};
 ghost use Rattle.cow_space.specs.RowSeen.{no_tree-prop};
 
 use crate::rows::Rows;
+use late_rows::LateRows;
 use lwc_base::{OutOfMemory, PageNumber, Right};
 use range_map::{PageState, RangeMap, Segment, SegmentKind};
 use std::alloc::Global;
@@ -16,21 +17,10 @@ use std::alloc::Global;
 #[derive(Drop)]
 pub struct PageCells {
     pub(crate) rows: Rows,
-    pub(crate) kinds: Vec<RangeMap>,
-    ghost kept: { IsKept (rows_seen.maps rows) kinds.items },
-    ghost bare: { (i : ℕ) → HasNoOwnPage (segments_of kinds.items i)
+    pub(crate) kinds: LateRows<RangeMap>,
+    ghost kept: { IsKept (rows_seen.maps rows) kinds },
+    ghost bare: { (i : ℕ) → HasNoOwnPage (segments_of kinds i)
         → rows_seen.HasNoTree rows i } by { Prim.hlevel (props, no_tree-prop) },
-}
-
-/// The kinds of this number of places without pages. The only error is out of memory.
-fn no_kinds(alloc: Global, places: u32) -> Result<Vec<RangeMap>, OutOfMemory>
-    ensures { IfOk result (λ kinds. kinds.items ≡ replicate places []) }
-{
-    let mut kinds = Vec::with_capacity(alloc, places as usize)?;
-    'places: for _ in 0..places {
-        kinds.push_reserved(RangeMap::empty());
-    }
-    Ok(kinds)
 }
 
 impl PageCells {
@@ -64,7 +54,7 @@ impl PageCells {
         ensures nodes { IfOk result (λ opened. free_nodes opened ≡ TREE_NODES * places + FREE_NODES) }
     {
         let rows = Rows::open(alloc, frames, places)?;
-        let kinds = no_kinds(alloc, places)?;
+        let kinds = LateRows::open(alloc, places)?;
         Ok(PageCells { rows, kinds })
     }
 

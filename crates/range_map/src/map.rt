@@ -7,6 +7,7 @@ ghost use Rattle.range_map.specs.Kinds.{IsCanonical, IsSegment, are_alike, put_s
 use crate::runs;
 use crate::segment::{Change, PageState, Segment, SegmentKind};
 use arrayvec::ArrayVec;
+use late_rows::Fresh;
 use lwc_base::{MOST_PAGES, MOST_RANGES, PageNumber, Right};
 use std::marker::Model;
 
@@ -31,6 +32,15 @@ impl Model for RangeMap {
     ghost view = { λ map. map.segments.items };
 
     ghost invariant = { λ map. IsCanonical map.segments.items };
+}
+
+impl Fresh for RangeMap {
+    ghost fresh = { [] };
+
+    /// No page is present.
+    fn fresh() -> RangeMap {
+        RangeMap::empty()
+    }
 }
 
 impl RangeMap {

@@ -16,7 +16,7 @@ use Rattle.cow_space.proofs.Taken.{changed-used}
 use Rattle.cow_space.proofs.cells.PageCells.change.Goals as goal
 
 pub index_mut-requires : goal.index_mut-requires
-index_mut-requires c = omega (arith, kinds-in c.args.self.now c.args.i c.requires.place, c.args.self.now.kinds.ok)
+index_mut-requires c = omega (arith, kinds-in c.args.self.now c.args.i c.requires.place)
 
 pub fill_row-requires-clause-row : goal.fill_row-requires-clause-row
 fill_row-requires-clause-row c = row-in c.args.self.now c.args.i c.requires.place

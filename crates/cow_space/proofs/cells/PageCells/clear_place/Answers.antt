@@ -10,7 +10,7 @@ use Rattle.cow_space.proofs.Views.{bare-still, cells-set, kept-still, kinds-in, 
 use Rattle.cow_space.proofs.cells.PageCells.clear_place.Goals as goal
 
 pub index_mut-requires : goal.index_mut-requires
-index_mut-requires c = omega (arith, kinds-in c.args.self.now c.args.i c.requires.place, c.args.self.now.kinds.ok)
+index_mut-requires c = omega (arith, kinds-in c.args.self.now c.args.i c.requires.place)
 
 pub drop_row-requires : goal.drop_row-requires
 drop_row-requires c = record { row = row-in c.args.self.now c.args.i c.requires.place }
@@ -19,7 +19,7 @@ pub returns-clause-cells : goal.returns-clause-cells
 unfolding cells
 returns-clause-cells c =
     let w = c.args.self.now in
-    ap (λ s. all_cells (set w.kinds.items c.args.i s) (maps c.drop_row.new.self)) c.clear.ensures
+    ap (λ s. all_cells (set w.kinds c.args.i s) (maps c.drop_row.new.self)) c.clear.ensures
     ∙ cells-set w c.args.i [] rows.no_pages (maps c.drop_row.new.self) c.requires.place c.drop_row.ensures.maps
     ∙ ap (set (cells w) c.args.i) (none-cells rows.no_pages)
 
@@ -27,14 +27,14 @@ pub returns-clause-rights : goal.returns-clause-rights
 unfolding rights
 returns-clause-rights c =
     let w = c.args.self.now in
-    ap (λ s. all_rights (set w.kinds.items c.args.i s)) c.clear.ensures ∙ rights-set w c.args.i [] ∙ ap (set (rights w) c.args.i) none-write
+    ap (λ s. all_rights (set w.kinds c.args.i s)) c.clear.ensures ∙ rights-set w c.args.i [] ∙ ap (set (rights w) c.args.i) none-write
 
 pub invariant_of-self : goal.invariant_of-self
 unfolding state_at
 invariant_of-self c =
     let w = c.args.self.now in
     record {
-      kept = subst (λ s. IsKept (maps c.drop_row.new.self) (set w.kinds.items c.args.i s)) (sym c.clear.ensures)
+      kept = subst (λ s. IsKept (maps c.drop_row.new.self) (set w.kinds c.args.i s)) (sym c.clear.ensures)
           (kept-still w c.args.i [] rows.no_pages (maps c.drop_row.new.self) c.requires.place c.drop_row.ensures.maps (λ p. may-none (kind_at [] p)) (λ p past. refl));
       bare = bare-still w c.args.i c.clear.new.self (HasNoTree c.drop_row.new.self) c.requires.place c.drop_row.ensures.others (λ _. c.drop_row.ensures.empty);
     }

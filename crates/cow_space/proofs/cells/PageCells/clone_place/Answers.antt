@@ -16,13 +16,13 @@ use Rattle.cow_space.proofs.cells.PageCells.clone_place.Goals as goal
 use Rattle.lwc_base.specs.declared.limits.TheConstants.{MOST_PAGES}
 
 pub index-requires : goal.index-requires
-index-requires c = omega (arith, kinds-in c.args.self.now c.args.from c.requires.from, c.args.self.now.kinds.ok)
+index-requires c = omega (arith, kinds-in c.args.self.now c.args.from c.requires.from)
 
 pub index-requires-2 : goal.index-requires-2
-index-requires-2 c = omega (arith, kinds-in c.args.self.now c.args.from c.requires.from, c.args.self.now.kinds.ok)
+index-requires-2 c = omega (arith, kinds-in c.args.self.now c.args.from c.requires.from)
 
 pub index_mut-requires : goal.index_mut-requires
-index_mut-requires c = omega (arith, kinds-in c.args.self.now c.args.to c.requires.to, c.args.self.now.kinds.ok)
+index_mut-requires c = omega (arith, kinds-in c.args.self.now c.args.to c.requires.to)
 
 pub clone_row-requires-clause-to : goal.clone_row-requires-clause-to
 clone_row-requires-clause-to c = row-in c.args.self.now c.args.to c.requires.to
@@ -37,8 +37,8 @@ invariant_of-self c =
     let copied = c.copy.ensures ∙ read-segments w c.args.from c.index-2.result.now c.requires.from c.index-2.ensures in
     let some = c.has_own_page-some.ensures.some c.if-some.true in
     record {
-      kept = subst (λ s. IsKept (maps c.clone_row.new.self) (set w.kinds.items c.args.to s)) (sym copied)
-          (kept-still w c.args.to (segments_of w.kinds.items c.args.from) (row_of (maps w.rows) c.args.from) (maps c.clone_row.new.self) c.requires.to c.clone_row.ensures.maps (w.kept.fit c.args.from) (w.kept.within c.args.from));
+      kept = subst (λ s. IsKept (maps c.clone_row.new.self) (set w.kinds c.args.to s)) (sym copied)
+          (kept-still w c.args.to (segments_of w.kinds c.args.from) (row_of (maps w.rows) c.args.from) (maps c.clone_row.new.self) c.requires.to c.clone_row.ensures.maps (w.kept.fit c.args.from) (w.kept.within c.args.from));
       bare = bare-still w c.args.to c.copy.result (HasNoTree c.clone_row.new.self) c.requires.to c.clone_row.ensures.others
           (λ none. absurd (some (subst HasNoOwnPage (copied ∙ sym read) none)));
     }
@@ -60,8 +60,8 @@ unfolding cells
 returns-then-some-clause-cells c =
     let w = c.args.self.now in
     let copied = c.copy.ensures ∙ read-segments w c.args.from c.index-2.result.now c.requires.from c.index-2.ensures in
-    ap (λ s. all_cells (set w.kinds.items c.args.to s) (maps c.clone_row.new.self)) copied
-    ∙ cells-set w c.args.to (segments_of w.kinds.items c.args.from) (row_of (maps w.rows) c.args.from) (maps c.clone_row.new.self) c.requires.to c.clone_row.ensures.maps
+    ap (λ s. all_cells (set w.kinds c.args.to s) (maps c.clone_row.new.self)) copied
+    ∙ cells-set w c.args.to (segments_of w.kinds c.args.from) (row_of (maps w.rows) c.args.from) (maps c.clone_row.new.self) c.requires.to c.clone_row.ensures.maps
     ∙ ap (set (cells w) c.args.to) (sym (place-at w c.args.from))
 
 pub returns-then-some-clause-rights : goal.returns-then-some-clause-rights
@@ -69,8 +69,8 @@ unfolding rights
 returns-then-some-clause-rights c =
     let w = c.args.self.now in
     let copied = c.copy.ensures ∙ read-segments w c.args.from c.index-2.result.now c.requires.from c.index-2.ensures in
-    ap (λ s. all_rights (set w.kinds.items c.args.to s)) copied
-    ∙ rights-set w c.args.to (segments_of w.kinds.items c.args.from)
+    ap (λ s. all_rights (set w.kinds c.args.to s)) copied
+    ∙ rights-set w c.args.to (segments_of w.kinds c.args.from)
     ∙ ap (set (rights w) c.args.to) (sym (rights-at w c.args.from))
 
 pub returns-then-some-clause-cost_empty : goal.returns-then-some-clause-cost_empty
@@ -85,18 +85,18 @@ returns-else-some-clause-cells c =
     let read = read-segments w c.args.from c.index.result.now c.requires.from c.index.ensures in
     let copied = c.copy.ensures ∙ read-segments w c.args.from c.index-2.result.now c.requires.from c.index-2.ensures in
     let none = subst HasNoOwnPage read (c.has_own_page-some.ensures.none c.if-some.false) in
-    ap (λ s. all_cells (set w.kinds.items c.args.to s) (maps c.drop_row.new.self)) copied
-    ∙ cells-set w c.args.to (segments_of w.kinds.items c.args.from) rows.no_pages (maps c.drop_row.new.self) c.requires.to c.drop_row.ensures.maps
+    ap (λ s. all_cells (set w.kinds c.args.to s) (maps c.drop_row.new.self)) copied
+    ∙ cells-set w c.args.to (segments_of w.kinds c.args.from) rows.no_pages (maps c.drop_row.new.self) c.requires.to c.drop_row.ensures.maps
     ∙ ap (set (cells w) c.args.to)
-    (no-own-cells (segments_of w.kinds.items c.args.from) rows.no_pages (row_of (maps w.rows) c.args.from) none ∙ sym (place-at w c.args.from))
+    (no-own-cells (segments_of w.kinds c.args.from) rows.no_pages (row_of (maps w.rows) c.args.from) none ∙ sym (place-at w c.args.from))
 
 pub returns-else-some-clause-rights : goal.returns-else-some-clause-rights
 unfolding rights
 returns-else-some-clause-rights c =
     let w = c.args.self.now in
     let copied = c.copy.ensures ∙ read-segments w c.args.from c.index-2.result.now c.requires.from c.index-2.ensures in
-    ap (λ s. all_rights (set w.kinds.items c.args.to s)) copied
-    ∙ rights-set w c.args.to (segments_of w.kinds.items c.args.from)
+    ap (λ s. all_rights (set w.kinds c.args.to s)) copied
+    ∙ rights-set w c.args.to (segments_of w.kinds c.args.from)
     ∙ ap (set (rights w) c.args.to) (sym (rights-at w c.args.from))
 
 pub returns-else-some-clause-cost_empty : goal.returns-else-some-clause-cost_empty

@@ -4,7 +4,7 @@ use Rattle.cow_space.proofs.Views.{kinds-in, read-kinds}
 use Rattle.cow_space.proofs.cells.PageCells.kind.Goals as goal
 
 pub index-requires : goal.index-requires
-index-requires c = omega (arith, kinds-in c.args.self.now c.args.i c.requires, c.args.self.now.kinds.ok)
+index-requires c = omega (arith, kinds-in c.args.self.now c.args.i c.requires)
 
 pub returns : goal.returns
 returns c =

@@ -4,4 +4,4 @@ use Rattle.cow_space.proofs.cells.PageCells.len.Goals as goal
 
 pub returns : goal.returns
 returns c =
-    let w = c.args.self.now in omega (arith, c.len.ensures, w.kinds.ok, w.kept.places, row-count w)
+    let w = c.args.self.now in omega (arith, c.len.ensures, w.kept.places, row-count w)

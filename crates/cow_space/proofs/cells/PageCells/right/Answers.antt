@@ -9,7 +9,7 @@ use Rattle.cow_space.proofs.Views.{kinds-in, read-segments, rights-at}
 use Rattle.cow_space.proofs.cells.PageCells.right.Goals as goal
 
 pub index-requires : goal.index-requires
-index-requires c = omega (arith, kinds-in c.args.self.now c.args.i c.requires, c.args.self.now.kinds.ok)
+index-requires c = omega (arith, kinds-in c.args.self.now c.args.i c.requires)
 
 right-or : (state : Option PageState) → unwrap_or (option_map (λ s. s.right) state) Write ≡ right_in state
 right-or None = refl

@@ -6,7 +6,7 @@ use Rattle.cow_space.proofs.Views.{kinds-in, read-states}
 use Rattle.cow_space.proofs.cells.PageCells.run_at.Goals as goal
 
 pub index-requires : goal.index-requires
-index-requires c = omega (arith, kinds-in c.args.self.now c.args.i c.requires.place, c.args.self.now.kinds.ok)
+index-requires c = omega (arith, kinds-in c.args.self.now c.args.i c.requires.place)
 
 pub returns-clause-alike : goal.returns-clause-alike
 returns-clause-alike c q low high =

@@ -46,7 +46,7 @@ invariant_of-self c =
     record {
       kept = ⊎_elim
           (λ done. kept-written w c.args.i c.args.p (record { at = c.args.at; bytes = c.args.piece.now }) (record { job = 0; k = 0 }) (maps c.write_in_place.new.self) c.requires.place own.0 (c.write_in_place.ensures.written done (record { job = 0; k = 0 })))
-          (λ off. subst (λ m. IsKept m w.kinds.items) (sym (c.write_in_place.ensures.same off)) w.kept)
+          (λ off. subst (λ m. IsKept m w.kinds) (sym (c.write_in_place.ensures.same off)) w.kept)
           (cases_Bool c.write_in_place.result);
       bare = λ j none. c.write_in_place.ensures.others j (w.bare j none);
     }
@@ -66,7 +66,7 @@ returns-in-Own-Write-clause-written c =
 
 pub returns-in-Own-Write-clause-same : goal.returns-in-Own-Write-clause-same
 unfolding cells
-returns-in-Own-Write-clause-same c = λ off. ap (all_cells c.args.self.now.kinds.items) (c.write_in_place.ensures.same off)
+returns-in-Own-Write-clause-same c = λ off. ap (all_cells c.args.self.now.kinds) (c.write_in_place.ensures.same off)
 
 pub returns-in-Own-Write-clause-enough : goal.returns-in-Own-Write-clause-enough
 returns-in-Own-Write-clause-enough c = λ _. omega (arith, used-rows c.args.self.now, c.write_in_place.ensures.within)
