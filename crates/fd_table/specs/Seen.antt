@@ -6,4 +6,4 @@ use Rattle.fd_table.specs.Tables.{rows}
 
 -- the slots of the places
 unfoldable pub slots : Slots → List (ℕ → Slot)
-slots w = rows w.objects.pool w.tables.items
+slots w = rows w.objects.pool w.tables

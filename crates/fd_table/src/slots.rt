@@ -1,11 +1,11 @@
 ghost use Rattle.std.specs.Prelude.{◌≡◌, ℕ, IfOk, length, replicate};
 ghost use Rattle.fd_table.specs.declared.slots.TheConstants.{NUMBERS};
 ghost use Rattle.fd_table.specs.Kept.{IsKept};
-ghost use Rattle.fd_table.specs.Tables.{no_table};
 
 use crate::filling::Filling;
 use crate::objects::Objects;
 use crate::table::Table;
+use late_rows::{Fresh, LateRows};
 use lwc_base::{Cell, Lent, Name, OutOfMemory, SlotNumber};
 use std::alloc::Global;
 
@@ -22,20 +22,9 @@ pub const NUMBERS: u32 = 65536;
 #[derive(Drop)]
 pub struct Slots {
     pub(crate) objects: Objects,
-    pub(crate) tables: Vec<Table>,
-    ghost kept: { IsKept objects.pool tables.items },
+    pub(crate) tables: LateRows<Table>,
+    ghost kept: { IsKept objects.pool tables },
     ghost numbers: { length objects.named.items ≡ NUMBERS },
-}
-
-/// This number of empty tables. The only error is out of memory.
-fn empty_tables(alloc: Global, places: u32) -> Result<Vec<Table>, OutOfMemory>
-    ensures { IfOk result (λ tables. tables.items ≡ replicate places no_table) }
-{
-    let mut tables = Vec::with_capacity(alloc, places as usize)?;
-    'tables: for _ in 0..places {
-        tables.push_reserved(Table::empty());
-    }
-    Ok(tables)
 }
 
 impl Slots {
@@ -58,7 +47,7 @@ impl Slots {
         ensures { IfOk result (λ opened. slots opened ≡ replicate places no_slots) }
     {
         let objects = Objects::open(alloc, 64 * places, NUMBERS)?;
-        let tables = empty_tables(alloc, places)?;
+        let tables = LateRows::open(alloc, places)?;
         Ok(Slots { objects, tables })
     }
 
@@ -228,6 +217,6 @@ impl Slots {
         ensures { slots self.new ≡ slice_set (slots self.old) i no_slots }
     {
         self.objects.drop_all(self.tables[i].used());
-        self.tables[i] = Table::empty();
+        self.tables[i] = Table::fresh();
     }
 }

@@ -5,6 +5,7 @@ ghost use Rattle.lwc_base.specs.declared.descriptor.TheConstants.{SLOTS};
 ghost use Rattle.fd_table.specs.Tables.{times};
 
 use crate::bits::with_bit;
+use late_rows::Fresh;
 use lwc_base::{SLOTS, SlotNumber};
 
 /// The slots of a place: for each one more than the number of its object, or 0 where it is empty. Bit n of
@@ -16,18 +17,22 @@ pub(crate) struct Table {
     pub(crate) entries: [u32; SLOTS as usize],
 }
 
-impl Table {
+impl Fresh for Table {
+    ghost use Rattle.fd_table.specs.Tables.{no_table};
+
+    ghost fresh = { no_table };
+
     /// The table whose slots are all empty.
-    pub(crate) fn empty() -> Table
-        ensures { result ≡ record { filled = 0; common = 0; entries = replicate 64 0 } }
-    {
+    fn fresh() -> Table {
         Table {
             filled: 0,
             common: 0,
             entries: [0; SLOTS as usize],
         }
     }
+}
 
+impl Table {
     /// Puts another entry into slot n, common or not.
     pub(crate) fn set(&mut self, n: SlotNumber, entry: u32, common: bool)
         requires { n < SLOTS }

@@ -10,17 +10,17 @@ use Rattle.fd_table.proofs.slots.Slots.clear_place.Goals as goal
 pub index_mut-requires : goal.index_mut-requires
 unfolding slots
 index_mut-requires c =
-    omega (arith, c.requires, length-rows c.args.self.now.objects.pool c.args.self.now.tables.items, c.args.self.now.tables.ok)
+    omega (arith, c.requires, length-rows c.args.self.now.objects.pool c.args.self.now.tables)
 
 pub index-requires : goal.index-requires
 unfolding slots
 index-requires c =
-    omega (arith, c.requires, length-rows c.args.self.now.objects.pool c.args.self.now.tables.items, c.args.self.now.tables.ok)
+    omega (arith, c.requires, length-rows c.args.self.now.objects.pool c.args.self.now.tables)
 
 pub used-requires : goal.used-requires
 unfolding slots
 used-requires c =
-    let tables = c.args.self.now.tables.items in
+    let tables = c.args.self.now.tables in
     let inside : c.args.i < length tables = omega (arith, c.requires, length-rows c.args.self.now.objects.pool tables) in
     let read = table-read tables c.args.i _ inside c.index.ensures in
     (subst (IsTable c.args.self.now.objects.pool) (sym read) (c.args.self.now.kept.each c.args.i inside)).filled
@@ -28,7 +28,7 @@ used-requires c =
 pub drop_all-requires : goal.drop_all-requires
 unfolding slots
 drop_all-requires c = λ o.
-    let tables = c.args.self.now.tables.items in
+    let tables = c.args.self.now.tables in
     let inside : c.args.i < length tables = omega (arith, c.requires, length-rows c.args.self.now.objects.pool tables) in
     let read = table-read tables c.args.i _ inside c.index.ensures in
     let same = c.used.ensures.same o ∙ ap (λ (t : Table). times o t.entries) read in
@@ -38,11 +38,11 @@ pub invariant_of-self : goal.invariant_of-self
 unfolding slots
 invariant_of-self c =
     let pool = c.args.self.now.objects.pool in
-    let tables = c.args.self.now.tables.items in
+    let tables = c.args.self.now.tables in
     let inside : c.args.i < length tables = omega (arith, c.requires, length-rows pool tables) in
     let read = table-read tables c.args.i _ inside c.index.ensures in
     record {
-      kept = subst (λ t. IsKept c.drop_all.new.self.pool (set tables c.args.i t)) (sym c.empty.ensures)
+      kept = subst (λ t. IsKept c.drop_all.new.self.pool (set tables c.args.i t)) (sym c.fresh.ensures)
           (clear-kept pool _ tables c.args.i c.used.result.now c.args.self.now.kept inside c.drop_all.ensures.pool
           (λ o. c.used.ensures.same o ∙ ap (λ (t : Table). times o t.entries) read));
       numbers = c.drop_all.ensures.places ∙ c.args.self.now.numbers;
@@ -52,6 +52,6 @@ pub returns : goal.returns
 unfolding slots
 returns c =
     let pool = c.args.self.now.objects.pool in
-    let tables = c.args.self.now.tables.items in
-    ap (λ t. rows c.drop_all.new.self.pool (set tables c.args.i t)) c.empty.ensures
+    let tables = c.args.self.now.tables in
+    ap (λ t. rows c.drop_all.new.self.pool (set tables c.args.i t)) c.fresh.ensures
     ∙ clear-rows pool c.drop_all.new.self.pool tables c.args.i c.used.result.now c.drop_all.ensures.pool

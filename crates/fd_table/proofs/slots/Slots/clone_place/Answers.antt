@@ -10,42 +10,42 @@ use Rattle.fd_table.proofs.slots.Slots.clone_place.Goals as goal
 pub index-requires : goal.index-requires
 unfolding slots
 index-requires c =
-    omega (arith, c.requires.from, length-rows c.args.self.now.objects.pool c.args.self.now.tables.items, c.args.self.now.tables.ok)
+    omega (arith, c.requires.from, length-rows c.args.self.now.objects.pool c.args.self.now.tables)
 
 pub index-table-requires : goal.index-table-requires
 unfolding slots
 index-table-requires c =
-    omega (arith, c.requires.from, length-rows c.args.self.now.objects.pool c.args.self.now.tables.items, c.args.self.now.tables.ok)
+    omega (arith, c.requires.from, length-rows c.args.self.now.objects.pool c.args.self.now.tables)
 
 pub index_mut-requires : goal.index_mut-requires
 unfolding slots
 index_mut-requires c =
-    omega (arith, c.requires.to, length-rows c.args.self.now.objects.pool c.args.self.now.tables.items, c.args.self.now.tables.ok)
+    omega (arith, c.requires.to, length-rows c.args.self.now.objects.pool c.args.self.now.tables)
 
 pub used-requires : goal.used-requires
 unfolding slots
 used-requires c =
-    let tables = c.args.self.now.tables.items in
+    let tables = c.args.self.now.tables in
     let inside : c.args.from < length tables = omega (arith, c.requires.from, length-rows c.args.self.now.objects.pool tables) in
     (subst (IsTable c.args.self.now.objects.pool) (sym (table-read tables c.args.from _ inside c.index.ensures)) (c.args.self.now.kept.each c.args.from inside)).filled
 
 pub hold_all-requires-clause-held : goal.hold_all-requires-clause-held
 unfolding slots
 hold_all-requires-clause-held c = λ o some.
-    let tables = c.args.self.now.tables.items in
+    let tables = c.args.self.now.tables in
     let inside : c.args.from < length tables = omega (arith, c.requires.from, length-rows c.args.self.now.objects.pool tables) in
     let same = c.used.ensures.same o ∙ ap (λ (t : Table). times o t.entries) (table-read tables c.args.from _ inside c.index.ensures) in
     clone-held c.args.self.now.objects.pool tables c.args.from o c.args.self.now.kept inside (omega (arith, same, some))
 
 pub hold_all-requires-clause-fits : goal.hold_all-requires-clause-fits
 hold_all-requires-clause-fits c = λ o.
-    omega (arith, c.used.ensures.few, count-few c.args.self.now.objects.pool c.args.self.now.tables.items o c.args.self.now.kept)
+    omega (arith, c.used.ensures.few, count-few c.args.self.now.objects.pool c.args.self.now.tables o c.args.self.now.kept)
 
 pub invariant_of-self : goal.invariant_of-self
 unfolding slots
 invariant_of-self c =
     let pool = c.args.self.now.objects.pool in
-    let tables = c.args.self.now.tables.items in
+    let tables = c.args.self.now.tables in
     let to_in : c.args.to < length tables = omega (arith, c.requires.to, length-rows pool tables) in
     let from_in : c.args.from < length tables = omega (arith, c.requires.from, length-rows pool tables) in
     let read = table-read tables c.args.from _ from_in c.index.ensures in
@@ -61,7 +61,7 @@ pub returns : goal.returns
 unfolding slots
 returns c =
     let pool = c.args.self.now.objects.pool in
-    let tables = c.args.self.now.tables.items in
+    let tables = c.args.self.now.tables in
     let from_in : c.args.from < length tables = omega (arith, c.requires.from, length-rows pool tables) in
     let read = table-read tables c.args.from _ from_in c.index.ensures in
     let again = table-read tables c.args.from _ from_in c.index-table.ensures in

@@ -10,13 +10,13 @@ use Rattle.fd_table.proofs.slots.Slots.common.Goals as goal
 pub index-requires : goal.index-requires
 unfolding slots
 index-requires c =
-    omega (arith, c.requires, length-rows c.args.self.now.objects.pool c.args.self.now.tables.items, c.args.self.now.tables.ok)
+    omega (arith, c.requires, length-rows c.args.self.now.objects.pool c.args.self.now.tables)
 
 pub returns : goal.returns
 unfolding slots
 returns c = λ n n_in.
     let pool = c.args.self.now.objects.pool in
-    let tables = c.args.self.now.tables.items in
+    let tables = c.args.self.now.tables in
     let inside : c.args.i < length tables = omega (arith, c.requires, length-rows pool tables) in
     let is = c.args.self.now.kept.each c.args.i inside in
     ap (λ (t : Table). has_bit t.common n) (table-read tables c.args.i _ inside c.index.ensures)

@@ -13,41 +13,41 @@ use Rattle.fd_table.proofs.slots.Slots.copy_slot.Goals as goal
 pub index-requires : goal.index-requires
 unfolding slots
 index-requires c =
-    omega (arith, c.requires.from, length-rows c.args.self.now.objects.pool c.args.self.now.tables.items, c.args.self.now.tables.ok)
+    omega (arith, c.requires.from, length-rows c.args.self.now.objects.pool c.args.self.now.tables)
 
 pub index-requires-2 : goal.index-requires-2
 unfolding slots
 index-requires-2 c =
-    omega (arith, c.requires.from, length-rows c.args.self.now.objects.pool c.args.self.now.tables.items, c.args.self.now.tables.ok)
+    omega (arith, c.requires.from, length-rows c.args.self.now.objects.pool c.args.self.now.tables)
 
 pub index-requires-3 : goal.index-requires-3
 unfolding slots
 index-requires-3 c =
-    omega (arith, c.requires.to, length-rows c.args.self.now.objects.pool c.args.self.now.tables.items, c.args.self.now.tables.ok)
+    omega (arith, c.requires.to, length-rows c.args.self.now.objects.pool c.args.self.now.tables)
 
 pub index_mut-requires : goal.index_mut-requires
 unfolding slots
 index_mut-requires c =
-    omega (arith, c.requires.to, length-rows c.args.self.now.objects.pool c.args.self.now.tables.items, c.args.self.now.tables.ok)
+    omega (arith, c.requires.to, length-rows c.args.self.now.objects.pool c.args.self.now.tables)
 
 pub hold_all-requires-clause-held : goal.hold_all-requires-clause-held
 unfolding slots
 hold_all-requires-clause-held c = λ o some.
     let pool = c.args.self.now.objects.pool in
-    let tables = c.args.self.now.tables.items in
+    let tables = c.args.self.now.tables in
     let from_in : c.args.from < length tables = omega (arith, c.requires.from, length-rows pool tables) in
     let same = ap (λ (t : Table). times o (get_or t.entries c.args.m 0 ∷ [])) (table-read tables c.args.from _ from_in c.index.ensures) in
     omega (arith, some, same, empty-may pool tables c.args.from c.args.m c.args.self.now.kept from_in c.requires.from_slot o)
 
 pub hold_all-requires-clause-fits : goal.hold_all-requires-clause-fits
 hold_all-requires-clause-fits c = λ o.
-    omega (arith, count-few c.args.self.now.objects.pool c.args.self.now.tables.items o c.args.self.now.kept, c.args.self.now.kept.few)
+    omega (arith, count-few c.args.self.now.objects.pool c.args.self.now.tables o c.args.self.now.kept, c.args.self.now.kept.few)
 
 pub drop_entry-requires : goal.drop_entry-requires
 unfolding slots
 drop_entry-requires c = λ o.
     let pool = c.args.self.now.objects.pool in
-    let tables = c.args.self.now.tables.items in
+    let tables = c.args.self.now.tables in
     let to_in : c.args.to < length tables = omega (arith, c.requires.to, length-rows pool tables) in
     let read = table-read tables c.args.to _ to_in c.index-3.ensures in
     let may = subst (λ (t : Table). times o (get_or t.entries c.args.n 0 ∷ []) ≤ count_of pool o) (sym read) (empty-may pool tables c.args.to c.args.n c.args.self.now.kept to_in c.requires.slot o) in
@@ -57,7 +57,7 @@ pub invariant_of-self : goal.invariant_of-self
 unfolding slots
 invariant_of-self c =
     let pool = c.args.self.now.objects.pool in
-    let tables = c.args.self.now.tables.items in
+    let tables = c.args.self.now.tables in
     let to = c.args.to in
     let n = c.args.n in
     let m = c.args.m in
@@ -91,7 +91,7 @@ pub returns : goal.returns
 unfolding slots
 returns c =
     let pool = c.args.self.now.objects.pool in
-    let tables = c.args.self.now.tables.items in
+    let tables = c.args.self.now.tables in
     let to = c.args.to in
     let n = c.args.n in
     let m = c.args.m in

@@ -12,17 +12,17 @@ use Rattle.fd_table.proofs.slots.Slots.empty_slot.Goals as goal
 pub index-requires : goal.index-requires
 unfolding slots
 index-requires c =
-    omega (arith, c.requires.place, length-rows c.args.self.now.objects.pool c.args.self.now.tables.items, c.args.self.now.tables.ok)
+    omega (arith, c.requires.place, length-rows c.args.self.now.objects.pool c.args.self.now.tables)
 
 pub index_mut-requires : goal.index_mut-requires
 unfolding slots
 index_mut-requires c =
-    omega (arith, c.requires.place, length-rows c.args.self.now.objects.pool c.args.self.now.tables.items, c.args.self.now.tables.ok)
+    omega (arith, c.requires.place, length-rows c.args.self.now.objects.pool c.args.self.now.tables)
 
 pub drop_entry-requires : goal.drop_entry-requires
 unfolding slots
 drop_entry-requires c = λ o.
-    let tables = c.args.self.now.tables.items in
+    let tables = c.args.self.now.tables in
     let inside : c.args.i < length tables = omega (arith, c.requires.place, length-rows c.args.self.now.objects.pool tables) in
     let read = table-read tables c.args.i _ inside c.index.ensures in
     subst (λ (t : Table). times o (get_or t.entries c.args.n 0 ∷ []) ≤ count_of c.args.self.now.objects.pool o) (sym read)
@@ -32,7 +32,7 @@ pub invariant_of-self : goal.invariant_of-self
 unfolding slots
 invariant_of-self c =
     let pool = c.args.self.now.objects.pool in
-    let tables = c.args.self.now.tables.items in
+    let tables = c.args.self.now.tables in
     let i = c.args.i in
     let n = c.args.n in
     let new = c.drop_entry.new.self.pool in
@@ -55,7 +55,7 @@ pub returns : goal.returns
 unfolding slots
 returns c =
     let pool = c.args.self.now.objects.pool in
-    let tables = c.args.self.now.tables.items in
+    let tables = c.args.self.now.tables in
     let i = c.args.i in
     let new = c.drop_entry.new.self.pool in
     let inside : i < length tables = omega (arith, c.requires.place, length-rows pool tables) in

@@ -14,7 +14,7 @@ pub take-o-requires-clause-free : goal.take-o-requires-clause-free
 unfolding slots
 take-o-requires-clause-free c =
     let pool = c.args.self.now.objects.pool in
-    let tables = c.args.self.now.tables.items in
+    let tables = c.args.self.now.tables in
     let inside : c.args.i < length tables = omega (arith, c.requires.place, length-rows pool tables) in
     free-some pool tables c.args.i c.args.n c.args.self.now.kept inside c.requires.slot (empty-zero pool tables c.args.i c.args.n c.args.self.now.kept inside c.requires.empty)
 
@@ -25,13 +25,13 @@ take-o-requires-clause-target c =
 pub index_mut-requires : goal.index_mut-requires
 unfolding slots
 index_mut-requires c =
-    omega (arith, c.requires.place, length-rows c.args.self.now.objects.pool c.args.self.now.tables.items, c.args.self.now.tables.ok)
+    omega (arith, c.requires.place, length-rows c.args.self.now.objects.pool c.args.self.now.tables)
 
 pub invariant_of-self : goal.invariant_of-self
 unfolding slots
 invariant_of-self c =
     let pool = c.args.self.now.objects.pool in
-    let tables = c.args.self.now.tables.items in
+    let tables = c.args.self.now.tables in
     let i = c.args.i in
     let n = c.args.n in
     let o = c.take-o.result in
@@ -58,7 +58,7 @@ pub returns : goal.returns
 unfolding slots
 returns c =
     let pool = c.args.self.now.objects.pool in
-    let tables = c.args.self.now.tables.items in
+    let tables = c.args.self.now.tables in
     let i = c.args.i in
     let n = c.args.n in
     let o = c.take-o.result in

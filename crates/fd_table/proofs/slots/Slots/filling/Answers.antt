@@ -11,13 +11,13 @@ use Rattle.fd_table.proofs.slots.Slots.filling.Goals as goal
 pub index-requires : goal.index-requires
 unfolding slots
 index-requires c =
-    omega (arith, c.requires.place, length-rows c.args.self.now.objects.pool c.args.self.now.tables.items, c.args.self.now.tables.ok)
+    omega (arith, c.requires.place, length-rows c.args.self.now.objects.pool c.args.self.now.tables)
 
 pub filling-requires : goal.filling-requires
 unfolding slots
 filling-requires c =
     let pool = c.args.self.now.objects.pool in
-    let tables = c.args.self.now.tables.items in
+    let tables = c.args.self.now.tables in
     let inside : c.args.i < length tables = omega (arith, c.requires.place, length-rows pool tables) in
     let read = table-read tables c.args.i _ inside c.index.ensures in
     let same = ap (λ (t : Table). get_or t.entries c.args.n 0) read in
@@ -27,7 +27,7 @@ pub returns-in-0-clause-none : goal.returns-in-0-clause-none
 unfolding slots
 returns-in-0-clause-none c =
     let pool = c.args.self.now.objects.pool in
-    let tables = c.args.self.now.tables.items in
+    let tables = c.args.self.now.tables in
     let inside : c.args.i < length tables = omega (arith, c.requires.place, length-rows pool tables) in
     let same = ap (λ (t : Table). get_or t.entries c.args.n 0) (table-read tables c.args.i _ inside c.index.ensures) in
     ap (λ (row : ℕ → Slot). row c.args.n) (row-at pool tables c.args.i inside) ∙ slots-at pool (table_at tables c.args.i).entries c.args.n
@@ -37,7 +37,7 @@ pub returns-in_default-clause-some : goal.returns-in_default-clause-some
 unfolding slots
 returns-in_default-clause-some c =
     let pool = c.args.self.now.objects.pool in
-    let tables = c.args.self.now.tables.items in
+    let tables = c.args.self.now.tables in
     let inside : c.args.i < length tables = omega (arith, c.requires.place, length-rows pool tables) in
     let same = ap (λ (t : Table). get_or t.entries c.args.n 0) (table-read tables c.args.i _ inside c.index.ensures) in
     ap (λ (row : ℕ → Slot). row c.args.n) (row-at pool tables c.args.i inside) ∙ slots-at pool (table_at tables c.args.i).entries c.args.n

@@ -12,7 +12,7 @@ pub returns : goal.returns
 unfolding slots
 returns c =
     let pool = c.args.self.now.objects.pool in
-    let tables = c.args.self.now.tables.items in (
+    let tables = c.args.self.now.tables in (
       λ yes. named-some pool tables c.args.number c.args.self.now.kept (sym c.is_named.ensures ∙ yes),
       λ has. c.is_named.ensures ∙ some-named pool tables c.args.number has.0 has.1 c.args.self.now.kept has.2,
     )

@@ -11,18 +11,18 @@ use Rattle.fd_table.proofs.slots.Slots.is_shared.Goals as goal
 pub index-requires : goal.index-requires
 unfolding slots
 index-requires c =
-    omega (arith, c.requires.place, length-rows c.args.self.now.objects.pool c.args.self.now.tables.items, c.args.self.now.tables.ok)
+    omega (arith, c.requires.place, length-rows c.args.self.now.objects.pool c.args.self.now.tables)
 
 pub index-requires-2 : goal.index-requires-2
 unfolding slots
 index-requires-2 c =
-    omega (arith, c.requires.other, length-rows c.args.self.now.objects.pool c.args.self.now.tables.items, c.args.self.now.tables.ok)
+    omega (arith, c.requires.other, length-rows c.args.self.now.objects.pool c.args.self.now.tables)
 
 pub returns : goal.returns
 unfolding slots
 returns c is =
     let pool = c.args.self.now.objects.pool in
-    let tables = c.args.self.now.tables.items in
+    let tables = c.args.self.now.tables in
     let first : c.args.i < length tables = omega (arith, c.requires.place, length-rows pool tables) in
     let second : c.args.j < length tables = omega (arith, c.requires.other, length-rows pool tables) in
     let same : get_or (table_at tables c.args.i).entries c.args.n 0 ≡ get_or (table_at tables c.args.j).entries c.args.n 0 =
