@@ -1,5 +1,6 @@
 ghost use Rattle.std.specs.Prelude.{◌≡◌, ◌<◌, None, Some, length, replicate, slice_index_or, slice_set};
 
+use late_rows::Fresh;
 use lwc_base::Regs;
 use std::marker::Model;
 
@@ -32,18 +33,23 @@ impl Model for Registers {
     ghost invariant = { λ r. record { saved : length r.saved ≡ 16; kept : length r.kept ≡ 16 } };
 }
 
-impl Registers {
-    /// The registers of a context that keeps none for any thread.
-    pub fn new(entry: &Regs) -> Registers
-        ensures { result ≡ record { entry = entry.now; saved = replicate 16 None } }
-    {
+impl Fresh for Registers {
+    ghost use Rattle.lwc_base.specs.Registers.{fresh_registers};
+
+    ghost fresh = { record { entry = fresh_registers 0; saved = replicate 16 None } };
+
+    /// The registers of a context before it has any.
+    fn fresh() -> Registers {
+        let entry = Regs::fresh(0);
         Registers {
-            entry: *entry,
-            saved: [*entry; 16],
+            entry,
+            saved: [entry; 16],
             kept: [false; 16],
         }
     }
+}
 
+impl Registers {
     /// Lets them be those of a context that begins with these, and keeps none for any thread.
     pub fn begin(&mut self, entry: &Regs)
         ensures { self.new ≡ record { entry = entry.now; saved = replicate 16 None } }

@@ -5,13 +5,14 @@ ghost use Rattle.ctx_table.specs.NameTables.{ArePlaced};
 ghost use Rattle.world_face.specs.Calls.{IsSize};
 ghost use Rattle.lazy_world.specs.Seen.{count, frame_count, rights, rows};
 ghost use Rattle.lazy_world.specs.Sound.{IsSound, named_cell-prop};
-ghost use Rattle.lazy_world.specs.States.{no_registers, nothing_counted};
+ghost use Rattle.lazy_world.specs.States.{nothing_counted};
 
 use crate::counts::Counts;
 use crate::places::Places;
 use crate::registers::Registers;
 use ctx_table::Names;
-use lwc_base::{OutOfMemory, Regs, WorldSize};
+use late_rows::LateRows;
+use lwc_base::{OutOfMemory, WorldSize};
 use std::alloc::Global;
 
 /// A world whose contexts and groups share pages and descriptors. The context at place i of `contexts`
@@ -21,7 +22,7 @@ use std::alloc::Global;
 pub struct PlacedWorld {
     pub(crate) size: WorldSize,
     pub(crate) places: Places,
-    pub(crate) registers: Vec<Registers>,
+    pub(crate) registers: LateRows<Registers>,
     pub(crate) contexts: Names,
     pub(crate) groups: Names,
     pub(crate) counts: Vec<Counts>,
@@ -33,22 +34,11 @@ pub struct PlacedWorld {
       size = size;
       rows = rows places;
       rights = rights places;
-      registers = registers.items;
+      registers = registers;
       contexts = contexts;
       groups = groups;
       counts = counts.items;
     }) } by { Prim.hlevel (props, named_cell-prop) },
-}
-
-/// Registers at this number of places. The only error is out of memory.
-fn no_registers(alloc: Global, places: u32) -> Result<Vec<Registers>, OutOfMemory>
-    ensures { IfOk result (λ registers. length registers.items ≡ places) }
-{
-    let mut registers = Vec::with_capacity(alloc, places as usize)?;
-    'places: for _ in 0..places {
-        registers.push_reserved(Registers::new(&Regs::fresh(0)));
-    }
-    Ok(registers)
 }
 
 /// What the jobs have counted before they have named anything. The only error is out of memory.
@@ -68,11 +58,12 @@ fn nothing_counted(alloc: Global, jobs: u32) -> Result<Vec<Counts>, OutOfMemory>
 fn nothing_kept(
     alloc: Global,
     size: &WorldSize,
-) -> Result<(Vec<Registers>, Vec<Counts>), OutOfMemory>
-    ensures registers { IfOk result (λ kept. length kept.0.items ≡ size.now.contexts) }
+) -> Result<(LateRows<Registers>, Vec<Counts>), OutOfMemory>
+    requires { IsSize size.now }
+    ensures registers { IfOk result (λ kept. length kept.0 ≡ size.now.contexts) }
     ensures counts { IfOk result (λ kept. kept.1.items ≡ replicate size.now.jobs nothing_counted) }
 {
-    let registers = no_registers(alloc, size.contexts)?;
+    let registers = LateRows::open(alloc, size.contexts)?;
     let counts = nothing_counted(alloc, size.jobs)?;
     Ok((registers, counts))
 }

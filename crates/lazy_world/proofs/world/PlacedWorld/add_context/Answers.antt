@@ -43,18 +43,18 @@ module _ (w : PlacedWorld) (job : ℕ) (known : job < (seen w).size.jobs) (n : C
     more = record { contexts = n.contexts + 1; groups = n.groups; tags = n.tags }
 
     abbrev later : Parts
-    later = record { size = w.size; rows = rows q; rights = rights q; registers = set w.registers.items p registers; contexts = table; groups = w.groups; counts = set w.counts.items job more }
+    later = record { size = w.size; rows = rows q; rights = rights q; registers = set w.registers p registers; contexts = table; groups = w.groups; counts = set w.counts.items job more }
 
     later-is : later ≡ record {
       size = w.size;
       rows = put_row (rows w.places) (p) (with_key Cell Cred (Own uid) (rows w.places p));
       rights = rights w.places;
-      registers = set w.registers.items p (record { entry = entry; saved = replicate 16 None });
+      registers = set w.registers p (record { entry = entry; saved = replicate 16 None });
       contexts = table;
       groups = w.groups;
       counts = set w.counts.items job more;
     }
-    later-is = λ e. record { size = w.size; rows = rows_are e; rights = rights_are e; registers = set w.registers.items p (registers_are e); contexts = table; groups = w.groups; counts = set w.counts.items job more }
+    later-is = λ e. record { size = w.size; rows = rows_are e; rights = rights_are e; registers = set w.registers p (registers_are e); contexts = table; groups = w.groups; counts = set w.counts.items job more }
 
     free : get_or w.contexts.places p None ≡ None
     free = ap (λ i. get_or w.contexts.places i None) first ∙ first_free-free w.contexts.places (subst (λ i. i < length w.contexts.places) first within)

@@ -40,18 +40,18 @@ module _ (w : PlacedWorld) (job : ℕ) (known : job < (seen w).size.jobs) (n : C
     more = record { contexts = n.contexts; groups = n.groups + 1; tags = n.tags }
 
     abbrev later : Parts
-    later = record { size = w.size; rows = rows q; rights = rights q; registers = w.registers.items; contexts = w.contexts; groups = table; counts = set w.counts.items job more }
+    later = record { size = w.size; rows = rows q; rights = rights q; registers = w.registers; contexts = w.contexts; groups = table; counts = set w.counts.items job more }
 
     later-is : later ≡ record {
       size = w.size;
       rows = put_row (rows w.places) (w.size.contexts + p) (with_key Cell Cred (Own NOBODY) (rows w.places (w.size.contexts + p)));
       rights = rights w.places;
-      registers = w.registers.items;
+      registers = w.registers;
       contexts = w.contexts;
       groups = table;
       counts = set w.counts.items job more;
     }
-    later-is = λ e. record { size = w.size; rows = rows_are e; rights = rights_are e; registers = w.registers.items; contexts = w.contexts; groups = table; counts = set w.counts.items job more }
+    later-is = λ e. record { size = w.size; rows = rows_are e; rights = rights_are e; registers = w.registers; contexts = w.contexts; groups = table; counts = set w.counts.items job more }
 
     free : get_or w.groups.places p None ≡ None
     free = ap (λ i. get_or w.groups.places i None) first ∙ first_free-free w.groups.places (subst (λ i. i < length w.groups.places) first within)

@@ -18,12 +18,12 @@ invariant_of-result c =
             size = size;
             rows = c.in_ok-places.ensures.rows e;
             rights = c.in_ok-places.ensures.rights e;
-            registers = c.in_ok-registers.registers.items;
+            registers = c.in_ok-registers.registers;
             contexts = c.in_ok-contexts.ensures.contexts e;
             groups = c.in_ok-contexts.ensures.groups e;
             counts = c.in_ok-registers.ensures.counts e;
           }))
-          (sound-opened size c.requires c.in_ok-registers.registers.items c.in_ok-registers.ensures.registers);
+          (sound-opened size c.requires c.in_ok-registers.registers c.in_ok-registers.ensures.registers);
     }
 
 pub returns : goal.returns
@@ -35,9 +35,9 @@ returns c =
       size = size;
       rows = c.in_ok-places.ensures.rows e;
       rights = c.in_ok-places.ensures.rights e;
-      registers = c.in_ok-registers.registers.items;
+      registers = c.in_ok-registers.registers;
       contexts = c.in_ok-contexts.ensures.contexts e;
       groups = c.in_ok-contexts.ensures.groups e;
       counts = c.in_ok-registers.ensures.counts e;
     })
-    ∙ world-opened size c.requires c.in_ok-registers.registers.items c.in_ok-registers.ensures.registers
+    ∙ world-opened size c.requires c.in_ok-registers.registers c.in_ok-registers.ensures.registers

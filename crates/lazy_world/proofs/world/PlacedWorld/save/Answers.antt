@@ -8,13 +8,13 @@ use Rattle.lazy_world.proofs.world.PlacedWorld.save.Goals as goal
 
 pub index_mut-requires : goal.index_mut-requires
 unfolding parts
-index_mut-requires c = omega (arith, c.place-i.ensures.low, c.args.self.now.sound.sizes.registers, c.args.self.now.registers.ok)
+index_mut-requires c = omega (arith, c.place-i.ensures.low, c.args.self.now.sound.sizes.registers)
 
 pub invariant_of-self : goal.invariant_of-self
 unfolding parts
 invariant_of-self c =
     let s = parts c.args.self.now in
-    let inside : c.place-i.result < length c.args.self.now.registers.items = omega (arith, c.place-i.ensures.low, c.args.self.now.sound.sizes.registers) in
+    let inside : c.place-i.result < length c.args.self.now.registers = omega (arith, c.place-i.ensures.low, c.args.self.now.sound.sizes.registers) in
     record {
       placed = c.args.self.now.placed;
       placed_groups = c.args.self.now.placed_groups;
@@ -29,7 +29,7 @@ pub returns : goal.returns
 unfolding seen parts
 returns c =
     let s = parts c.args.self.now in
-    let inside : c.place-i.result < length c.args.self.now.registers.items = omega (arith, c.place-i.ensures.low, c.args.self.now.sound.sizes.registers) in
+    let inside : c.place-i.result < length c.args.self.now.registers = omega (arith, c.place-i.ensures.low, c.args.self.now.sound.sizes.registers) in
     record {
       saved = ap (λ r. world_of (record s { registers = set s.registers c.place-i.result r })) c.save.ensures.saved
           ∙ saved-world s c.args.self.now.sound c.args.self.now.placed c.args.c c.place-i.result c.place-i.ensures.found _

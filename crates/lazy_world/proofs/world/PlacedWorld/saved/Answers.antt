@@ -9,13 +9,13 @@ use Rattle.lazy_world.proofs.world.PlacedWorld.saved.Goals as goal
 
 pub index-requires : goal.index-requires
 unfolding parts
-index-requires c = omega (arith, c.place.ensures.low, c.args.self.now.sound.sizes.registers, c.args.self.now.registers.ok)
+index-requires c = omega (arith, c.place.ensures.low, c.args.self.now.sound.sizes.registers)
 
 pub returns : goal.returns
 unfolding parts
 returns c =
-    let inside : c.place.result < length c.args.self.now.registers.items = omega (arith, c.place.ensures.low, c.args.self.now.sound.sizes.registers) in
+    let inside : c.place.result < length c.args.self.now.registers = omega (arith, c.place.ensures.low, c.args.self.now.sound.sizes.registers) in
     record {
-      value = c.saved.ensures ∙ ap (λ (r : KeptRegisters). slice_index_or r.saved c.args.t None) (get_or_read c.args.self.now.registers.items c.place.result _ inside c.index.ensures no_registers)
+      value = c.saved.ensures ∙ ap (λ (r : KeptRegisters). slice_index_or r.saved c.args.t None) (get_or_read c.args.self.now.registers c.place.result _ inside c.index.ensures no_registers)
           ∙ ap (λ (x : Context). x.saved c.args.t) (sym c.place.ensures.context);
     }
