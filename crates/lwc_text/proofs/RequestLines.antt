@@ -1,5 +1,5 @@
 -- Reading requests line by line.
-use Rattle.std.proofs.Common.{◌≡◌, ℕ, zero, suc, get_or, ◌+◌, ◌-◌, ◌*◌, ◌%◌, ◌≤◌, ◌<◌, Bool, true, false, not, List, [], ◌∷◌, ◌++◌, length, take, drop, map, All, Option, Some, None, Ok, Err, refl, sym, ap, subst, ◌∙◌, arith, length-append}
+use Rattle.std.proofs.Common.{◌≡◌, ℕ, zero, suc, get_or, ◌+◌, ◌-◌, ◌*◌, ◌%◌, ◌≤◌, ◌<◌, Bool, true, false, not, List, [], ◌∷◌, ◌++◌, length, take, drop, map, All, Option, Some, None, Ok, refl, sym, ap, subst, ◌∙◌, arith, length-append}
 use Rattle.std.proofs.lemmas.Bool.Decides.{nat_tests}
 use Rattle.std.proofs.lemmas.List.{take_more, take_all}
 use Rattle.std.proofs.lemmas.List.Elements.{All-nil, All-cons, All-head, All-tail, All-from_get_or, All-get_or, filter_map-append}
@@ -8,7 +8,6 @@ use Rattle.std.specs.List.{AllPass, after_first, cons_option, filter_map, range_
 use Rattle.std.specs.Option.{option_map}
 use Rattle.std.specs.Str.Lines.{lines}
 use Rattle.hex.specs.Hex.{decode_of, is_hex_digit}
-use Rattle.hex.specs.declared.error.FromHexError.{FromHexError}
 use Rattle.hex.proofs.HexLemmas.{decode_of-digits, decode_of-ok}
 use Rattle.lwc_base.specs.Outcomes.{Fails, IsFound, unless_refused}
 use Rattle.lwc_base.specs.declared.limits.TheConstants.{MOST_REQUESTS, MOST_REQUEST_BYTES, MOST_REQUEST_FILE_BYTES}
@@ -59,8 +58,12 @@ keeps_rules line request read small =
     let twice : length line ≡ 2 * length request = ok.2 in
     grind (arith, nat_tests)
 
-pub kept_is_digits : (line : List ℕ) (e : FromHexError) → decode_of line ≡ Err e → rule_in line ≡ None → ⊥
-kept_is_digits line e fails none = let good = is_good line none in let read = good.decoded in cc
+-- a line that breaks no rule is pairs of digits
+pub is_pairs : (line : List ℕ) → rule_in line ≡ None → (length line % 2 ≡ 0) × AllPass is_hex_digit line
+is_pairs line none =
+    let good = is_good line none in
+    let ok = decode_of-ok line good.request good.decoded in
+    (ok.0, ok.1)
 
 -- the requests so far are those of the lines so far, of which none is refused, and what is left has the other lines
 pub record IsSoFar (bytes rest : List ℕ) (n : ℕ) (requests : List (List ℕ)) : Type 0 where

@@ -10,7 +10,7 @@ ghost use Rattle.lwc_text.specs.Lines.{bytes_text, context_line, groups_line, na
 ghost use Rattle.lwc_text.specs.Lines.{reply_line, reply_text, status_text, steps_text, tail_lines};
 ghost use Rattle.lwc_text.specs.Lines.{thread_line, thread_lines, trap_line, used_line};
 
-use crate::digits::digits_of;
+use crate::digits::{append_digits, digits_of};
 use itoa::Buffer;
 use kernel_core::ThreadView;
 use lwc_base::{MOST_REPLY_BYTES, Name, OutOfMemory, Summary, ThreadStatus};
@@ -222,12 +222,7 @@ fn append_bytes(out: &mut Vec<u8>, bytes: &[u8])
         append_reserved(out, b"-");
         return;
     }
-    let mut digits = [0u8; 2 * MOST_REPLY_BYTES];
-    let digits = &mut digits[..2 * bytes.len()];
-    match hex::encode_to_slice(bytes, digits) {
-        Ok(()) => append_reserved(out, digits),
-        Err(_) => unreachable!(),
-    }
+    append_digits(out, bytes);
 }
 
 /// Appends a number in decimal, at most 40 bytes.

@@ -2,14 +2,13 @@
 
 ghost use Rattle.std.specs.Prelude.{◌≡◌, ◌<◌, ◌≤◌, ◌+◌, ◌^◌, ◌∷◌, ◌==◌, ℕ, List, length, IfErr, IfOk, IfSome};
 ghost use Rattle.std.specs.Prelude.{OnOk, None, Some, Ok};
-ghost use Rattle.hex.specs.Hex as digits;
 ghost use Rattle.lwc_base.specs.Outcomes.{Answers, Fails, IsFound, unless_refused};
 ghost use Rattle.lwc_base.specs.declared.reading.ReadError.TheVariants.{OutOfMemory};
 ghost use Rattle.lwc_text.specs.Requests as spec;
 
+use crate::digits::{bytes_of, digit_count, is_digit};
 use crate::fault::{InputFault, InputRule};
 use crate::file_lines::next_line;
-use hex::FromHexError;
 use lwc_base::{
     MOST_REQUEST_BYTES, MOST_REQUEST_FILE_BYTES, MOST_REQUESTS, ReadError, Requests, Sequence,
 };
@@ -69,7 +68,7 @@ fn read_lines(alloc: Global, bytes: &[u8]) -> Result<Vec<Sequence<u8>>, InputFau
 }
 
 /// Reads the line at an offset, after this number of others.
-#[tactic(auto, using(crate::proofs::RequestLines::kept_is_digits), unfolding(crate::specs::Requests::line_refusal),)]
+#[tactic(auto, unfolding(crate::specs::Requests::line_refusal))]
 fn read_line(
     alloc: Global,
     before: usize,
@@ -93,11 +92,7 @@ fn read_line(
             at: start + place,
         });
     }
-    match hex::decode(alloc, line) {
-        Ok(request) => Ok(Sequence::of(request)),
-        Err(FromHexError::OutOfMemory) => Err(ReadError::OutOfMemory),
-        Err(_) => unreachable!(),
-    }
+    Ok(Sequence::of(bytes_of(alloc, line)?))
 }
 
 /// The rule that a line breaks first, and the place in the line.
@@ -123,14 +118,16 @@ fn digits_end(line: &[u8]) -> usize
     ensures place { result ≡ spec.digits_end line.now }
     ensures within { result ≤ length line.now }
 {
-    line.iter()
-        .position(|b| !is_hex_digit(*b))
-        .unwrap_or(line.len())
+    let first = digit_count(line);
+    first + place_of_other(&line[first..])
 }
 
-/// Whether a byte is a hexadecimal digit, in either case.
-fn is_hex_digit(byte: u8) -> bool
-    ensures { result ≡ digits.is_hex_digit byte }
+/// The place of the first byte that is no digit, or the length. It looks at one after another.
+fn place_of_other(line: &[u8]) -> usize
+    ensures place { result ≡ spec.digits_end line.now }
+    ensures within { result ≤ length line.now }
 {
-    matches!(byte, b'0'..=b'9' | b'a'..=b'f' | b'A'..=b'F')
+    line.iter()
+        .position(|b| !is_digit(*b))
+        .unwrap_or(line.len())
 }
