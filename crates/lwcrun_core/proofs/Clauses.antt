@@ -70,7 +70,7 @@ use Rattle.lwcrun_core.specs.Headlines.{AreRequestsIn, Headline, IsFitting, IsLi
 use Rattle.lwcrun_inputs.specs.Ends.{End, Outside, Ended, IsUnwritten, NothingFailed, WriteFailed}
 use Rattle.lwcrun_inputs.specs.Ends as ends
 use Rattle.lwc_text.specs.Report.{report_of_schedule, stream_text}
-use Rattle.lwcrun_core.specs.Works.{IsText, Work, after_replay_image, after_monitor_image, after_replay_schedule, after_server, after_debug_schedule, after_debug_image, after_vault, after_vault_image, asm_plan, debug_plan, dis_plan, gen_plan, inputs_of, lift_plan, monitor_plan, plan_of, read_by, replay_plan, run_plan, serve_plan, stream_plan, vault_plan}
+use Rattle.lwcrun_core.specs.Works.{IsText, Work, asm_plan, debug_plan, dis_plan, gen_plan, inputs_of, lift_plan, plan_of, read_by, read_requests, replay_plan, run_plan, server_plan, vault_plan}
 use Rattle.lwcrun_core.specs.Works as works
 use Rattle.lwcrun_inputs.specs.Inputs.{bounded, bounded_requests_of, fitted, fitting_image_of, image_of, or_rejected, requests_of, schedule_of, serve_steps, source_of, then_tested, worker_count}
 use Rattle.lwcrun_core.specs.Beside.{fitted_beside, fitting_vault_for, script_of, vault_for}
@@ -112,6 +112,39 @@ kept_beside settings image v steps = plans.Write (works.Replaying (beside (input
 abbrev answered : Settings → Image → List ℕ → List debug.Command → Plan Rejection Work
 answered settings image steps script = plans.Write (works.Debugging (inputs_of image [] settings) steps script)
 
+-- what follows the earlier inputs of a command
+
+abbrev after_replay_schedule : Option (List ℕ) → Settings → Image → List ℕ → Plan Rejection Work
+after_replay_schedule requests settings image steps = read_requests requests (replayed settings image steps)
+
+abbrev after_replay_image : List ℕ → Option (List ℕ) → Settings → Image → Plan Rejection Work
+after_replay_image schedule requests settings image =
+    read_by (schedule_of (threads_for image settings.job) MOST_STEPS) MOST_SCHEDULE_BYTES schedule (after_replay_schedule requests settings image)
+
+abbrev after_monitor_image : List ℕ → Settings → Image → Plan Rejection Work
+after_monitor_image schedule settings image =
+    read_by (schedule_of (threads_for image settings.job) MOST_STEPS) MOST_SCHEDULE_BYTES schedule (monitored settings image)
+
+abbrev after_server : (Inputs → Work) → List ℕ → Settings → Image → Plan Rejection Work
+after_server work requests settings image =
+    read_by (bounded_requests_of settings) MOST_REQUEST_FILE_BYTES requests (served work settings image)
+
+abbrev after_vault : List ℕ → Settings → Image → Vault → Plan Rejection Work
+after_vault schedule settings image v =
+    read_by (schedule_of (threads_for image settings.job) MOST_STEPS) MOST_SCHEDULE_BYTES schedule (kept_beside settings image v)
+
+abbrev after_vault_image : List ℕ → List ℕ → Settings → Image → Plan Rejection Work
+after_vault_image vault schedule settings image =
+    read_by (fitting_vault_for settings.frames image) MOST_VAULT_BYTES vault (after_vault schedule settings image)
+
+abbrev after_debug_schedule : List ℕ → Settings → Image → List ℕ → Plan Rejection Work
+after_debug_schedule script settings image steps =
+    read_by script_of MOST_SCRIPT_BYTES script (answered settings image steps)
+
+abbrev after_debug_image : List ℕ → List ℕ → Settings → Image → Plan Rejection Work
+after_debug_image schedule script settings image =
+    read_by (schedule_of (threads_for image settings.job) MOST_DEBUGGED_STEPS) MOST_SCHEDULE_BYTES schedule (after_debug_schedule script settings image)
+
 -- the files that a plan reads are those that its command names
 
 reads_accepted : {A : Type 0} (files : FileContents) (r : Result A Rejection) (next : A → Plan Rejection Work) (q : List ℕ) (P : Type 0) → ((x : A) → Reads files (next x) q → P) → Reads files (accepted r next) q → P
@@ -124,45 +157,37 @@ reads_by files grammar limit name next q P here there (inl is) = here is
 reads_by files grammar limit name next q P here there (inr h) = reads_accepted files (grammar h.0) next q P there h.2
 
 reads_after_replay_schedule : (files : FileContents) (requests : Option (List ℕ)) (settings : Settings) (image : Image) (steps q : List ℕ) → Reads files (after_replay_schedule requests settings image steps) q → IsNameIn requests q
-unfolding after_replay_schedule
 reads_after_replay_schedule files None settings image steps q h = h
 reads_after_replay_schedule files (Some requests) settings image steps q h = reads_by files requests_of MOST_REQUEST_FILE_BYTES requests (replayed settings image steps) q _ (λ is. is) (λ asked after. absurd after) h
 
 reads_after_replay_image : (files : FileContents) (schedule : List ℕ) (requests : Option (List ℕ)) (settings : Settings) (image : Image) (q : List ℕ) → Reads files (after_replay_image schedule requests settings image) q → (q ≡ schedule) ⊎ IsNameIn requests q
-unfolding after_replay_image
 reads_after_replay_image files schedule requests settings image q h =
     reads_by files (schedule_of (threads_for image settings.job) MOST_STEPS) MOST_SCHEDULE_BYTES schedule (after_replay_schedule requests settings image) q _ (λ is. inl is) (λ steps after. inr (reads_after_replay_schedule files requests settings image steps q after)) h
 
 reads_after_server : (work : Inputs → Work) (files : FileContents) (requests : List ℕ) (settings : Settings) (image : Image) (q : List ℕ) → Reads files (after_server work requests settings image) q → q ≡ requests
-unfolding after_server
 reads_after_server work files requests settings image q h = reads_by files (bounded_requests_of settings) MOST_REQUEST_FILE_BYTES requests (served work settings image) q _ (λ is. is) (λ asked after. absurd after) h
 
 reads_after_monitor_image : (files : FileContents) (schedule : List ℕ) (settings : Settings) (image : Image) (q : List ℕ) → Reads files (after_monitor_image schedule settings image) q → q ≡ schedule
-unfolding after_monitor_image
 reads_after_monitor_image files schedule settings image q h =
     reads_by files (schedule_of (threads_for image settings.job) MOST_STEPS) MOST_SCHEDULE_BYTES schedule (monitored settings image) q _ (λ is. is) (λ steps after. absurd after) h
 
 reads_after_vault : (files : FileContents) (schedule : List ℕ) (settings : Settings) (image : Image) (v : Vault) (q : List ℕ) → Reads files (after_vault schedule settings image v) q → q ≡ schedule
-unfolding after_vault
 reads_after_vault files schedule settings image v q h =
     reads_by files (schedule_of (threads_for image settings.job) MOST_STEPS) MOST_SCHEDULE_BYTES schedule (kept_beside settings image v) q _ (λ is. is) (λ steps after. absurd after) h
 
 reads_after_vault_image : (files : FileContents) (vault schedule : List ℕ) (settings : Settings) (image : Image) (q : List ℕ) → Reads files (after_vault_image vault schedule settings image) q → (q ≡ vault) ⊎ (q ≡ schedule)
-unfolding after_vault_image
 reads_after_vault_image files vault schedule settings image q h =
     reads_by files (fitting_vault_for settings.frames image) MOST_VAULT_BYTES vault (after_vault schedule settings image) q _ (λ is. inl is) (λ v after. inr (reads_after_vault files schedule settings image v q after)) h
 
 reads_after_debug_schedule : (files : FileContents) (script : List ℕ) (settings : Settings) (image : Image) (steps q : List ℕ) → Reads files (after_debug_schedule script settings image steps) q → q ≡ script
-unfolding after_debug_schedule
 reads_after_debug_schedule files script settings image steps q h = reads_by files script_of MOST_SCRIPT_BYTES script (answered settings image steps) q _ (λ is. is) (λ asked after. absurd after) h
 
 reads_after_debug_image : (files : FileContents) (schedule script : List ℕ) (settings : Settings) (image : Image) (q : List ℕ) → Reads files (after_debug_image schedule script settings image) q → (q ≡ schedule) ⊎ (q ≡ script)
-unfolding after_debug_image
 reads_after_debug_image files schedule script settings image q h =
     reads_by files (schedule_of (threads_for image settings.job) MOST_DEBUGGED_STEPS) MOST_SCHEDULE_BYTES schedule (after_debug_schedule script settings image) q _ (λ is. inl is) (λ steps after. inr (reads_after_debug_schedule files script settings image steps q after)) h
 
 reads_names : (files : FileContents) (command : Command) (q : List ℕ) → Reads files (plan_of command) q → Names command q
-unfolding replay_plan run_plan serve_plan asm_plan dis_plan gen_plan lift_plan monitor_plan after_monitor_image vault_plan debug_plan stream_plan
+unfolding replay_plan run_plan server_plan asm_plan dis_plan gen_plan lift_plan vault_plan debug_plan
 reads_names files (commands.Replay image schedule requests settings) q h =
     reads_by files (fitting_image_of settings.frames) MOST_IMAGE_BYTES image (after_replay_image schedule requests settings) q _ (λ is. inl is) (λ x after. inr (reads_after_replay_image files schedule requests settings x q after)) h
 reads_names files (commands.Run image settings) q h = reads_by files (fitting_image_of settings.frames) MOST_IMAGE_BYTES image (ran settings) q _ (λ is. is) (λ x after. absurd after) h
@@ -353,12 +378,11 @@ requests_found bytes asked e = is_file bytes asked (or_rejected_ok rejections.In
 -- where the plan of accepted files leads
 
 over_schedule : (bytes : List ℕ → List ℕ) (requests : Option (List ℕ)) (settings : Settings) (image : Image) (steps : List ℕ) (asked : List (List ℕ)) → AreRequestsIn requests bytes asked → outcome bytes (after_replay_schedule requests settings image steps) ≡ Ok (works.Replaying (inputs_of image asked settings) steps)
-unfolding after_replay_schedule
 over_schedule bytes None settings image steps asked none = ap (λ a. Ok (works.Replaying (inputs_of image a settings) steps)) (sym none)
 over_schedule bytes (Some requests) settings image steps asked is = over bytes _ asked (replayed settings image steps) (requests_accepted (bytes requests) asked is)
 
 runs : (bytes : List ℕ → List ℕ) (command : Command) → IsRunnable command bytes → (work : Work) × (outcome bytes (plan_of command) ≡ Ok work)
-unfolding replay_plan after_replay_image run_plan serve_plan after_server asm_plan dis_plan gen_plan lift_plan monitor_plan after_monitor_image vault_plan after_vault_image after_vault debug_plan after_debug_image after_debug_schedule stream_plan
+unfolding replay_plan run_plan server_plan asm_plan dis_plan gen_plan lift_plan vault_plan debug_plan
 runs bytes (commands.Replay image schedule requests settings) (x, steps, asked, h) = (
   works.Replaying (inputs_of x asked settings) steps,
   over bytes _ x (after_replay_image schedule requests settings) (fitting_accepted settings (bytes image) x h.guest)
@@ -518,7 +542,6 @@ summed_alone number steps few complete frames =
 
 asked_of : (files : FileContents) (requests : Option (List ℕ)) (settings : Settings) (image : Image) (steps : List ℕ) (work : Work) (bytes : List ℕ → List ℕ) → ((q : List ℕ) → IsNameIn requests q → files q ≡ Some (bytes q)) → LeadsTo files (after_replay_schedule requests settings image steps) (Ok work)
     → (asked : List (List ℕ)) × AreRequestsIn requests bytes asked × (work ≡ works.Replaying (inputs_of image asked settings) steps)
-unfolding after_replay_schedule
 asked_of files None settings image steps work bytes known e = ([], refl, work_is work _ e)
 asked_of files (Some requests) settings image steps work bytes known h =
     let read = leads_by files requests_of MOST_REQUEST_FILE_BYTES requests (replayed settings image steps) work (bytes requests) (known requests refl) h in
@@ -546,7 +569,7 @@ serve_found files bytes image requests settings of_inputs work known leads =
     )
 
 headline_of : (o : Outside) (command : Command) (bytes : List ℕ → List ℕ) (work : Work) (text : List ℕ) → IsWithinLimits command → AreContents o.files.contents command bytes → LeadsTo o.files.contents (plan_of command) (Ok work) → IsText work text → o.out_after.taken ≡ appended o.out.taken text → Headline o command bytes
-unfolding replay_plan after_replay_image run_plan serve_plan after_server asm_plan dis_plan gen_plan lift_plan monitor_plan after_monitor_image vault_plan after_vault_image after_vault debug_plan after_debug_image after_debug_schedule stream_plan
+unfolding replay_plan run_plan server_plan asm_plan dis_plan gen_plan lift_plan vault_plan debug_plan
 headline_of o (commands.Replay image schedule requests settings) bytes work text within known leads is taken =
     let files = o.files.contents in
     let read = leads_by files (fitting_image_of settings.frames) MOST_IMAGE_BYTES image (after_replay_image schedule requests settings) work (bytes image) (known image (inl refl)) leads in

@@ -6,7 +6,6 @@ use Rattle.lwc_base.specs.declared.limits.TheConstants.{MOST_SCHEDULE_BYTES, MOS
 use Rattle.guest_image.specs.Limits.{lifted}
 use Rattle.guest_image.specs.Spelling.{spelling}
 use Rattle.guest_image.specs.declared.image.Image.{Image}
-use Rattle.guest_image.specs.declared.image.Vault.{Vault}
 use Rattle.kernel_core.specs.declared.settings.Settings.{Settings}
 use Rattle.kernel_core.specs.Histories.{IsComplete}
 use Rattle.kernel_core.specs.Start.{Inputs, start, threads_for}
@@ -67,44 +66,31 @@ abbrev pub read_by : {A : Type 0} → (List ℕ → Result A Rejection) → ℕ 
     Plan Rejection Work
 read_by grammar limit name next = Read name limit (λ bytes. accepted (grammar bytes) next)
 
--- what follows the schedule of a replay: a serve reads its requests
-unfoldable pub after_replay_schedule : Option (List ℕ) → Settings → Image → List ℕ → Plan Rejection Work
-after_replay_schedule None settings image steps = Write (Replaying (inputs_of image [] settings) steps)
-after_replay_schedule (Some requests) settings image steps =
-    read_by requests_of MOST_REQUEST_FILE_BYTES requests (λ asked.
-    Write (Replaying (inputs_of image asked settings) steps))
+-- the requests in the file of this name are read, and say what follows; there are none where there is no name
+abbrev pub read_requests : Option (List ℕ) → (List (List ℕ) → Plan Rejection Work) → Plan Rejection Work
+read_requests None next = next []
+read_requests (Some name) next = read_by requests_of MOST_REQUEST_FILE_BYTES name next
 
--- what follows the image of a replay: the schedule of its threads is read
-unfoldable pub after_replay_image : List ℕ → Option (List ℕ) → Settings → Image → Plan Rejection Work
-after_replay_image schedule requests settings image =
-    read_by (schedule_of (threads_for image settings.job) MOST_STEPS) MOST_SCHEDULE_BYTES schedule
-    (after_replay_schedule requests settings image)
-
--- a replay: the image is read, then the schedule, and then the requests of a serve
-unfoldable pub replay_plan : List ℕ → List ℕ → Option (List ℕ) → Settings → Plan Rejection Work
-replay_plan image schedule requests settings =
-    read_by (fitting_image_of settings.frames) MOST_IMAGE_BYTES image (after_replay_image schedule requests settings)
+-- the steps of a schedule, plain or under traps: the image is read, then the schedule of its threads, and then the
+-- requests of a serve
+unfoldable pub replay_plan : (Inputs → List ℕ → Work) →
+    List ℕ → List ℕ → Option (List ℕ) → Settings → Plan Rejection Work
+replay_plan work image schedule requests settings =
+    read_by (fitting_image_of settings.frames) MOST_IMAGE_BYTES image (λ guest.
+    read_by (schedule_of (threads_for guest settings.job) MOST_STEPS) MOST_SCHEDULE_BYTES schedule (λ steps.
+    read_requests requests (λ asked. Write (work (inputs_of guest asked settings) steps))))
 
 -- a run: the image is read
 unfoldable pub run_plan : List ℕ → Settings → Plan Rejection Work
 run_plan image settings =
     read_by (fitting_image_of settings.frames) MOST_IMAGE_BYTES image (λ x. Write (Running (inputs_of x [] settings)))
 
--- what follows the image of a serve, or of a stream: the requests are read
-unfoldable pub after_server : (Inputs → Work) → List ℕ → Settings → Image → Plan Rejection Work
-after_server work requests settings image =
+-- a serve or a stream: the image is read, and then the requests
+unfoldable pub server_plan : (Inputs → Work) → List ℕ → List ℕ → Settings → Plan Rejection Work
+server_plan work image requests settings =
+    read_by (fitting_image_of settings.frames) MOST_IMAGE_BYTES image (λ guest.
     read_by (bounded_requests_of settings) MOST_REQUEST_FILE_BYTES requests (λ asked.
-    Write (work (inputs_of image asked settings)))
-
--- a serve: the image is read, and then the requests
-unfoldable pub serve_plan : List ℕ → List ℕ → Settings → Plan Rejection Work
-serve_plan image requests settings =
-    read_by (fitting_image_of settings.frames) MOST_IMAGE_BYTES image (after_server Running requests settings)
-
--- a stream: the image is read, and then the requests
-unfoldable pub stream_plan : List ℕ → List ℕ → Settings → Plan Rejection Work
-stream_plan image requests settings =
-    read_by (fitting_image_of settings.frames) MOST_IMAGE_BYTES image (after_server Streaming requests settings)
+    Write (work (inputs_of guest asked settings))))
 
 -- the image of a source
 unfoldable pub asm_plan : List ℕ → Plan Rejection Work
@@ -118,49 +104,21 @@ dis_plan image = read_by image_of MOST_IMAGE_BYTES image (λ x. Write (Disassemb
 unfoldable pub lift_plan : List ℕ → Plan Rejection Work
 lift_plan image = read_by image_of MOST_IMAGE_BYTES image (λ x. Write (Spelling (lifted x)))
 
--- what follows the image of a monitored run: the schedule of its threads is read
-unfoldable pub after_monitor_image : List ℕ → Settings → Image → Plan Rejection Work
-after_monitor_image schedule settings image =
-    read_by (schedule_of (threads_for image settings.job) MOST_STEPS) MOST_SCHEDULE_BYTES schedule (λ steps.
-    Write (Monitoring (inputs_of image [] settings) steps))
-
--- a monitored run: the image is read, and then the schedule
-unfoldable pub monitor_plan : List ℕ → List ℕ → Settings → Plan Rejection Work
-monitor_plan image schedule settings =
-    read_by (fitting_image_of settings.frames) MOST_IMAGE_BYTES image (after_monitor_image schedule settings)
-
--- what follows the vault: the schedule of the image's threads is read
-unfoldable pub after_vault : List ℕ → Settings → Image → Vault → Plan Rejection Work
-after_vault schedule settings image vault =
-    read_by (schedule_of (threads_for image settings.job) MOST_STEPS) MOST_SCHEDULE_BYTES schedule (λ steps.
-    Write (Replaying (beside (inputs_of image [] settings) vault) steps))
-
--- what follows the image of a run beside a vault: the vault is read
-unfoldable pub after_vault_image : List ℕ → List ℕ → Settings → Image → Plan Rejection Work
-after_vault_image vault schedule settings image =
-    read_by (fitting_vault_for settings.frames image) MOST_VAULT_BYTES vault (after_vault schedule settings image)
-
 -- a run beside a vault: the image is read, then the vault, with which the frames are tested, and then the schedule
 unfoldable pub vault_plan : List ℕ → List ℕ → List ℕ → Settings → Plan Rejection Work
 vault_plan image vault schedule settings =
-    read_by image_of MOST_IMAGE_BYTES image (after_vault_image vault schedule settings)
+    read_by image_of MOST_IMAGE_BYTES image (λ guest.
+    read_by (fitting_vault_for settings.frames guest) MOST_VAULT_BYTES vault (λ v.
+    read_by (schedule_of (threads_for guest settings.job) MOST_STEPS) MOST_SCHEDULE_BYTES schedule (λ steps.
+    Write (Replaying (beside (inputs_of guest [] settings) v) steps))))
 
--- what follows the schedule of a debugged run: the script is read
-unfoldable pub after_debug_schedule : List ℕ → Settings → Image → List ℕ → Plan Rejection Work
-after_debug_schedule script settings image steps =
-    read_by script_of MOST_SCRIPT_BYTES script (λ commands.
-    Write (Debugging (inputs_of image [] settings) steps commands))
-
--- what follows the image of a debugged run: the schedule of its threads is read, which has fewer steps than others
-unfoldable pub after_debug_image : List ℕ → List ℕ → Settings → Image → Plan Rejection Work
-after_debug_image schedule script settings image =
-    read_by (schedule_of (threads_for image settings.job) MOST_DEBUGGED_STEPS) MOST_SCHEDULE_BYTES schedule
-    (after_debug_schedule script settings image)
-
--- a debugged run: the image is read, then the schedule, and then the script
+-- a debugged run: the image is read, then the schedule, which has fewer steps than others, and then the script
 unfoldable pub debug_plan : List ℕ → List ℕ → List ℕ → Settings → Plan Rejection Work
 debug_plan image schedule script settings =
-    read_by (fitting_image_of settings.frames) MOST_IMAGE_BYTES image (after_debug_image schedule script settings)
+    read_by (fitting_image_of settings.frames) MOST_IMAGE_BYTES image (λ guest.
+    read_by (schedule_of (threads_for guest settings.job) MOST_DEBUGGED_STEPS) MOST_SCHEDULE_BYTES schedule (λ steps.
+    read_by script_of MOST_SCRIPT_BYTES script (λ commands.
+    Write (Debugging (inputs_of guest [] settings) steps commands))))
 
 -- a generated serve: no file is read
 unfoldable pub gen_plan : ℕ → Plan Rejection Work
@@ -168,14 +126,14 @@ gen_plan number = Write (Generating number)
 
 -- what a command does
 abbrev pub plan_of : Command → Plan Rejection Work
-plan_of (commands.Replay image schedule requests settings) = replay_plan image schedule requests settings
+plan_of (commands.Replay image schedule requests settings) = replay_plan Replaying image schedule requests settings
 plan_of (commands.Run image settings) = run_plan image settings
-plan_of (commands.Serve image requests settings) = serve_plan image requests settings
+plan_of (commands.Serve image requests settings) = server_plan Running image requests settings
 plan_of (commands.Asm source) = asm_plan source
 plan_of (commands.Dis image) = dis_plan image
 plan_of (commands.Gen number) = gen_plan number
 plan_of (commands.Lift image) = lift_plan image
-plan_of (commands.Monitor image schedule settings) = monitor_plan image schedule settings
+plan_of (commands.Monitor image schedule settings) = replay_plan Monitoring image schedule None settings
 plan_of (commands.Vault image vault schedule settings) = vault_plan image vault schedule settings
 plan_of (commands.Debug image schedule script settings) = debug_plan image schedule script settings
-plan_of (commands.Stream image requests settings) = stream_plan image requests settings
+plan_of (commands.Stream image requests settings) = server_plan Streaming image requests settings

@@ -7,6 +7,7 @@ mod beside;
 mod call;
 mod carrying;
 mod debugging;
+mod gathering;
 mod in_memory;
 mod limits;
 mod monitoring;

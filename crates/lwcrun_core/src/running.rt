@@ -8,8 +8,8 @@ ghost use Rattle.kernel_core.specs.Settings.{IsSettings};
 ghost use Rattle.kernel_core.specs.Start.{start};
 ghost use Rattle.lwcrun_inputs.specs.Ends.{Ended};
 ghost use Rattle.lwc_io.specs.Outside.{FilesView};
-ghost use Rattle.lwcrun_core.specs.Works.{IsText, after_server, gen_plan, inputs_of, run_plan};
-ghost use Rattle.lwcrun_core.specs.Works.{serve_plan};
+ghost use Rattle.lwcrun_core.specs.Works.{IsText, gen_plan, inputs_of, run_plan};
+ghost use Rattle.lwcrun_core.specs.Works.{server_plan};
 ghost use Rattle.lwcrun_core.specs.Works as works;
 ghost use Rattle.lwcrun_line.specs.Lines.{AreRunSettings, AreServeSettings};
 ghost use Rattle.lwcrun_inputs.specs.Plans.{AreFetchesOf};
@@ -18,6 +18,7 @@ ghost use Rattle.lwcrun_inputs.specs.Views.{end_of, outside};
 ghost use Rattle.lwc_gen.specs.Generated.{generated};
 ghost use Rattle.process_core.specs.Running.{AreAllOf, Carried, IsNewPass};
 
+use crate::gathering::server_files;
 use crate::writing::write_work;
 use guest_image::Image;
 use kernel_core::{Job, Kernel, OpenFault, Settings};
@@ -26,7 +27,7 @@ use lwc_base::{OutOfMemory, Requests};
 use lwc_gen::{SETTINGS, generate, summary};
 use lwc_io::{Files, Gate, Sink};
 use lwc_text::report;
-use lwcrun_inputs::{Ending, bounded_requests_in, fitting_image_in, most_steps};
+use lwcrun_inputs::{Ending, fitting_image_in, most_steps};
 use process_core::{Process, ProcessPasses};
 use std::alloc::Global;
 use std::sync::Wait;
@@ -77,42 +78,15 @@ pub fn serve<'a, R: Threads + Wait + Sync, F: Files, O: Sink, G: Gate>(
     requires settings { AreServeSettings settings.now }
     ensures ended { Ended IsText
         (outside (F.seen files.old) (F.seen files.new) (O.seen out.old) (O.seen out.new))
-        (serve_plan image.now requests.now settings.now) (end_of result) }
+        (server_plan works.Running image.now requests.now settings.now) (end_of result) }
     ensures fetches { Fetched
-        (AreFetchesOf (F.seen files.old).contents (serve_plan image.now requests.now settings.now))
+        (AreFetchesOf (F.seen files.old).contents (server_plan works.Running image.now requests.now settings.now))
         (F.seen files.old).fetches (F.seen files.new).fetches }
 {
-    match fitting_image_in(alloc, files, image, settings.frames) {
-        Ok(image) => serve_image(rt, alloc, files, out, gate, &image, requests, settings),
-        Err(ending) => ending,
-    }
-}
-
-/// Reads the requests of this name, serves them by the image, and writes the report.
-fn serve_image<'a, R: Threads + Wait + Sync, F: Files, O: Sink, G: Gate>(
-    rt: &R,
-    alloc: Global,
-    files: &mut F,
-    out: &mut O,
-    gate: &G,
-    image: &Image,
-    requests: &'a str,
-    settings: &Settings,
-) -> Ending<'a>
-    requires image { IsImage image.now }
-    requires fits { length image.now.pages ≤ settings.now.frames }
-    requires settings { AreServeSettings settings.now }
-    ensures ended { Ended IsText
-        (outside (F.seen files.old) (F.seen files.new) (O.seen out.old) (O.seen out.new))
-        (after_server works.Running requests.now settings.now image.now) (end_of result) }
-    ensures fetches { Fetched
-        (AreFetchesOf (F.seen files.old).contents (after_server works.Running requests.now settings.now image.now))
-        (F.seen files.old).fetches (F.seen files.new).fetches }
-{
-    match bounded_requests_in(alloc, files, requests, settings) {
-        Ok(requests) => write_work(
+    match server_files(alloc, files, image, requests, settings) {
+        Ok((image, requests)) => write_work(
             out,
-            history_text(rt, alloc, gate, image, requests, settings),
+            history_text(rt, alloc, gate, &image, requests, settings),
         ),
         Err(ending) => ending,
     }

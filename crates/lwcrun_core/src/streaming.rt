@@ -11,7 +11,7 @@ ghost use Rattle.lwc_stream.specs.Replies.{IsWritten};
 ghost use Rattle.lwc_text.specs.Report.{replies_text};
 ghost use Rattle.lwcrun_core.specs.StreamEnds.{StreamEnded};
 ghost use Rattle.lwcrun_core.specs.Works as works;
-ghost use Rattle.lwcrun_core.specs.Works.{after_server, inputs_of, stream_plan};
+ghost use Rattle.lwcrun_core.specs.Works.{inputs_of, server_plan};
 ghost use Rattle.lwcrun_line.specs.Lines.{AreServeSettings};
 ghost use Rattle.lwcrun_inputs.specs.Plans as plans;
 ghost use Rattle.lwcrun_inputs.specs.Plans.{AreFetchesOf};
@@ -19,6 +19,7 @@ ghost use Rattle.lwcrun_inputs.specs.Reading.{Fetched};
 ghost use Rattle.lwcrun_inputs.specs.Views.{end_of, outside};
 ghost use Rattle.process_core.specs.Running.{AreAllOf, Carried, IsNewPass};
 
+use crate::gathering::server_files;
 use crate::running::open_process;
 use guest_image::Image;
 use kernel_core::{Kernel, Settings};
@@ -26,7 +27,7 @@ use lwc_base::{OutOfMemory, Requests};
 use lwc_io::{Files, Gate, Sink, write_whole};
 use lwc_stream::{Streamed, stream_all};
 use lwc_text::rest_of_report;
-use lwcrun_inputs::{Ending, bounded_requests_in, fitting_image_in};
+use lwcrun_inputs::Ending;
 use process_core::{Process, ProcessPasses};
 use std::alloc::Global;
 use std::sync::Wait;
@@ -48,40 +49,15 @@ pub fn stream<'a, R: Threads + Wait + Sync, F: Files, O: Sink, G: Gate>(
     requires settings { AreServeSettings settings.now }
     ensures ended { StreamEnded
         (outside (F.seen files.old) (F.seen files.new) (O.seen out.old) (O.seen out.new))
-        (stream_plan image.now requests.now settings.now) (end_of result) }
+        (server_plan works.Streaming image.now requests.now settings.now) (end_of result) }
     ensures fetches { Fetched
-        (AreFetchesOf (F.seen files.old).contents (stream_plan image.now requests.now settings.now))
+        (AreFetchesOf (F.seen files.old).contents (server_plan works.Streaming image.now requests.now settings.now))
         (F.seen files.old).fetches (F.seen files.new).fetches }
 {
-    match fitting_image_in(alloc, files, image, settings.frames) {
-        Ok(image) => stream_image(rt, alloc, files, out, gate, &image, requests, settings),
-        Err(ending) => ending,
-    }
-}
-
-/// Reads the requests of this name, and streams their replies by the image.
-fn stream_image<'a, R: Threads + Wait + Sync, F: Files, O: Sink, G: Gate>(
-    rt: &R,
-    alloc: Global,
-    files: &mut F,
-    out: &mut O,
-    gate: &G,
-    image: &Image,
-    requests: &'a str,
-    settings: &Settings,
-) -> Ending<'a>
-    requires image { IsImage image.now }
-    requires fits { length image.now.pages ≤ settings.now.frames }
-    requires settings { AreServeSettings settings.now }
-    ensures ended { StreamEnded
-        (outside (F.seen files.old) (F.seen files.new) (O.seen out.old) (O.seen out.new))
-        (after_server works.Streaming requests.now settings.now image.now) (end_of result) }
-    ensures fetches { Fetched
-        (AreFetchesOf (F.seen files.old).contents (after_server works.Streaming requests.now settings.now image.now))
-        (F.seen files.old).fetches (F.seen files.new).fetches }
-{
-    match bounded_requests_in(alloc, files, requests, settings) {
-        Ok(requests) => stream_requests(rt, alloc, out, gate, image, requests, settings),
+    match server_files(alloc, files, image, requests, settings) {
+        Ok((image, requests)) => {
+            stream_requests(rt, alloc, out, gate, &image, requests, settings)
+        }
         Err(ending) => ending,
     }
 }

@@ -6,23 +6,22 @@ ghost use Rattle.lwc_base.specs.declared.limits.TheConstants.{MOST_STEPS};
 ghost use Rattle.lwc_text.specs.Report.{report_of_schedule};
 ghost use Rattle.lwc_vault.specs.Secrets.{beside};
 ghost use Rattle.lwcrun_inputs.specs.Ends.{Ended};
-ghost use Rattle.lwcrun_core.specs.Works.{IsText, after_vault, after_vault_image, inputs_of, vault_plan};
+ghost use Rattle.lwcrun_core.specs.Works.{IsText, inputs_of, vault_plan};
 ghost use Rattle.lwcrun_line.specs.Lines.{AreRunSettings};
 ghost use Rattle.lwcrun_inputs.specs.Plans.{AreFetchesOf};
 ghost use Rattle.lwcrun_inputs.specs.Reading.{Fetched};
 ghost use Rattle.lwcrun_inputs.specs.Views.{end_of, outside};
 
-use crate::beside::fitting_vault_in;
-use crate::replaying::thread_count;
+use crate::gathering::vault_files;
 use crate::writing::write_work;
 use guest_image::{Image, Vault};
 use kernel_core::Settings;
 use lazy_world::LazyWorld;
-use lwc_base::{MOST_STEPS, OutOfMemory};
+use lwc_base::OutOfMemory;
 use lwc_io::{Files, Sink};
 use lwc_text::Schedule;
 use lwc_vault::vault_replay;
-use lwcrun_inputs::{Ending, image_in, schedule_in};
+use lwcrun_inputs::Ending;
 use std::alloc::Global;
 
 /// Reads the image, the vault and the schedule of these names, makes the schedule's steps in a run beside the
@@ -44,66 +43,11 @@ pub fn replay_with_vault<'a, F: Files, O: Sink>(
         (AreFetchesOf (F.seen files.old).contents (vault_plan image.now vault.now schedule.now settings.now))
         (F.seen files.old).fetches (F.seen files.new).fetches }
 {
-    match image_in(alloc, files, image) {
-        Ok(image) => replay_image(alloc, files, out, &image, vault, schedule, settings),
-        Err(ending) => ending,
-    }
-}
-
-/// Reads the vault for the image, and goes on with it.
-fn replay_image<'a, F: Files, O: Sink>(
-    alloc: Global,
-    files: &mut F,
-    out: &mut O,
-    image: &Image,
-    vault: &'a str,
-    schedule: &'a str,
-    settings: &Settings,
-) -> Ending<'a>
-    requires image { IsImage image.now }
-    requires settings { AreRunSettings settings.now }
-    ensures ended { Ended IsText
-        (outside (F.seen files.old) (F.seen files.new) (O.seen out.old) (O.seen out.new))
-        (after_vault_image vault.now schedule.now settings.now image.now) (end_of result) }
-    ensures fetches { Fetched (AreFetchesOf (F.seen files.old).contents
-        (after_vault_image vault.now schedule.now settings.now image.now))
-        (F.seen files.old).fetches (F.seen files.new).fetches }
-{
-    match fitting_vault_in(alloc, files, vault, image, settings.frames) {
-        Ok(vault) => replay_beside(alloc, files, out, image, &vault, schedule, settings),
-        Err(ending) => ending,
-    }
-}
-
-/// Reads the schedule of the image's threads, makes its steps beside the vault, and writes the report.
-fn replay_beside<'a, F: Files, O: Sink>(
-    alloc: Global,
-    files: &mut F,
-    out: &mut O,
-    image: &Image,
-    vault: &Vault,
-    schedule: &'a str,
-    settings: &Settings,
-) -> Ending<'a>
-    requires image { IsImage image.now }
-    requires vault { CanKeep image.now settings.now.job vault.now }
-    requires fits { length image.now.pages + length vault.now.pages ≤ settings.now.frames }
-    requires settings { AreRunSettings settings.now }
-    ensures ended { Ended IsText
-        (outside (F.seen files.old) (F.seen files.new) (O.seen out.old) (O.seen out.new))
-        (after_vault schedule.now settings.now image.now vault.now) (end_of result) }
-    ensures fetches { Fetched (AreFetchesOf (F.seen files.old).contents
-        (after_vault schedule.now settings.now image.now vault.now))
-        (F.seen files.old).fetches (F.seen files.new).fetches }
-{
-    match schedule_in(
-        alloc,
-        files,
-        schedule,
-        thread_count(image, settings.job),
-        MOST_STEPS,
-    ) {
-        Ok(steps) => write_work(out, vault_text(alloc, image, vault, &steps, settings)),
+    match vault_files(alloc, files, image, vault, schedule, settings) {
+        Ok((image, vault, schedule)) => write_work(
+            out,
+            vault_text(alloc, &image, &vault, &schedule, settings),
+        ),
         Err(ending) => ending,
     }
 }

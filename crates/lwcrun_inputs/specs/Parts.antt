@@ -1,8 +1,9 @@
--- What the parts of a call answer: a file that is read by a grammar.
+-- What the parts of a call answer: a file that is read by a grammar, and the files of a plan.
 use Rattle.std.specs.Prelude.{◌≡◌, ◌<◌, ℕ, List, Result, Ok, Err, All}
 use Rattle.lwc_io.specs.Outside.{CountsOneFault, FilesView, MayBeContents}
 use Rattle.lwcrun_inputs.specs.Ends.{End}
 use Rattle.lwcrun_inputs.specs.Ends as ends
+use Rattle.lwcrun_inputs.specs.Plans.{Plan, LeadsTo, Reads}
 
 -- a file that was read by a grammar: its value, or the end of the call without it
 pub data Found (A R : Type 0) : Type 0 where
@@ -23,3 +24,14 @@ ReadsBy grammar files after name (Missing (ends.Refused refusal)) =
     (bytes : List ℕ) × MayBeContents (files.contents name) bytes × (grammar bytes ≡ Err refusal)
     × (after.faults ≡ files.faults)
 ReadsBy grammar files after name (Missing _) = ⊥
+
+-- what was gathered of the files of a plan is the work that it leads to, and no fetch failed; or a file was not read or
+-- was refused, or memory ran out
+unfoldable pub Gathers : {R W : Type 0} → FilesView → FilesView → Plan R W → Found W R → Type 0
+Gathers files after p (Value work) = LeadsTo files.contents p (Ok work) × (after.faults ≡ files.faults)
+Gathers files after p (Missing ends.NoMemory) = Unit {0}
+Gathers files after p (Missing (ends.Unread name)) =
+    Reads files.contents p name × CountsOneFault (files.faults name) (after.faults name)
+Gathers files after p (Missing (ends.Refused refusal)) =
+    LeadsTo files.contents p (Err refusal) × (after.faults ≡ files.faults)
+Gathers files after p (Missing _) = ⊥

@@ -1,22 +1,12 @@
 use Rattle.std.proofs.Common.{refl}
-use Rattle.lwcrun_core.specs.Works.{IsText, monitor_plan}
-use Rattle.lwcrun_inputs.proofs.Follows.{fetches_on, fetches_stop, reads_on, stops_reading}
+use Rattle.lwcrun_core.specs.Works.{IsText}
+use Rattle.lwcrun_core.specs.Works as works
+use Rattle.lwcrun_inputs.proofs.Follows.{ended_before, ended_behind}
 use Rattle.lwcrun_core.proofs.monitoring.monitor.Goals as goal
 
 pub returns-in-Ok-clause-ended : goal.returns-in-Ok-clause-ended
-unfolding monitor_plan
 returns-in-Ok-clause-ended g c =
-    reads_on IsText _ _ _ _ _ _ _ _ _ _ _ c.in-Ok.ensures.reads c.fitting_image_in.ensures.same c.monitor_image.ensures.ended
+    ended_behind IsText _ _ _ _ _ _ _ (c.in-Ok.ensures.gathers works.Monitoring) (c.write_work.ensures _ _ (rw (c.in-Ok.ensures.none refl) c.monitor_replay.ensures))
 
-pub returns-in-Ok-clause-fetches : goal.returns-in-Ok-clause-fetches
-unfolding monitor_plan
-returns-in-Ok-clause-fetches g c =
-    fetches_on IsText _ _ _ _ _ _ _ _ c.in-Ok.ensures.reads c.fitting_image_in.ensures.same c.in-Ok.ensures.whole c.monitor_image.ensures.fetches
-
-pub returns-in-Err-clause-ended : goal.returns-in-Err-clause-ended
-unfolding monitor_plan
-returns-in-Err-clause-ended g c = stops_reading IsText _ _ _ _ _ _ c.in-Err.ensures.reads refl
-
-pub returns-in-Err-clause-fetches : goal.returns-in-Err-clause-fetches
-unfolding monitor_plan
-returns-in-Err-clause-fetches g c = fetches_stop _ _ _ _ _ _ c.fitting_image_in.ensures.fetches
+pub returns-clause-ended : goal.returns-clause-ended
+returns-clause-ended g c = ended_before IsText _ _ _ _ _ (c.in-Err.ensures.gathers works.Monitoring)

@@ -1,22 +1,25 @@
-use Rattle.std.proofs.Common.{refl}
-use Rattle.lwcrun_core.specs.Works.{IsText, serve_plan}
-use Rattle.lwcrun_inputs.proofs.Follows.{fetches_on, fetches_stop, reads_on, stops_reading}
+use Rattle.std.proofs.Common.{◌≡◌, ap, arith}
+use Rattle.kernel_core.proofs.Others.{work_at_serve}
+use Rattle.lwcrun_inputs.specs.Inputs.{worker_count}
+use Rattle.lwcrun_core.specs.Works.{IsText, inputs_of}
+use Rattle.lwcrun_core.specs.Works as works
+use Rattle.lwcrun_inputs.proofs.Follows.{ended_before, ended_behind}
 use Rattle.lwcrun_core.proofs.running.serve.Goals as goal
 
 pub returns-in-Ok-clause-ended : goal.returns-in-Ok-clause-ended
-unfolding serve_plan
-returns-in-Ok-clause-ended g c =
-    reads_on IsText _ _ _ _ _ _ _ _ _ _ _ c.in-Ok.ensures.reads c.fitting_image_in.ensures.same c.serve_image.ensures.ended
+returns-in-Ok-clause-ended g c = ended_behind IsText _ _ _ _ _ _ _ (c.in-Ok.ensures.gathers works.Running) (c.write_work.ensures _ _ c.history_text.ensures)
 
 pub returns-in-Ok-clause-fetches : goal.returns-in-Ok-clause-fetches
-unfolding serve_plan
-returns-in-Ok-clause-fetches g c =
-    fetches_on IsText _ _ _ _ _ _ _ _ c.in-Ok.ensures.reads c.fitting_image_in.ensures.same c.in-Ok.ensures.whole c.serve_image.ensures.fetches
+returns-in-Ok-clause-fetches g c = c.server_files.ensures.fetches works.Running
 
 pub returns-in-Err-clause-ended : goal.returns-in-Err-clause-ended
-unfolding serve_plan
-returns-in-Err-clause-ended g c = stops_reading IsText _ _ _ _ _ _ c.in-Err.ensures.reads refl
+returns-in-Err-clause-ended g c = ended_before IsText _ _ _ _ _ (c.in-Err.ensures.gathers works.Running)
 
 pub returns-in-Err-clause-fetches : goal.returns-in-Err-clause-fetches
-unfolding serve_plan
-returns-in-Err-clause-fetches g c = fetches_stop _ _ _ _ _ _ c.fitting_image_in.ensures.fetches
+returns-in-Err-clause-fetches g c = c.server_files.ensures.fetches works.Running
+
+pub history_text-requires-clause-few : goal.history_text-requires-clause-few
+history_text-requires-clause-few g c κs within =
+    let workers : worker_count c.args.settings.now.job ≡ c.requires.settings.workers = ap worker_count c.requires.settings.job in
+    let work = work_at_serve (inputs_of c.in-Ok.image c.in-Ok.requests c.args.settings.now) c.requires.settings.workers c.requires.settings.job in
+    omega (arith, work, workers, c.in-Ok.ensures.few)
