@@ -6,3 +6,4 @@ pub use Rattle.lwc_base.specs.Sound
 pub use Rattle.lwc_base.specs.World
 pub use Rattle.world_face.specs.Calls
 pub mod Begin
+pub mod Finish

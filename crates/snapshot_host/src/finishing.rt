@@ -1,4 +1,4 @@
-ghost use Rattle.std.specs.Prelude.{◌≡◌, ◌<◌, ◌≤◌, length};
+ghost use Rattle.std.specs.Prelude.{◌≡◌, ◌<◌, ◌≤◌, Some, [], length};
 ghost use Rattle.lwc_base.specs.Channels.{bytes_in};
 ghost use Rattle.lwc_base.specs.declared.limits.TheConstants.{MOST_REPLY_BYTES};
 
@@ -29,11 +29,18 @@ impl ReplyBytes {
         requires { length bytes.now ≤ MOST_REPLY_BYTES }
         ensures { result ≡ bytes.now }
     {
-        let mut copy = ReplyBytes {
-            bytes: ArrayVec::new(),
-        };
+        let mut copy = ReplyBytes::empty();
         copy.set(bytes);
         copy
+    }
+
+    /// No bytes.
+    fn empty() -> ReplyBytes
+        ensures { result ≡ [] }
+    {
+        ReplyBytes {
+            bytes: ArrayVec::new(),
+        }
     }
 
     /// Puts these bytes, which are copied, in the place of those that were there. It takes no memory.
@@ -67,10 +74,65 @@ impl Finished {
     pub fn same(&self) -> Finished
         ensures { result ≡ self.now }
     {
+        self.view().to_finished()
+    }
+
+    /// The same record, with its bytes lent.
+    pub fn view(&self) -> FinishedView<'_>
+        ensures { result ≡ self.now }
+    {
+        FinishedView {
+            request: self.request,
+            status: self.status,
+            bytes: self.bytes.as_slice(),
+        }
+    }
+}
+
+/// What is recorded of a request that is finished, with the bytes of its reply lent. Contracts see it as the
+/// record.
+#[derive(Drop)]
+pub struct FinishedView<'a> {
+    pub request: u16,
+    pub status: ThreadStatus,
+    pub bytes: &'a [u8],
+}
+
+impl<'a> Model for FinishedView<'a> {
+    ghost use Rattle.std.specs.Prelude.{◌≤◌, length};
+    ghost use Rattle.lwc_base.specs.declared.limits.TheConstants.{MOST_REPLY_BYTES};
+    ghost use Rattle.snapshot_host.specs.declared.finishing.Finished.{Finished};
+
+    ghost Value = { Finished };
+
+    ghost view = { λ p. record { request = p.request; status = p.status; bytes = p.bytes.now } };
+
+    ghost invariant = { λ p. length p.bytes.now ≤ MOST_REPLY_BYTES };
+}
+
+impl<'a> FinishedView<'a> {
+    /// The record, with its bytes copied. It takes no memory.
+    pub fn to_finished(&self) -> Finished
+        ensures { result ≡ self.now }
+    {
         Finished {
             request: self.request,
             status: self.status,
-            bytes: ReplyBytes::of(self.bytes.as_slice()),
+            bytes: ReplyBytes::of(self.bytes),
+        }
+    }
+
+    /// Puts the record into a place, with its bytes copied. It takes no memory, and moves none of a reply.
+    pub fn copy_to(&self, place: &mut Option<Finished>)
+        ensures { place.new ≡ Some self.now }
+    {
+        *place = Some(Finished {
+            request: self.request,
+            status: self.status,
+            bytes: ReplyBytes::empty(),
+        });
+        if let Some(finished) = place {
+            finished.bytes.set(self.bytes);
         }
     }
 }

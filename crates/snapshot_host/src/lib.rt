@@ -4,6 +4,8 @@
 pub mod beginning;
 pub mod finishing;
 pub mod laws;
+pub mod recording;
 
 pub use beginning::begin;
-pub use finishing::{Finished, ReplyBytes, finish};
+pub use finishing::{Finished, FinishedView, ReplyBytes, finish};
+pub use recording::Recorded;
