@@ -15,13 +15,14 @@ use Rattle.kernel_core.proofs.Finished.{ended_none, finished-push}
 use Rattle.kernel_core.proofs.Others.{found_set}
 use Rattle.kernel_core.proofs.JobActs.{AllLocal, guest_calls_are_local}
 use Rattle.kernel_core.proofs.Outcomes.{guest_calls_act}
-use Rattle.kernel_core.proofs.ReadyRuns.{fewer_steps, live_after, ready_thread, running_acts, whatever, while_running}
+use Rattle.kernel_core.proofs.ReadyRuns.{can_serve, fewer_steps, live_after, ready_thread, running_acts, whatever, while_running}
 use Rattle.kernel_core.proofs.Reaping.{uncut}
+use Rattle.kernel_core.proofs.Replies.{still_has, weaker}
 use Rattle.kernel_core.proofs.Runs.{run-push, peak-push, used_last}
 use Rattle.kernel_core.specs.Changes.{IsNumbered, Keeps, KeepsAll, after_effect, made}
 use Rattle.kernel_core.specs.Kernel.{CanOpen, History, machine_of, stepped, turn, turn_at, view_of}
 use Rattle.kernel_core.specs.Machine.{Environment, Machine, Serve, has_ended, homes, homes_of, in_serve, is_ended, recorded, reply_of, steps_after, steps_for_requests, steps_left, work}
-use Rattle.kernel_core.specs.Ready.{CanAct, HasItsJob, IsReady, IsReadyServe, IsReadyThread, IsRunnable, IsWorker, WhileRunning}
+use Rattle.kernel_core.specs.Ready.{CanAct, CanServe, HasItsJob, IsReady, IsReadyServe, IsReadyThread, IsRunnable, IsWorker, WhileRunning}
 use Rattle.kernel_core.specs.Runs.{frames_of, last_finished, peak, run}
 use Rattle.kernel_core.specs.Start.{Inputs, serve_at, start, thread_count, threads_at, with_its_vault, world_for}
 use Rattle.kernel_core.specs.Steady.{IsSteady, history, machine}
@@ -41,6 +42,7 @@ use Rattle.lwc_base.specs.declared.fault.ThreadStatus.{ThreadStatus}
 use Rattle.lwc_base.specs.declared.fault.ThreadStatus.TheVariants.{Idle, Running, Done, Faulted}
 use Rattle.lwc_base.specs.declared.limits.TheConstants.{MOST_BUDGET, MOST_STEPS}
 use Rattle.lwc_base.specs.declared.name.Name.{Name}
+use Rattle.snapshot_host.specs.Finish.{StillHas}
 use Rattle.snapshot_host.specs.declared.finishing.Finished.{Finished}
 use Rattle.kernel_core.proofs.ReadyMachines.{ready_machine}
 use Rattle.lwc_base.proofs.Reaped.{reap-reaped}
@@ -236,6 +238,15 @@ module _ (m : Machine) (most : ℕ) (h : History) (steady : IsSteady m most h) w
   pub reply_seen : (r : ℕ) → in_serve m.serve r ≡ reply_of (machine_of h) r
   unfolding reply_of
   reply_seen r = ap (λ (k : Machine). in_serve k.serve r) steady.machine
+
+  -- the channels still have it
+  pub kept_seen : (r : ℕ) → IfSome (in_serve m.serve r) (StillHas m.environment.channels)
+  unfolding machine_of
+  kept_seen r =
+      let last = run (start h.inputs) h.steps in
+      let count = weaker last.serve (CanServe last.environment.world last.environment.channels) (λ s. length s.replies ≡ length last.environment.channels.requests) (λ s can. can.replies)
+      (can_serve h.inputs (length h.steps) last (ready_machine h.inputs h.steps steady.inputs)) in
+      subst (λ (k : Machine). IfSome (in_serve k.serve r) (StillHas k.environment.channels)) (sym steady.machine) (still_has h.inputs h.steps r count)
 
   -- and where a request is given
   pub recorded_seen : (r : Option ℕ) → recorded m.serve r ≡ recorded (machine_of h).serve r

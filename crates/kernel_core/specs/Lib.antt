@@ -32,6 +32,7 @@ pub use Rattle.guest_machine.specs.Advances
 pub use Rattle.guest_image.specs.Limits
 pub use Rattle.res_spec.specs.Items
 pub use Rattle.snapshot_host.specs.Begin
+pub use Rattle.snapshot_host.specs.Finish
 pub use Rattle.lwc_create.specs.Create
 pub use Rattle.lwc_overlay.specs.OverlayCall
 pub use Rattle.lwc_overlay.specs.RestrictCall

@@ -25,7 +25,7 @@ ghost use Rattle.std.specs.Option.{option_map};
 ghost use Rattle.world_face.specs.Calls.{IsLive};
 
 use crate::acting::{Change, step_thread};
-use crate::serve::{Serve, home_of, recorded, worker_count};
+use crate::serve::{Serve, home_of, recorded, status_of, worker_count};
 use crate::settings::{Job, OpenFault, Settings};
 use crate::starting::{first_serve, open_channels, threads_at, world_with_vault};
 use crate::thread::{Thread, ThreadView, Turn};
@@ -34,7 +34,7 @@ use guest_image::{Image, Vault};
 use guest_isa::Text;
 use guest_machine::Advance;
 use lwc_base::{Channels, Name, OutOfMemory, Requests, ThreadStatus};
-use snapshot_host::Finished;
+use snapshot_host::FinishedView;
 use std::alloc::Global;
 use std::marker::Model;
 use std::snapshot::Snapshot;
@@ -318,11 +318,12 @@ impl<W: World> Kernel<W> {
     }
 
     /// What is recorded of the request of this number, where one is given.
-    fn recorded(&self, finished: Option<u16>) -> Option<&Finished>
-        ensures { option_map (λ x. x.now) result ≡ machines.recorded (machine_of self.now).serve finished }
+    #[tactic(auto, unfolding(crate::specs::Machine::reply_of))]
+    fn recorded(&self, finished: Option<u16>) -> Option<FinishedView<'_>>
+        ensures { result ≡ machines.recorded (machine_of self.now).serve finished }
     {
         match finished {
-            Some(r) => recorded(&self.serve, r),
+            Some(r) => self.reply(r),
             None => None,
         }
     }
@@ -416,21 +417,19 @@ impl<W: World> Kernel<W> {
         self.channels.requests().len() as u32
     }
 
-    /// What is recorded of request `r`; `None` if it is not finished, or if there is none of this number.
-    pub fn reply(&self, r: u16) -> Option<&Finished>
-        ensures { option_map (λ x. x.now) result ≡ reply_of (machine_of self.now) r }
+    /// What is recorded of request `r`; `None` if it is not finished, or if there is none of this number. The
+    /// bytes are lent: they are the first ones of the reply in the channels.
+    pub fn reply(&self, r: u16) -> Option<FinishedView<'_>>
+        ensures { result ≡ reply_of (machine_of self.now) r }
     {
-        recorded(&self.serve, r)
+        recorded(&self.serve, &self.channels, r)
     }
 
     /// How request `r` ended; `None` if it is not finished, or if there is none of this number.
     pub fn reply_status(&self, r: u16) -> Option<ThreadStatus>
         ensures { result ≡ option_map (λ x. x.status) (reply_of (machine_of self.now) r) }
     {
-        match self.reply(r) {
-            Some(finished) => Some(finished.status),
-            None => None,
-        }
+        status_of(&self.serve, r)
     }
 
     /// What calls of guests read and write beside the world.

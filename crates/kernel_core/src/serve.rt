@@ -6,9 +6,10 @@ ghost use Rattle.kernel_core.specs.Machine as machine;
 ghost use Rattle.kernel_core.specs.Step as spec;
 ghost use Rattle.lwc_base.specs.Channels.{bytes_in};
 ghost use Rattle.lwc_base.specs.declared.limits.TheConstants.{MOST_REQUESTS, MOST_THREADS};
+ghost use Rattle.snapshot_host.specs.Finish.{StillHas};
 
 use lwc_base::{Channels, Name, OutOfMemory, ThreadStatus};
-use snapshot_host::{Finished, finish};
+use snapshot_host::{FinishedView, Recorded};
 use std::alloc::Global;
 use std::marker::Model;
 
@@ -19,7 +20,7 @@ pub struct Serve {
     pub(crate) workers: u32,
     pub(crate) budget: u32,
     pub(crate) next: u16,
-    replies: Vec<Option<Finished>>,
+    replies: Vec<Option<Recorded>>,
 }
 
 impl Model for Serve {
@@ -68,20 +69,19 @@ impl Serve {
         })
     }
 
-    /// Records the reply of request `r`, whose thread has ended with a status. It takes no memory.
-    // Not inlined, so that other steps set no memory aside for a reply of 4096 bytes.
-    #[inline(never)]
+    /// Records the reply of request `r`, whose thread has ended with a status. It takes no memory, and copies
+    /// no byte of the reply.
     pub(crate) fn record_reply(&mut self, io: &Channels, r: u16, status: ThreadStatus)
         requires request { r < length io.now.requests }
         requires place { r < length self.old.replies }
         ensures { self.new ≡ spec.with_reply self.old
             (record { request = r; status = status; bytes = bytes_in io.now.replies r }) }
     {
-        self.replies[usize::from(r)] = Some(finish(io, r, status));
+        self.replies[usize::from(r)] = Some(Recorded::of(io, r, status));
     }
 
     /// What is recorded of a request; `None` if it is not finished.
-    pub(crate) fn reply(&self, r: u16) -> Option<&Finished>
+    fn reply(&self, r: u16) -> Option<&Recorded>
         ensures { option_map (λ x. x.now) result ≡ slice_index_or self.now.replies r None }
     {
         self.replies.get(usize::from(r))?.as_ref()
@@ -107,9 +107,22 @@ pub(crate) fn worker_count(serve: &Option<Serve>) -> u32
     }
 }
 
-/// What is recorded of a request; `None` if it is not finished, or if nothing is served.
-pub(crate) fn recorded(serve: &Option<Serve>, r: u16) -> Option<&Finished>
-    ensures { option_map (λ x. x.now) result ≡ machine.in_serve serve.now r }
+/// How a request ended; `None` if it is not finished, or if nothing is served.
+pub(crate) fn status_of(serve: &Option<Serve>, r: u16) -> Option<ThreadStatus>
+    ensures { result ≡ option_map (λ x. x.status) (machine.in_serve serve.now r) }
 {
-    serve.as_ref()?.reply(r)
+    Some(serve.as_ref()?.reply(r)?.status())
+}
+
+/// What is recorded of a request, with the bytes that channels still have of it; `None` if it is not finished,
+/// or if nothing is served.
+pub(crate) fn recorded<'a>(
+    serve: &Option<Serve>,
+    io: &'a Channels,
+    r: u16,
+) -> Option<FinishedView<'a>>
+    requires { IfSome (machine.in_serve serve.now r) (StillHas io.now) }
+    ensures { result ≡ machine.in_serve serve.now r }
+{
+    Some(serve.as_ref()?.reply(r)?.view(io))
 }

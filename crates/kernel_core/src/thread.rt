@@ -1,11 +1,10 @@
 ghost use Rattle.std.specs.Prelude.{◌≡◌, ◌<◌, ◌≤◌, ◌+◌, ◌^◌};
-ghost use Rattle.std.specs.Option.{option_map};
 ghost use Rattle.kernel_core.specs.Kernel.{turn_of};
 ghost use Rattle.kernel_core.specs.Machine as machine;
 ghost use Rattle.kernel_core.specs.Step as spec;
 
 use lwc_base::{Fault, Name, Refusal, Regs, ThreadStatus};
-use snapshot_host::Finished;
+use snapshot_host::{Finished, FinishedView};
 
 /// A thread: its status, the context that it is in, its registers, the job that it acts for, and the number
 /// of steps that it may still make.
@@ -57,13 +56,13 @@ impl Turn {
     }
 
     /// Makes this the turn of a thread whose step finished a request, or none. It takes no memory.
-    pub(crate) fn note(&mut self, thread: &Thread, finished: Option<&Finished>)
-        ensures { self.new ≡ turn_of thread.now (option_map (λ x. x.now) finished.entry) }
+    pub(crate) fn note(&mut self, thread: &Thread, finished: Option<FinishedView<'_>>)
+        ensures { self.new ≡ turn_of thread.now finished.entry }
     {
         self.regs = thread.regs;
         self.status = thread.status;
         match finished {
-            Some(finished) => self.finished = Some(finished.same()),
+            Some(finished) => finished.copy_to(&mut self.finished),
             // The 4096 bytes of a reply are not written where there are none.
             None if self.finished.is_none() => {}
             None => self.finished = None,
@@ -93,13 +92,13 @@ impl Thread {
     }
 
     /// The registers and the status, and the request that a step of it has finished.
-    pub(crate) fn turn(&self, finished: Option<&Finished>) -> Turn
-        ensures { result ≡ turn_of self.now (option_map (λ x. x.now) finished.entry) }
+    pub(crate) fn turn(&self, finished: Option<FinishedView<'_>>) -> Turn
+        ensures { result ≡ turn_of self.now finished.entry }
     {
         Turn {
             regs: self.regs,
             status: self.status,
-            finished: finished.map(|finished| finished.same()),
+            finished: finished.map(|finished| finished.to_finished()),
         }
     }
 

@@ -32,7 +32,7 @@ fn totals<W: World>(kernel: &Kernel<W>) -> Totals
     'requests: for r in 0..kernel.request_count() as u16 {
         match kernel.reply(r) {
             None => totals.add(None, &[]),
-            Some(finished) => totals.add(Some(finished.status), finished.bytes.as_slice()),
+            Some(finished) => totals.add(Some(finished.status), finished.bytes),
         }
     }
     totals

@@ -95,7 +95,7 @@ pub(crate) fn show_ready<O: Sink>(waiting: &mut Waiting<'_>, writer: &mut LineWr
     ensures places { length waiting.new.places ≡ length waiting.old.places }
 {
     'ready: while let Some(reply) = waiting.next() {
-        writer.write(out, &reply.to_finished());
+        writer.write(out, reply);
     }
 }
 

@@ -2,11 +2,10 @@
 ghost use Rattle.std.specs.Prelude.{◌≡◌, ◌++◌, ◌∷◌, [], IfOk, IsNone, IfSome, MatchOption};
 ghost use Rattle.lwc_stream.specs.Queues.{end_of, joined_of};
 
-use crate::stored::StoredReply;
 use crossbeam_queue::protocol::{Join, Lesson, Outcome, Protocol, Split};
 use crossbeam_queue::{Pass, RuledArrayQueue};
 use lwc_base::OutOfMemory;
-use snapshot_host::Finished;
+use snapshot_host::{Finished, FinishedView};
 use std::alloc::Global;
 use std::collections::LinkedList;
 use std::marker::Model;
@@ -24,7 +23,7 @@ pub struct Ends {
 /// The rule of a queue.
 pub struct InOrder;
 
-impl<'a> Protocol<StoredReply<'a>, Ends> for InOrder {
+impl<'a> Protocol<FinishedView<'a>, Ends> for InOrder {
     ghost use Rattle.std.specs.Prelude.{true, []};
     ghost use Rattle.lwc_stream.specs.Queues.{ends, IsInOrder};
 
@@ -57,7 +56,7 @@ impl Join<Ends> for Apart {
 /// A reply is put in.
 pub struct Put;
 
-impl<'a> Outcome<StoredReply<'a>, Ends> for Put {
+impl<'a> Outcome<FinishedView<'a>, Ends> for Put {
     ghost use Rattle.std.specs.Prelude.{◌≡◌, ◌++◌, ◌∷◌, []};
     ghost use Rattle.lwc_stream.specs.Queues.{ends};
 
@@ -67,22 +66,22 @@ impl<'a> Outcome<StoredReply<'a>, Ends> for Put {
 /// A reply is taken out.
 pub struct Taken;
 
-impl<'a> Outcome<StoredReply<'a>, Ends> for Taken {
+impl<'a> Outcome<FinishedView<'a>, Ends> for Taken {
     ghost use Rattle.std.specs.Prelude.{◌≡◌, ◌++◌, ◌∷◌, []};
     ghost use Rattle.lwc_stream.specs.Queues.{ends};
 
     ghost then = { λ v x w. w ≡ ends v.puts v.takes v.put (v.taken ++ x ∷ []) };
 }
 
-impl<'a> Lesson<StoredReply<'a>, Ends> for Taken {
+impl<'a> Lesson<FinishedView<'a>, Ends> for Taken {
     ghost use Rattle.std.specs.Prelude.{◌≡◌, ◌++◌};
 
     ghost fact = { λ v items. v.put ≡ v.taken ++ items };
 }
 
-type Queue<'a> = RuledArrayQueue<StoredReply<'a>, Ends, InOrder>;
+type Queue<'a> = RuledArrayQueue<FinishedView<'a>, Ends, InOrder>;
 
-type EndPass<'a> = Pass<StoredReply<'a>, Ends>;
+type EndPass<'a> = Pass<FinishedView<'a>, Ends>;
 
 /// An empty queue with room for this many replies, as its two ends. The only error is out of memory.
 pub(crate) fn open_queue<'a>(
@@ -125,7 +124,7 @@ impl<'a> Model for Puts<'a> {
 
 impl<'a> Puts<'a> {
     /// Puts a reply in. It waits while the queue is full.
-    pub(crate) fn put<R: Wait>(&mut self, rt: &R, reply: StoredReply<'a>)
+    pub(crate) fn put<R: Wait>(&mut self, rt: &R, reply: FinishedView<'a>)
         ensures { self.new ≡ end_of self.old.queue (self.old.values ++ reply.entry ∷ []) }
     {
         let mut left = reply;
@@ -160,7 +159,7 @@ impl<'a> Model for Takes<'a> {
 
 impl<'a> Takes<'a> {
     /// Takes the reply that was put in first, if one is found.
-    pub(crate) fn take(&mut self) -> Option<StoredReply<'a>>
+    pub(crate) fn take(&mut self) -> Option<FinishedView<'a>>
         ensures { MatchOption result (self.new ≡ self.old)
             (λ x. self.new ≡ end_of self.old.queue (self.old.values ++ x ∷ [])) }
     {
@@ -200,7 +199,7 @@ impl<'a> Model for Both<'a> {
 
 impl<'a> Both<'a> {
     /// Takes the reply that was put in first. With none left, all that was put in was taken, in order.
-    pub(crate) fn take<R: Wait>(&mut self, rt: &R) -> Option<StoredReply<'a>>
+    pub(crate) fn take<R: Wait>(&mut self, rt: &R) -> Option<FinishedView<'a>>
         ensures some { IfSome result (λ x.
             self.new ≡ joined_of self.old.queue self.old.put (self.old.taken ++ x ∷ [])) }
         ensures none { IsNone result → (self.new ≡ self.old) × (self.old.put ≡ self.old.taken) }

@@ -12,7 +12,6 @@ mod ends;
 pub mod laws;
 mod signal;
 mod store;
-mod stored;
 mod streaming;
 mod waiting;
 mod worker;

@@ -1,9 +1,8 @@
 //! Memory in which a worker keeps the bytes of its replies.
 ghost use Rattle.std.specs.Prelude.{◌≡◌, ◌<◌, ◌^◌};
 
-use crate::stored::StoredReply;
 use lwc_base::{MOST_REPLY_BYTES, OutOfMemory};
-use snapshot_host::Finished;
+use snapshot_host::{Finished, FinishedView};
 use std::alloc::Global;
 use std::sync::Wait;
 use std::thread;
@@ -49,10 +48,10 @@ impl<'a> Store<'a> {
     }
 
     /// A reply with a copy of its bytes in a block.
-    pub(crate) fn keep<R: Wait>(&mut self, rt: &R, reply: &Finished) -> StoredReply<'a>
+    pub(crate) fn keep<R: Wait>(&mut self, rt: &R, reply: &Finished) -> FinishedView<'a>
         ensures { result ≡ reply.now }
     {
-        StoredReply {
+        FinishedView {
             request: reply.request,
             status: reply.status,
             bytes: self.copy_of(rt, reply.bytes.as_slice()),

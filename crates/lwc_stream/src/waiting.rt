@@ -2,15 +2,15 @@
 ghost use Rattle.std.specs.Prelude.{◌≡◌, ◌+◌, ◌<◌, None, Some, IfOk, MatchOption, length, replicate, slice_set};
 ghost use Rattle.lwc_stream.specs.Streams.{at};
 
-use crate::stored::StoredReply;
 use lwc_base::OutOfMemory;
+use snapshot_host::FinishedView;
 use std::alloc::Global;
 use std::marker::Model;
 
 /// A place for the reply of each request, and the request whose reply comes next.
 #[derive(Drop)]
 pub(crate) struct Waiting<'a> {
-    places: Vec<Option<StoredReply<'a>>>,
+    places: Vec<Option<FinishedView<'a>>>,
     next: usize,
 }
 
@@ -39,18 +39,18 @@ impl<'a> Waiting<'a> {
     }
 
     /// A reply waits at its request's place, if there is one.
-    pub(crate) fn put(&mut self, reply: StoredReply<'a>)
+    pub(crate) fn put(&mut self, reply: FinishedView<'a>)
         ensures places { self.new.places ≡ slice_set self.old.places reply.entry.request (Some reply.entry) }
         ensures next { self.new.next ≡ self.old.next }
     {
-        let place = usize::from(reply.request());
+        let place = usize::from(reply.request);
         if place < self.places.len() {
             self.places[place] = Some(reply);
         }
     }
 
     /// The reply of the next request, if it is there.
-    pub(crate) fn next(&mut self) -> Option<StoredReply<'a>>
+    pub(crate) fn next(&mut self) -> Option<FinishedView<'a>>
         ensures { MatchOption result ((self.new ≡ self.old) × (at self.old.places self.old.next ≡ None))
             (λ x. (at self.old.places self.old.next ≡ Some x) × (self.old.next < length self.old.places)
             × (self.new.places ≡ slice_set self.old.places self.old.next None)

@@ -6,7 +6,7 @@ ghost use Rattle.lwc_stream.specs.Replies.{IsWritten, line_of};
 use lwc_base::OutOfMemory;
 use lwc_io::{Sink, write_whole};
 use lwc_text::{MOST_REPLY_LINE_BYTES, reply_line};
-use snapshot_host::Finished;
+use snapshot_host::FinishedView;
 use std::alloc::Global;
 use std::marker::Model;
 
@@ -46,10 +46,10 @@ impl LineWriter {
     }
 
     /// Writes the line of a reply, unless a write has failed. It takes no memory.
-    pub(crate) fn write<O: Sink>(&mut self, out: &mut O, reply: &Finished)
+    pub(crate) fn write<O: Sink>(&mut self, out: &mut O, reply: FinishedView<'_>)
         ensures { (before : SinkView) (text : List ℕ) →
             IsWritten self.old before (O.seen out.old) text →
-            IsWritten self.new before (O.seen out.new) (text ++ line_of reply.now) }
+            IsWritten self.new before (O.seen out.new) (text ++ line_of reply.entry) }
     {
         if self.failed {
             return;

@@ -5,7 +5,6 @@ ghost use Rattle.std.specs.Prelude.{◌≡◌, ◌+◌, ◌*◌, ◌≤◌, ◌+
 ghost use Rattle.std.specs.Prelude.{string_bytes, codes, decimal};
 ghost use Rattle.lwc_base.specs.declared.limits.TheConstants.{MOST_REPLY_BYTES};
 ghost use Rattle.std.specs.List.{flat_map};
-ghost use Rattle.std.specs.Option.{option_map};
 ghost use Rattle.lwc_text.specs.Lines.{bytes_text, context_line, groups_line, name_text, regs_line};
 ghost use Rattle.lwc_text.specs.Lines.{reply_line, reply_text, status_text, steps_text, tail_lines};
 ghost use Rattle.lwc_text.specs.Lines.{thread_line, thread_lines, trap_line, used_line};
@@ -14,7 +13,7 @@ use crate::digits::{append_digits, digits_of};
 use itoa::Buffer;
 use kernel_core::ThreadView;
 use lwc_base::{MOST_REPLY_BYTES, Name, OutOfMemory, Summary, ThreadStatus};
-use snapshot_host::Finished;
+use snapshot_host::FinishedView;
 use std::alloc::Global;
 
 /// Appends the two lines of a thread (`thread_lines`). The only error is out of memory.
@@ -73,9 +72,12 @@ pub const MOST_REPLY_LINE_BYTES: usize = 2 * MOST_REPLY_BYTES + 95;
 /// Appends the line of a request's reply (`reply_line`). The only error is out of memory. Where the text has
 /// room for `MOST_REPLY_LINE_BYTES` more bytes, it takes no memory.
 #[tactic(auto, unfolding(crate::specs::Lines::reply_line))]
-pub fn reply_line(out: &mut Vec<u8>, r: u16, finished: Option<&Finished>) -> Result<(), OutOfMemory>
-    ensures ok { OnOk result (out.new.items
-        ≡ out.old.items ++ reply_line r (option_map (λ x. x.now) finished.entry)) }
+pub fn reply_line(
+    out: &mut Vec<u8>,
+    r: u16,
+    finished: Option<FinishedView<'_>>,
+) -> Result<(), OutOfMemory>
+    ensures ok { OnOk result (out.new.items ≡ out.old.items ++ reply_line r finished.entry) }
     ensures err { OnErr result (out.new.items ≡ out.old.items) }
     ensures room { length out.old.items + MOST_REPLY_LINE_BYTES ≤ vec_capacity out.old → IsOk result }
     ensures capacity { vec_capacity out.old ≤ vec_capacity out.new }
@@ -171,9 +173,9 @@ fn status_text(alloc: Global, status: ThreadStatus) -> Result<String, OutOfMemor
 
 /// Appends what a report says of a reply: two digits for each byte, and at most 47 bytes besides.
 #[tactic(auto, unfolding(crate::specs::Lines::reply_text))]
-fn append_reply(out: &mut Vec<u8>, finished: Option<&Finished>)
+fn append_reply(out: &mut Vec<u8>, finished: Option<FinishedView<'_>>)
     requires room { length out.old.items + 2 * MOST_REPLY_BYTES + 47 ≤ vec_capacity out.old }
-    ensures text { out.new.items ≡ out.old.items ++ reply_text (option_map (λ x. x.now) finished.entry) }
+    ensures text { out.new.items ≡ out.old.items ++ reply_text finished.entry }
     ensures short { length out.new.items ≤ length out.old.items + 2 * MOST_REPLY_BYTES + 47 }
     ensures capacity { vec_capacity out.old ≤ vec_capacity out.new }
 {
@@ -182,7 +184,7 @@ fn append_reply(out: &mut Vec<u8>, finished: Option<&Finished>)
         Some(finished) => {
             append_status(out, finished.status);
             append_reserved(out, b" ");
-            append_bytes(out, finished.bytes.as_slice());
+            append_bytes(out, finished.bytes);
         }
     }
 }

@@ -68,7 +68,7 @@ fn run_by<R: AllocGlobal + Abort + Threads + Wait + Sync>(
 /// Whether a request has ended well, with a reply of the byte 1.
 fn is_replied(kernel: &Kernel<LazyWorld>, request: u16) -> bool {
     kernel.reply(request).is_some_and(|reply| {
-        reply.status == ThreadStatus::Done { code: 0 } && reply.bytes.as_slice() == [1].as_slice()
+        reply.status == ThreadStatus::Done { code: 0 } && reply.bytes == [1].as_slice()
     })
 }
 

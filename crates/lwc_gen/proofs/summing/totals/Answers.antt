@@ -1,8 +1,9 @@
-use Rattle.std.proofs.Common.{◌≡◌, ◌+◌, ◌≤◌, ℕ, None, length, rules, ap, subst, sym, ◌∙◌, arith}
+use Rattle.std.proofs.Common.{◌≡◌, ◌+◌, ◌≤◌, ℕ, None, length, ap, subst, sym, ◌∙◌, arith}
 use Rattle.kernel_core.specs.Kernel.{machine_of}
 use Rattle.lwc_gen.proofs.Gathered.{added_next, added_reply, replies_before}
 use Rattle.lwc_gen.specs.Summary.{replies_of, totals_of}
 use Rattle.lwc_gen.specs.declared.totals.Totals.{Totals}
+use Rattle.snapshot_host.specs.declared.finishing.Finished.{Finished}
 use Rattle.lwc_gen.proofs.summing.totals.Goals.{in-None, in-Some}
 use Rattle.lwc_gen.proofs.summing.totals.Goals as goal
 
@@ -28,7 +29,7 @@ requests-preserved g c =
         done = subst (λ (t : Totals). t.done ≤ t.requests) (sym w.totals-is) w.add.ensures.done;
       }
       | in-Some w ↦ record {
-        so_far = added_reply m r _ _ _ w.in-Some.ensures (search rules) (w.totals-is ∙ w.add-in-Some.ensures.added (replies_before m r) was.so_far);
+        so_far = added_reply m r _ _ _ _ w.in-Some.ensures (ap (λ (told : Finished). told.status) w.finished.view_is) (ap (λ (told : Finished). told.bytes) w.finished.view_is) (w.totals-is ∙ w.add-in-Some.ensures.added (replies_before m r) was.so_far);
         requests = ap (λ (t : Totals). t.requests) w.totals-is ∙ (w.add-in-Some.ensures.requests ∙ ap one_more was.requests);
         done = subst (λ (t : Totals). t.done ≤ t.requests) (sym w.totals-is) w.add-in-Some.ensures.done;
       }
