@@ -1,5 +1,5 @@
 -- Reading requests line by line.
-use Rattle.std.proofs.Common.{◌≡◌, ℕ, zero, suc, get_or, ◌+◌, ◌-◌, ◌*◌, ◌%◌, ◌≤◌, ◌<◌, Bool, true, false, not, List, [], ◌∷◌, ◌++◌, length, take, drop, map, All, Option, Some, None, Ok, refl, sym, ap, subst, ◌∙◌, arith, length-append}
+use Rattle.std.proofs.Common.{◌≡◌, ℕ, zero, suc, get_or, ◌+◌, ◌-◌, ◌*◌, ◌%◌, ◌≤◌, ◌<◌, Bool, true, false, not, List, [], ◌∷◌, ◌++◌, length, take, drop, map, All, Option, Some, None, Ok, Err, refl, sym, ap, subst, ◌∙◌, arith, length-append}
 use Rattle.std.proofs.lemmas.Bool.Decides.{nat_tests}
 use Rattle.std.proofs.lemmas.List.{take_more, take_all}
 use Rattle.std.proofs.lemmas.List.Elements.{All-nil, All-cons, All-head, All-tail, All-from_get_or, All-get_or, filter_map-append}
@@ -8,6 +8,7 @@ use Rattle.std.specs.List.{AllPass, after_first, cons_option, filter_map, range_
 use Rattle.std.specs.Option.{option_map}
 use Rattle.std.specs.Str.Lines.{lines}
 use Rattle.hex.specs.Hex.{decode_of, is_hex_digit}
+use Rattle.hex.specs.declared.error.FromHexError.{FromHexError}
 use Rattle.hex.proofs.HexLemmas.{decode_of-digits, decode_of-ok}
 use Rattle.lwc_base.specs.Outcomes.{Fails, IsFound, unless_refused}
 use Rattle.lwc_base.specs.declared.limits.TheConstants.{MOST_REQUESTS, MOST_REQUEST_BYTES, MOST_REQUEST_FILE_BYTES}
@@ -35,35 +36,38 @@ not_other b h = by (is_hex_digit b) h
     by true h = refl
     by false h = absurd cc
 
-is_good : (line : List ℕ) → rule_in line ≡ None → IsGood line
-is_good line none =
+-- a line that breaks no rule has digits alone
+pub only_digits : (line : List ℕ) → rule_in line ≡ None → AllPass is_hex_digit line
+only_digits line none =
     let most : digits_end line ≤ length line = prefix_len-le-length (λ b. not (is_other b)) line in
     let whole : length line ≤ digits_end line = grind (arith, nat_tests) in
+    All-from_get_or (λ b. is_hex_digit b ≡ true) line 0 (λ i within. not_other (get_or line i 0) (fails_before_first is_other line i 0 (omega arith)))
+
+is_good : (line : List ℕ) → rule_in line ≡ None → IsGood line
+is_good line none =
     let even : length line % 2 ≡ 0 = grind (arith, nat_tests) in
     let short : length line ≤ 2 * MOST_REQUEST_BYTES = grind (arith, nat_tests) in
-    let digits : AllPass is_hex_digit line = All-from_get_or (λ b. is_hex_digit b ≡ true) line 0 (λ i within. not_other (get_or line i 0) (fails_before_first is_other line i 0 (omega arith))) in
-    let read = decode_of-digits line even digits in
+    let read = decode_of-digits line even (only_digits line none) in
     record { request = read.0; decoded = read.1; small = omega (arith, (decode_of-ok line read.0 read.1).2, short) }
 
 other_none : (b : ℕ) → is_hex_digit b ≡ true → is_other b ≡ false
 other_none b h = ap not h
 
+-- a line of digits has them up to its end
+pub all_digits : (line : List ℕ) → AllPass is_hex_digit line → digits_end line ≡ length line
+all_digits line digits =
+    position_or_len_is is_other line (length line) 0 (omega arith) (λ k below. other_none (get_or line k 0) (All-get_or (λ b. is_hex_digit b ≡ true) line k 0 below digits)) (λ less. absurd (omega (arith, less)))
+
 keeps_rules : (line request : List ℕ) → decode_of line ≡ Ok request → length request ≤ MOST_REQUEST_BYTES → rule_in line ≡ None
 keeps_rules line request read small =
     let ok = decode_of-ok line request read in
-    let digits : AllPass is_hex_digit line = ok.1 in
-    let end : digits_end line ≡ length line =
-    position_or_len_is is_other line (length line) 0 (omega arith) (λ k below. other_none (get_or line k 0) (All-get_or (λ b. is_hex_digit b ≡ true) line k 0 below digits)) (λ less. absurd (omega (arith, less))) in
+    let end : digits_end line ≡ length line = all_digits line ok.1 in
     let even : length line % 2 ≡ 0 = ok.0 in
     let twice : length line ≡ 2 * length request = ok.2 in
     grind (arith, nat_tests)
 
--- a line that breaks no rule is pairs of digits
-pub is_pairs : (line : List ℕ) → rule_in line ≡ None → (length line % 2 ≡ 0) × AllPass is_hex_digit line
-is_pairs line none =
-    let good = is_good line none in
-    let ok = decode_of-ok line good.request good.decoded in
-    (ok.0, ok.1)
+pub kept_is_digits : (line : List ℕ) (e : FromHexError) → decode_of line ≡ Err e → rule_in line ≡ None → ⊥
+kept_is_digits line e fails none = let good = is_good line none in let read = good.decoded in cc
 
 -- the requests so far are those of the lines so far, of which none is refused, and what is left has the other lines
 pub record IsSoFar (bytes rest : List ℕ) (n : ℕ) (requests : List (List ℕ)) : Type 0 where

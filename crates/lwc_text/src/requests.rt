@@ -1,12 +1,13 @@
 //! Requests: the bytes of each, one a line.
 
 ghost use Rattle.std.specs.Prelude.{◌≡◌, ◌<◌, ◌≤◌, ◌+◌, ◌^◌, ◌∷◌, ◌==◌, ℕ, List, length, IfErr, IfOk, IfSome};
-ghost use Rattle.std.specs.Prelude.{OnOk, None, Some, Ok};
+ghost use Rattle.std.specs.Prelude.{OnOk, None, Some, Ok, ◌*◌, ◌%◌, IsTrue, true};
+ghost use Rattle.std.specs.List.{AllPass};
+ghost use Rattle.hex.specs.Hex as digits;
 ghost use Rattle.lwc_base.specs.Outcomes.{Answers, Fails, IsFound, unless_refused};
 ghost use Rattle.lwc_base.specs.declared.reading.ReadError.TheVariants.{OutOfMemory};
 ghost use Rattle.lwc_text.specs.Requests as spec;
 
-use crate::digits::{bytes_of, digit_count, is_digit};
 use crate::fault::{InputFault, InputRule};
 use crate::file_lines::next_line;
 use lwc_base::{
@@ -68,7 +69,7 @@ fn read_lines(alloc: Global, bytes: &[u8]) -> Result<Vec<Sequence<u8>>, InputFau
 }
 
 /// Reads the line at an offset, after this number of others.
-#[tactic(auto, unfolding(crate::specs::Requests::line_refusal))]
+#[tactic(auto, using(crate::proofs::RequestLines::kept_is_digits), unfolding(crate::specs::Requests::line_refusal),)]
 fn read_line(
     alloc: Global,
     before: usize,
@@ -118,16 +119,65 @@ fn digits_end(line: &[u8]) -> usize
     ensures place { result ≡ spec.digits_end line.now }
     ensures within { result ≤ length line.now }
 {
-    let first = digit_count(line);
-    first + place_of_other(&line[first..])
+    if are_digits(line) {
+        return line.len();
+    }
+    line.iter()
+        .position(|b| !is_hex_digit(*b))
+        .unwrap_or(line.len())
 }
 
-/// The place of the first byte that is no digit, or the length. It looks at one after another.
-fn place_of_other(line: &[u8]) -> usize
-    ensures place { result ≡ spec.digits_end line.now }
-    ensures within { result ≤ length line.now }
+/// Whether all bytes are digits. It looks at all of them, so that many are compared at once.
+fn are_digits(line: &[u8]) -> bool
+    ensures { IsTrue result → AllPass digits.is_hex_digit line.now }
 {
-    line.iter()
-        .position(|b| !is_digit(*b))
-        .unwrap_or(line.len())
+    let mut all = true;
+    'bytes: for byte in line {
+        all = all & is_hex_digit(*byte);
+    }
+    all
+}
+
+/// Whether a byte is a hexadecimal digit, in either case.
+#[inline(always)]
+fn is_hex_digit(byte: u8) -> bool
+    ensures { result ≡ digits.is_hex_digit byte }
+{
+    let decimal = (b'0' <= byte) & (byte <= b'9');
+    let lower = (b'a' <= byte) & (byte <= b'f');
+    let upper = (b'A' <= byte) & (byte <= b'F');
+    decimal | lower | upper
+}
+
+/// The bytes of pairs of digits. The only error is out of memory.
+fn bytes_of(alloc: Global, line: &[u8]) -> Result<Vec<u8>, InputFault>
+    requires digits { AllPass digits.is_hex_digit line.now }
+    requires even { length line.now % 2 ≡ 0 }
+    ensures read { IfOk result (λ bytes. spec.request_of line.now ≡ Some bytes.items) }
+    ensures refused { IfErr result (λ e. e ≡ OutOfMemory) }
+{
+    let mut bytes = vec![in alloc; 0u8; line.len() / 2]?;
+    decode(line, bytes.as_mut_slice());
+    Ok(bytes)
+}
+
+/// Puts the bytes of pairs of digits into a place of their number.
+fn decode(line: &[u8], bytes: &mut [u8])
+    requires digits { AllPass digits.is_hex_digit line.now }
+    requires room { length line.now ≡ 2 * length bytes.old }
+    ensures { digits.decode_of line.now ≡ Ok bytes.new }
+{
+    'bytes: for i in 0..bytes.len() {
+        bytes[i] = digit_value(line[2 * i]) * 16 + digit_value(line[2 * i + 1]);
+    }
+}
+
+/// The value of a digit, in either case, which is computed without a test, so that many are at once.
+#[inline(always)]
+fn digit_value(digit: u8) -> u8
+    requires { digits.is_hex_digit digit ≡ true }
+    ensures value { digits.hex_digit_value digit ≡ Some result }
+    ensures small { result < 16 }
+{
+    digit % 16 + 9 * (digit / 64)
 }

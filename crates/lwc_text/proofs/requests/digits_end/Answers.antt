@@ -1,10 +1,16 @@
-use Rattle.std.proofs.Common.{◌-◌, arith, drop, length}
-use Rattle.std.proofs.lemmas.List.{length-drop, take_all}
-use Rattle.lwc_text.proofs.HexDigits.{end_behind}
+use Rattle.std.proofs.Common.{◌≡◌, not, sym, tests, rules, arith}
+use Rattle.std.specs.List.{position}
+use Rattle.std.proofs.lemmas.Iterator.{YieldsList-from_slice}
+use Rattle.std.proofs.lemmas.Iterator.Search.{position_from_yields_List}
+use Rattle.hex.specs.Hex.{is_hex_digit}
 use Rattle.lwc_text.proofs.requests.digits_end.Goals as goal
+use Rattle.lwc_base.proofs.Small.{or_len}
+use Rattle.lwc_text.proofs.RequestLines.{all_digits}
 
 pub returns-clause-place : goal.returns-clause-place
 returns-clause-place c =
-    let behind = end_behind c.args.line.now c.digit_count-first.result c.digit_count-first.ensures.within c.digit_count-first.ensures.digits in
-    let whole = take_all (length c.args.line.now - c.digit_count-first.result) (drop c.digit_count-first.result c.args.line.now) (omega (arith, length-drop c.digit_count-first.result c.args.line.now)) in
-    rw (c.place_of_other.ensures.place, whole) behind
+    let found : c.position.result ≡ position (λ b. not (is_hex_digit b)) c.args.line.now = position_from_yields_List (λ b. not (is_hex_digit b)) _ _ c.position.result c.position.ensures.ran (YieldsList-from_slice c.args.line.now cc) (λ x b q k. search (rules, tests)) in
+    grind (arith, or_len (λ b. not (is_hex_digit b)) c.args.line.now c.position.result found)
+
+pub returns-then-are_digits-clause-place : goal.returns-then-are_digits-clause-place
+returns-then-are_digits-clause-place c = sym (all_digits _ (c.are_digits.ensures c.if-are_digits.true))
