@@ -50,7 +50,7 @@ fn a_thread_has_two_lines(rt: HostRuntime) -> Result<(), Fail> {
 fn finished_line(out: &mut Vec<u8>, io: &Channels, status: ThreadStatus) -> Result<(), OutOfMemory>
     requires { 0 < length io.now.requests }
 {
-    reply_line(out, 0, Some(&finish(io, 0, status)))
+    reply_line(out, 0, Some(finish(io, 0, status).view()))
 }
 
 /// Appends the lines of a request that has not ended, has ended by a fault, and is done with two bytes of a reply.
