@@ -30,3 +30,4 @@ pub use lock::Turnstile;
 pub use lwc_base::OutOfMemory;
 pub use passes::{HoldsPass, Pass, Passes};
 pub use states::Turned;
+pub use waiting::Door;

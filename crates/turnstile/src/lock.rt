@@ -98,12 +98,46 @@ impl<S: Turned> Turnstile<S> {
         ensures number { pass.new.number ≡ pass.old.number }
         ensures noted { pass.old.noted ≤ pass.new.noted }
     {
-        let shared = &self.table.shared;
         self.door.enter(rt);
+        let answer = self.turn_inside(rt, pass, action);
+        self.door.leave();
+        answer
+    }
+
+    /// The door that threads come through before their turns. Who is through it has several turns in one stay by
+    /// `turn_inside`; those of others wait meanwhile.
+    pub fn door(&self) -> &Door {
+        &self.door
+    }
+
+    /// Has one turn as `with_turn` does, for a thread that is through the door. From outside it may wait longer, and
+    /// the same holds of it.
+    #[inline(always)]
+    pub fn turn_inside<H: Wait, R, A: FnOnce(&mut S) -> R>(
+        &self,
+        rt: &H,
+        pass: &mut Pass<S>,
+        action: A,
+    ) -> R
+        requires ours { IsPassOf self.now pass.old }
+        requires callable { (x : S) → IsDueFor S.name S.past self.now pass.old x
+            → FnOnceTakesAtMut A.FnOnce action x }
+        requires moves { (x y : S) (r : R) → IsDueFor S.name S.past self.now pass.old x
+            → FnOnceReturnsAtMut A.FnOnce action x r y → (S.name y ≡ S.name x)
+            × (S.past y ≡ S.past x ++ pass.old.number ∷ []) }
+        ensures called { (x : S) × (y : S) × IsDueFor S.name S.past self.now pass.old x
+            × FnOnceReturnsAtMut A.FnOnce action x result y × (pass.new.seen ≡ S.past y) }
+        ensures front { IsPrefix pass.old.seen pass.new.seen }
+        ensures count { times pass.old.number pass.new.seen ≡ times pass.old.number pass.old.seen + 1 }
+        ensures later { pass.old.noted < length pass.new.seen }
+        ensures ours { IsPassOf self.now pass.new }
+        ensures number { pass.new.number ≡ pass.old.number }
+        ensures noted { pass.old.noted ≤ pass.new.noted }
+    {
+        let shared = &self.table.shared;
         let state = take_turn(rt, shared, &mut pass.seat);
         let (state, answer) = act(state, action);
         end_turn(shared, &mut pass.seat, state);
-        self.door.leave();
         answer
     }
 

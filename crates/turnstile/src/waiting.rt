@@ -41,7 +41,7 @@ const NAPS: u32 = 8;
 
 /// The word that threads come through one at a time.
 #[derive(Drop)]
-pub(crate) struct Door {
+pub struct Door {
     word: AtomicU64,
 }
 
@@ -91,7 +91,7 @@ impl Door {
 
     /// Comes through the door. It may wait.
     #[inline(always)]
-    pub(crate) fn enter<H: Wait>(&self, rt: &H) {
+    pub fn enter<H: Wait>(&self, rt: &H) {
         if !self.try_take(FREE) {
             self.enter_late(rt);
         }
@@ -128,7 +128,7 @@ impl Door {
     }
 
     /// Lets the next thread come.
-    pub(crate) fn leave(&self) {
+    pub fn leave(&self) {
         let left = self
             .word
             .compare_exchange(TAKEN, FREE, Ordering::SeqCst, Ordering::SeqCst);

@@ -2,7 +2,7 @@ use Rattle.std.proofs.Common.{◌<◌, ℕ, List, ◌∷◌, ◌++◌, [], lengt
 use mathlib.Core.List.{IsPrefix}
 use Rattle.turnstile.specs.Past.{times}
 use Rattle.turnstile.proofs.Turns.{may_end, due_for, had_turn, seen_after}
-use Rattle.turnstile.proofs.lock.Turnstile.with_turn.Goals as goal
+use Rattle.turnstile.proofs.lock.Turnstile.turn_inside.Goals as goal
 
 pub act-state-requires : goal.act-state-requires
 act-state-requires g c =
