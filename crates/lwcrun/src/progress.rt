@@ -84,6 +84,11 @@ impl Gate for Progress {
             self.count_turn(start);
         }
     }
+
+    /// It never waits.
+    fn may_wait(&self) -> bool {
+        false
+    }
 }
 
 /// A sink that clears the line of the progress before it is written to, since it may be on the same terminal.
