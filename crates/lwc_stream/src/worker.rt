@@ -8,7 +8,7 @@ use crate::ends::Puts;
 use crate::signal::Signal;
 use crate::store::Store;
 use lwc_io::Gate;
-use process_core::{Process, ProcessPass, Proposal};
+use process_core::{Process, ProcessPass, Stay};
 use std::sync::Wait;
 use world_face::World;
 
@@ -21,8 +21,10 @@ pub(crate) struct Worker<'a, W: World> {
 }
 
 /// Carries the thread to its end. For each turn it first advances the thread's registers, outside the lock, unless
-/// the thread is alone; then it comes to the gate; then it makes the turn with that advance as its proposal. A reply
-/// that the turn finished is put into the queue, and the caller is notified. It may wait.
+/// the thread is alone; then it comes to the gate; then it makes the turn with that advance as its proposal. Where the
+/// gate does not wait, a few turns whose advances rest on the text alone are made in one stay inside the lock, up to one
+/// that finishes a request. A reply that the turn finished is put into the queue, and the caller is notified. It may
+/// wait.
 pub(crate) fn serve<R: Wait, W: World, G: Gate>(
     rt: &R,
     process: &Process<W>,
@@ -35,12 +37,12 @@ pub(crate) fn serve<R: Wait, W: World, G: Gate>(
     ensures number { worker.new.pass.held.number ≡ worker.old.pass.held.number }
     ensures queue { worker.new.puts.queue ≡ worker.old.puts.queue }
 {
-    let mut proposal = Proposal::none();
+    let mut stay = Stay::new(process.text(), gate.may_wait());
     let mut turns = 0u64;
     'turns: while !worker.pass.last().has_ended() {
-        process.propose(&worker.pass, &mut proposal);
+        process.propose(&worker.pass, &mut stay);
         gate.before(rt, worker.pass.thread(), turns);
-        process.make_turn(rt, &mut worker.pass, &proposal);
+        process.make_turn(rt, &mut worker.pass, &mut stay);
         hand_on(rt, signal, worker);
         turns += 1;
     }

@@ -5,3 +5,4 @@ pub mod Completed
 pub mod Sends
 pub mod Carrying
 pub mod Offers
+pub mod Offered

@@ -1,5 +1,7 @@
 -- What contracts see of a process and of its passes.
-use Rattle.std.specs.Prelude.{◌≡◌, ◌<◌, ◌≤◌, ℕ, Bool, false, true, List, All, Contains, Option, None, Some, length, map}
+use Rattle.std.specs.Prelude.{◌≡◌, ◌<◌, ◌≤◌, ℕ, Bool, List, All, Contains, Option, None, Some, length, map, slice_get, take}
+use Rattle.guest_isa.specs.declared.instr.Instr.{Instr}
+use Rattle.guest_machine.specs.Advances.{advanced}
 use Rattle.guest_machine.specs.declared.progress.Advance.{Advance}
 use Rattle.kernel_core.specs.Histories.{IsLegal, turn_after}
 use Rattle.kernel_core.specs.Start.{Inputs, start, thread_count}
@@ -16,10 +18,21 @@ pub record Carried : Type 0 where
   pub held : Held Opened
   pub last : Turn
 
--- what is proposed, where something is
-abbrev pub proposed : Bool → Advance → Option Advance
-proposed false a = None
-proposed true a = Some a
+-- a stay inside the lock: whether the thread is inside, how many of its turns were made, and the places of proposals, of
+-- which this many are of its turns
+pub record Staying : Type 0 where
+  pub inside : Bool
+  pub made : ℕ
+  pub count : ℕ
+  pub places : List Advance
+
+-- the proposal of its next turn, if there is one
+abbrev pub offered : Staying → Option Advance
+offered s = slice_get (take s.count s.places) s.made
+
+-- each is the advance of its registers over the text
+abbrev pub AreAdvances : List Instr → List Advance → Type 0
+AreAdvances text advances = All (λ a. a ≡ advanced text a.before) advances
 
 -- a turn of a thread that has made no step and has no registers
 abbrev pub no_turn : Turn

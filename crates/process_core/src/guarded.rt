@@ -8,7 +8,7 @@ ghost use Rattle.kernel_core.specs.Start.{start, thread_count};
 ghost use Rattle.lwc_base.specs.declared.limits.TheConstants.{MOST_STEPS};
 
 use crate::opened::Opened;
-use crate::proposal::Proposal;
+use guest_machine::Advance;
 use kernel_core::{Kernel, Turn};
 use lwc_base::OutOfMemory;
 use turnstile::Turned;
@@ -42,12 +42,17 @@ impl<W: World> Turned for Guarded<W> {
 }
 
 /// A step of a thread that has not ended, with room for it. Notes in `last` what it left.
-fn step_kernel<W: World>(kernel: &mut Kernel<W>, t: u32, proposal: &Proposal, last: &mut Turn)
+fn step_kernel<W: World>(
+    kernel: &mut Kernel<W>,
+    t: u32,
+    proposal: Option<&Advance>,
+    last: &mut Turn,
+)
     requires roomy { W.roomy ≡ true }
     requires within { t < thread_count kernel.old.inputs }
     requires going { is_ended (machine_of kernel.old) t ≡ false }
     requires room { work (machine_of kernel.old) ≤ kernel.old.room }
-    requires proposal { IfSome proposal.now (λ a. a ≡ advanced kernel.old.inputs.image.text a.before) }
+    requires proposal { IfSome proposal (λ a. a.now ≡ advanced kernel.old.inputs.image.text a.now.before) }
     ensures step { kernel.new ≡ stepped kernel.old t }
     ensures turn { turn kernel.new t ≡ Some last.new }
     ensures some { 0 < kernel.old.room }
@@ -55,7 +60,7 @@ fn step_kernel<W: World>(kernel: &mut Kernel<W>, t: u32, proposal: &Proposal, la
     ensures work { work (machine_of kernel.new) < work (machine_of kernel.old) }
 {
     kernel.was_opened();
-    match kernel.make_step(t, proposal.get()) {
+    match kernel.make_step(t, proposal) {
         Ok(finished) => kernel.note_turn(t, finished, last),
         Err(OutOfMemory) => unreachable!(),
     }
@@ -79,13 +84,13 @@ impl<W: World> Guarded<W> {
     pub(crate) fn make_step(
         &mut self,
         t: u32,
-        proposal: &Proposal,
+        proposal: Option<&Advance>,
         mut last: Box<Turn>,
     ) -> Box<Turn>
         requires within { t < thread_count self.old.kernel.value.inputs }
         requires going { is_ended (machine_of self.old.kernel.value) t ≡ false }
-        requires proposal { IfSome proposal.now (λ a. a
-            ≡ advanced self.old.kernel.value.inputs.image.text a.before) }
+        requires proposal { IfSome proposal (λ a. a.now
+            ≡ advanced self.old.kernel.value.inputs.image.text a.now.before) }
         ensures inputs { self.new.kernel.value.inputs ≡ self.old.kernel.value.inputs }
         ensures room { self.new.first_room ≡ self.old.first_room }
         ensures steps { self.new.kernel.value.steps ≡ self.old.kernel.value.steps ++ t ∷ [] }

@@ -12,9 +12,9 @@ mod opened;
 mod opening;
 mod passes;
 mod process;
-mod proposal;
+mod stay;
 
 pub use opened::Opened;
 pub use passes::{ProcessPass, ProcessPasses};
 pub use process::Process;
-pub use proposal::Proposal;
+pub use stay::Stay;

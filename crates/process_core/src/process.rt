@@ -7,14 +7,15 @@ ghost use Rattle.kernel_core.specs.Kernel as kernels;
 ghost use Rattle.kernel_core.specs.Kernel.{machine_of};
 ghost use Rattle.kernel_core.specs.Machine.{has_ended, is_ended, work};
 ghost use Rattle.kernel_core.specs.Start.{start, thread_count};
-ghost use Rattle.process_core.specs.Running.{AreAllOf, Carried, IsNewPass, IsPassOf, Leaves};
+ghost use Rattle.lwc_base.specs.declared.fault.ThreadStatus.TheVariants.{Running};
+ghost use Rattle.process_core.specs.Running.{AreAdvances, AreAllOf, Carried, IsNewPass, IsPassOf, Leaves, offered};
 ghost use Rattle.turnstile.specs.Passes as gates;
 ghost use Rattle.turnstile.specs.Past.{Knows};
 
 use crate::guarded::{Guarded, guard};
 use crate::opening::{first_turns, hand_out};
 use crate::passes::{ProcessPass, ProcessPasses};
-use crate::proposal::Proposal;
+use crate::stay::Stay;
 use guest_isa::Text;
 use guest_machine::Advance;
 use kernel_core::{Kernel, Turn};
@@ -54,14 +55,14 @@ fn take_turn<R: Wait, W: World>(
     gate: &Turnstile<Guarded<W>>,
     rt: &R,
     pass: &mut Pass<Guarded<W>>,
-    proposal: &Proposal,
+    stay: &Stay,
     last: Box<Turn>,
 ) -> Box<Turn>
     requires ours { gates.IsPassOf gate.now pass.old }
     requires within { pass.old.number < thread_count gate.now.name.inputs }
     requires knows { Leaves gate.now.name.inputs pass.old.number pass.old.seen last.value }
     requires going { has_ended last.value.status ≡ false }
-    requires proposal { IfSome proposal.now (λ a. a ≡ advanced gate.now.name.inputs.image.text a.before) }
+    requires proposal { IfSome (offered stay.now) (λ a. a ≡ advanced gate.now.name.inputs.image.text a.before) }
     ensures ours { gates.IsPassOf gate.now pass.new }
     ensures number { pass.new.number ≡ pass.old.number }
     ensures leaves { Leaves gate.now.name.inputs pass.new.number pass.new.seen result.value }
@@ -70,19 +71,19 @@ fn take_turn<R: Wait, W: World>(
     ensures noted { pass.old.noted ≤ pass.new.noted }
 {
     let t = pass.number();
-    gate.with_turn(
+    gate.turn_inside(
         rt,
         pass,
         move |guarded: &mut Guarded<W>| -> Box<Turn>
             requires { (t < thread_count guarded.now.kernel.value.inputs)
                 × (is_ended (machine_of guarded.now.kernel.value) t ≡ false)
-                × IfSome proposal.now (λ a. a
+                × IfSome (offered stay.now) (λ a. a
                 ≡ advanced guarded.now.kernel.value.inputs.image.text a.before) }
             ensures { (guarded.exit.now.kernel.value.inputs ≡ guarded.entry.now.kernel.value.inputs)
                 × (guarded.exit.now.first_room ≡ guarded.entry.now.first_room)
                 × (guarded.exit.now.kernel.value.steps ≡ guarded.entry.now.kernel.value.steps ++ t ∷ [])
                 × (kernels.turn guarded.exit.now.kernel.value t ≡ Some result.value) }
-        { guarded.make_step(t, proposal, last) },
+        { guarded.make_step(t, stay.proposal(), last) },
     )
 }
 
@@ -130,19 +131,25 @@ impl<W: World> Process<W> {
         &self.text
     }
 
-    /// Makes the proposal of the pass's next turn: the advance of the registers that the last turn left. A thread that
-    /// is alone proposes nothing, since nobody waits while it advances in its turn. It waits for nobody, and takes no
-    /// memory.
-    pub fn propose(&self, pass: &ProcessPass<W>, proposal: &mut Proposal)
-        ensures others { 1 < thread_count self.now.name.inputs →
-            proposal.new ≡ Some (advanced self.now.name.inputs.image.text pass.now.last.regs) }
-        ensures alone { thread_count self.now.name.inputs ≡ 1 → proposal.new ≡ None }
-        ensures fits { IfSome proposal.new (λ a. a ≡ advanced self.now.name.inputs.image.text a.before) }
+    /// Prepares a stay of the pass's thread, unless it is inside: the proposal of its next turn is the advance of the
+    /// registers that the last turn left. A thread that is alone proposes nothing, since nobody waits while it advances
+    /// in its turn. It waits for nobody, and takes no memory.
+    pub fn propose(&self, pass: &ProcessPass<W>, stay: &mut Stay)
+        requires fits { AreAdvances self.now.name.inputs.image.text stay.old.places }
+        ensures inside { stay.new.inside ≡ stay.old.inside }
+        ensures others { 1 < thread_count self.now.name.inputs → stay.old.inside ≡ false →
+            pass.now.last.status ≡ Running →
+            offered stay.new ≡ Some (advanced self.now.name.inputs.image.text pass.now.last.regs) }
+        ensures alone { thread_count self.now.name.inputs ≡ 1 → stay.old.inside ≡ false → offered stay.new ≡ None }
+        ensures fits { AreAdvances self.now.name.inputs.image.text stay.new.places }
     {
+        if stay.is_inside() {
+            return;
+        }
         if self.threads == 1 {
-            proposal.clear();
+            stay.prepare_alone();
         } else {
-            proposal.make(&self.text, &pass.last().regs);
+            stay.prepare(&self.text, pass.last());
         }
     }
 
@@ -173,14 +180,43 @@ impl<W: World> Process<W> {
             pass.old.held.noted < length pass.new.held.seen }
         ensures noted { pass.old.held.noted ≤ pass.new.held.noted }
     {
-        self.make_turn(rt, pass, &Proposal::of(proposal));
+        self.gate.door().enter(rt);
+        self.turn_inside(rt, pass, &Stay::of(proposal));
+        self.gate.door().leave();
         pass.last().same()
     }
 
-    /// Makes the same turn. It answers nothing, since the pass then has it as its last one.
-    pub fn make_turn<R: Wait>(&self, rt: &R, pass: &mut ProcessPass<W>, proposal: &Proposal)
+    /// Makes the same turn as the next one of a stay: where the thread is not inside it comes in first, and where the
+    /// stay is over it goes out. It answers nothing, since the pass then has the turn as its last one.
+    pub fn make_turn<R: Wait>(&self, rt: &R, pass: &mut ProcessPass<W>, stay: &mut Stay)
         requires ours { IsPassOf self.now pass.old }
-        requires proposal { IfSome proposal.now (λ a. a ≡ advanced self.now.name.inputs.image.text a.before) }
+        requires fits { AreAdvances self.now.name.inputs.image.text stay.old.places }
+        ensures ours { IsPassOf self.now pass.new }
+        ensures number { pass.new.held.number ≡ pass.old.held.number }
+        ensures legal { IsLegal (start self.now.name.inputs) pass.new.held.seen }
+        ensures turn { turn_after self.now.name.inputs pass.new.held.seen pass.new.held.number ≡ Some pass.new.last }
+        ensures rests { has_ended pass.old.last.status ≡ true → pass.new ≡ pass.old }
+        ensures goes_on { has_ended pass.old.last.status ≡ false →
+            GoesOn pass.old.held.number pass.old.held.seen pass.new.held.seen }
+        ensures later { has_ended pass.old.last.status ≡ false →
+            pass.old.held.noted < length pass.new.held.seen }
+        ensures noted { pass.old.held.noted ≤ pass.new.held.noted }
+        ensures fits { AreAdvances self.now.name.inputs.image.text stay.new.places }
+    {
+        if !stay.is_inside() {
+            self.gate.door().enter(rt);
+        }
+        self.turn_inside(rt, pass, stay);
+        if !stay.goes_on(pass.last()) {
+            self.gate.door().leave();
+        }
+    }
+
+    /// Makes the same turn for a thread that is inside.
+    #[inline(always)]
+    fn turn_inside<R: Wait>(&self, rt: &R, pass: &mut ProcessPass<W>, stay: &Stay)
+        requires ours { IsPassOf self.now pass.old }
+        requires proposal { IfSome (offered stay.now) (λ a. a ≡ advanced self.now.name.inputs.image.text a.before) }
         ensures ours { IsPassOf self.now pass.new }
         ensures number { pass.new.held.number ≡ pass.old.held.number }
         ensures legal { IsLegal (start self.now.name.inputs) pass.new.held.seen }
@@ -196,7 +232,7 @@ impl<W: World> Process<W> {
             return;
         }
         if let Some(last) = pass.last.take() {
-            *pass.last = Some(take_turn(&self.gate, rt, &mut pass.pass, proposal, last));
+            *pass.last = Some(take_turn(&self.gate, rt, &mut pass.pass, stay, last));
         }
     }
 

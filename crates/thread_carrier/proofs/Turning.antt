@@ -1,7 +1,7 @@
 -- One turn more of a thread that is carried.
 use Rattle.std.proofs.Common.{◌≡◌, ◌+◌, ◌<◌, ◌++◌, ◌∷◌, ◌∙◌, ℕ, suc, [], List, get_or, length, refl, ap, subst, arith, append_assoc, append-nil, sym}
 use Rattle.std.specs.List.{AllZip}
-use Rattle.kernel_core.specs.Histories.{GoesOn, steps_by}
+use Rattle.kernel_core.specs.Histories.{GoesOn}
 use Rattle.process_core.proofs.Offers.{one_more}
 use Rattle.process_core.specs.Running.{Carried}
 use Rattle.thread_carrier.specs.Turned.{HasTurned}

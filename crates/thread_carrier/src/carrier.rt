@@ -6,7 +6,7 @@ ghost use Rattle.thread_carrier.specs.Turned.{HasTurned};
 
 use lwc_base::MOST_THREADS;
 use lwc_io::Gate;
-use process_core::{Process, ProcessPass, Proposal};
+use process_core::{Process, ProcessPass, Stay};
 use std::sync::Wait;
 use std::thread;
 use std::thread::Threads;
@@ -20,7 +20,8 @@ pub struct Carrier<W: World> {
 }
 
 /// Carries a thread to its end. For each turn it first advances the thread's registers, outside the lock, unless the
-/// thread is alone; then it comes to the gate; then it makes the turn with that advance as its proposal. It may wait,
+/// thread is alone; then it comes to the gate; then it makes the turn with that advance as its proposal. Where the gate
+/// does not wait, a few turns whose advances rest on the text alone are made in one stay inside the lock. It may wait,
 /// and takes no memory.
 pub fn carry<R: Wait, W: World, G: Gate>(
     rt: &R,
@@ -35,11 +36,11 @@ pub fn carry<R: Wait, W: World, G: Gate>(
     ensures ended { has_ended carrier.new.pass.last.status ≡ true }
     ensures turns { HasTurned carrier.old.pass carrier.old.turns carrier.new.pass carrier.new.turns }
 {
-    let mut proposal = Proposal::none();
+    let mut stay = Stay::new(process.text(), gate.may_wait());
     'turns: while !carrier.pass.last().has_ended() {
-        process.propose(&carrier.pass, &mut proposal);
+        process.propose(&carrier.pass, &mut stay);
         gate.before(rt, carrier.pass.thread(), carrier.turns);
-        process.make_turn(rt, &mut carrier.pass, &proposal);
+        process.make_turn(rt, &mut carrier.pass, &mut stay);
         carrier.turns += 1;
     }
 }

@@ -6,7 +6,7 @@ use Rattle.lwc_stream.proofs.Turns.{one_turn_more}
 use Rattle.process_core.proofs.Offers.{longer}
 use Rattle.lwc_stream.specs.Queues.{End}
 use Rattle.lwc_stream.specs.Replies.{finished_by}
-use Rattle.process_core.specs.Running.{Carried, IsPassOf}
+use Rattle.process_core.specs.Running.{AreAdvances, Carried, IsPassOf}
 use Rattle.snapshot_host.specs.declared.finishing.Finished.{Finished}
 use Rattle.lwc_stream.proofs.worker.serve.Goals as goal
 
@@ -16,6 +16,7 @@ turns-init g c = record {
   number = refl;
   queue = refl;
   put = c.requires.fresh.empty ∙ sym (none_yet _ _ _ c.requires.fresh.unseen);
+  fits = subst (λ l. AreAdvances l c.new-stay.result.places) c.text.ensures c.new-stay.ensures.fits;
   few = omega arith;
 }
 
@@ -34,5 +35,6 @@ turns-preserved g c =
       put = ap (λ (e : End). e.values) c.hand_on.ensures.puts
           ∙ (ap (λ (l : List Finished). l ++ replies_of q.last.finished) c.turns.invariant.put
           ∙ (sym (one_turn_more inputs p q same on c.make_turn.ensures.turn) ∙ ap (finished_by inputs) (sym kept)));
+      fits = c.make_turn.ensures.fits;
       few = omega (arith, longer _ _ _ on, c.turns.invariant.few, ap (λ (r : Carried). length r.held.seen) kept);
     }

@@ -1,6 +1,7 @@
-use Rattle.std.proofs.Common.{rules, ◌≡◌, ◌∙◌, false, refl, arith}
+use Rattle.std.proofs.Common.{rules, ◌≡◌, ◌∙◌, false, refl, subst, arith}
 use Rattle.kernel_core.specs.Machine.{has_ended}
 use Rattle.process_core.proofs.Offers.{longer}
+use Rattle.process_core.specs.Running.{AreAdvances}
 use Rattle.thread_carrier.proofs.Turning.{none_turned, one_turn_more}
 use Rattle.thread_carrier.proofs.carrier.carry.Goals as goal
 
@@ -9,6 +10,7 @@ turns-init g c = record {
   ours = c.requires.ours;
   number = refl;
   turned = none_turned c.args.carrier.now.pass c.args.carrier.now.turns;
+  fits = subst (λ l. AreAdvances l c.new-stay.result.places) c.text.ensures c.new-stay.ensures.fits;
   few = omega arith;
 }
 
@@ -20,5 +22,6 @@ turns-preserved g c =
       ours = c.make_turn.ensures.ours;
       number = c.make_turn.ensures.number ∙ c.turns.invariant.number;
       turned = one_turn_more c.args.carrier.now.pass c.turns.carrier.pass c.make_turn.new.pass c.args.carrier.now.turns c.turns.carrier.turns c.turns.invariant.turned c.turns.invariant.number on;
+      fits = c.make_turn.ensures.fits;
       few = omega (arith, longer _ _ _ on, c.turns.invariant.few);
     }

@@ -1,4 +1,4 @@
-use Rattle.std.proofs.Common.{◌≡◌, ◌∙◌, ◌<◌, ◌^◌, All, length, map, sym, ap, subst, true, arith}
+use Rattle.std.proofs.Common.{◌≡◌, ◌∙◌, ◌<◌, ◌^◌, All, map, sym, ap, subst, true, arith}
 use Rattle.std.proofs.lemmas.List.Elements.{All-map}
 use Rattle.kernel_core.specs.Machine.{has_ended}
 use Rattle.process_core.specs.Running.{AreAllOf, IsPassOf}
