@@ -153,13 +153,12 @@ fn propose(text: &Text, regs: &Regs, most: usize, places: &mut [Advance; MOST_TU
     ensures first { slice_get places.new 0 ≡ Some (advanced text.now regs.now) }
     ensures fits { AreAdvances text.now places.new }
 {
-    let mut from = *regs;
-    'places: for i in 0..most {
-        advance_in(text, &from, &mut places[i]);
-        match regs_left(&places[i]) {
-            Some(left) => from = left,
-            None => return i + 1,
-        }
+    advance_in(text, regs, &mut places[0]);
+    'places: for i in 1..most {
+        let Some(left) = regs_left(&places[i - 1]) else {
+            return i;
+        };
+        advance_in(text, &left, &mut places[i]);
     }
     most
 }
