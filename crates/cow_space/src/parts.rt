@@ -6,7 +6,7 @@ ghost use Rattle.cow_space.specs.Changes.{begun, states_with, with_right};
 ghost use Rattle.cow_space.specs.Maps.{put_range};
 
 use lwc_base::{PageNumber, Right};
-use range_map::{PageState, RangeMap, Segment};
+use range_map::{PageState, RangeMap, Segment, ended_by};
 
 /// The state of a segment's pages, with another right where one is given.
 fn state_given(segment: &Segment, right: Option<Right>) -> PageState
@@ -41,7 +41,7 @@ fn last_before(last: Option<PageState>, p: PageNumber, start: PageNumber) -> Opt
 
 /// The number of ranges that begin at the pages of segments from `from` up to and without `to`, and the state
 /// of the last of these pages; all get another right where one is given. `before` is the state of the page
-/// before the first. It goes from segment to segment.
+/// before the first. The first segment is searched by halving, and none is looked at past the last page.
 pub(crate) fn count_part(
     segments: &[Segment],
     from: PageNumber,
@@ -61,21 +61,23 @@ pub(crate) fn count_part(
     let mut count = 0u32;
     let mut last = before;
     let mut p = from;
-    for segment in segments {
+    let mut k = ended_by(segments, from);
+    'segments: while k < segments.len() && segments[k].from < to {
+        let segment = &segments[k];
         let start = segment.from.max(p);
         let end = segment.to.min(to);
-        if start < end {
-            let state = Some(state_given(segment, right));
-            count += begun(last_before(last, p, start), state);
-            last = state;
-            p = end;
-        }
+        let state = Some(state_given(segment, right));
+        count += begun(last_before(last, p, start), state);
+        last = state;
+        p = end;
+        k += 1;
     }
     (count, last_before(last, p, to))
 }
 
 /// Gives the pages from `from` up to and without `to` the states that they have by segments, where no page
-/// from `from` on is present; all get another right where one is given. It goes from segment to segment.
+/// from `from` on is present; all get another right where one is given. The first segment is searched by
+/// halving, and none is looked at past the last page.
 pub(crate) fn append_part(
     kinds: &mut RangeMap,
     segments: &[Segment],
@@ -93,12 +95,13 @@ pub(crate) fn append_part(
         ≡ put_range (state_at kinds.old) from to (states_with segments.now right) q }
 {
     let mut p = from;
-    for segment in segments {
+    let mut k = ended_by(segments, from);
+    'segments: while k < segments.len() && segments[k].from < to {
+        let segment = &segments[k];
         let start = segment.from.max(p);
         let end = segment.to.min(to);
-        if start < end {
-            kinds.append(start, end, state_given(segment, right));
-            p = end;
-        }
+        kinds.append(start, end, state_given(segment, right));
+        p = end;
+        k += 1;
     }
 }

@@ -3,5 +3,5 @@ pub mod Alike
 pub mod Built
 pub mod Appended
 pub mod Edges
-mod Halved
+pub mod Halved
 pub mod Walks

@@ -9,5 +9,5 @@ pub mod segment;
 
 pub use laws::{ranges_are_those_of_the_context, ranges_go_by_states};
 pub use map::{RangeMap, TooManyRanges};
-pub use runs::sooner_edge;
+pub use runs::{ended_by, sooner_edge};
 pub use segment::{Change, PageState, Segment, SegmentKind};

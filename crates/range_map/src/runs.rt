@@ -26,7 +26,7 @@ pub(crate) fn state_at(segments: &[Segment], p: PageNumber) -> Option<PageState>
 /// The number of segments that end at a page or before it. The next one, if there is one, has the page or begins
 /// past it. Most spaces have one range, so the first segment is looked at before all are halved.
 #[inline(always)]
-fn ended_by(segments: &[Segment], p: PageNumber) -> usize
+pub fn ended_by(segments: &[Segment], p: PageNumber) -> usize
     requires { IsCanonical segments.now }
     ensures within { result ≤ length segments.now }
     ensures before { (k : ℕ) (d : Segment) → k < result → (slice_index_or segments.now k d).to ≤ p }
