@@ -1,5 +1,6 @@
 -- Rows by their numbers among those that were made.
-use Rattle.std.specs.Prelude.{◌≡◌, ℕ, ◌+◌, ◌<◌, ◌≤◌, ◌^◌, List, count_by, length, map, nat_lt, slice_index, slice_index_or}
+use Rattle.std.specs.Prelude.{◌≡◌, ℕ, ◌+◌, ◌<◌, ◌≤◌, ◌^◌, List, count_by, length, map, nat_lt}
+use Rattle.std.specs.Prelude.{slice_index, slice_index_or}
 
 module _ {A : Type 0} (fresh : A) where
   -- the rows of these numbers

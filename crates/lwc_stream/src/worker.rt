@@ -22,9 +22,9 @@ pub(crate) struct Worker<'a, W: World> {
 
 /// Carries the thread to its end. For each turn it first advances the thread's registers, outside the lock, unless
 /// the thread is alone; then it comes to the gate; then it makes the turn with that advance as its proposal. Where the
-/// gate does not wait, a few turns whose advances rest on the text alone are made in one stay inside the lock, up to one
-/// that finishes a request. A reply that the turn finished is put into the queue, and the caller is notified. It may
-/// wait.
+/// gate does not wait, a few turns whose advances rest on the text alone are made in one stay inside the lock, up to
+/// one that finishes a request. A reply that the turn finished is put into the queue, and the caller is notified. It
+/// may wait.
 pub(crate) fn serve<R: Wait, W: World, G: Gate>(
     rt: &R,
     process: &Process<W>,

@@ -30,8 +30,8 @@ pub fn monitor<'a, F: Files, O: Sink>(
     ensures ended { Ended IsText
         (outside (F.seen files.old) (F.seen files.new) (O.seen out.old) (O.seen out.new))
         (replay_plan works.Monitoring image.now schedule.now None settings.now) (end_of result) }
-    ensures fetches { Fetched
-        (AreFetchesOf (F.seen files.old).contents (replay_plan works.Monitoring image.now schedule.now None settings.now))
+    ensures fetches { Fetched (AreFetchesOf (F.seen files.old).contents
+        (replay_plan works.Monitoring image.now schedule.now None settings.now))
         (F.seen files.old).fetches (F.seen files.new).fetches }
 {
     match replay_files(alloc, files, image, schedule, None, settings) {

@@ -1,5 +1,6 @@
 -- What contracts see of a process and of its passes.
-use Rattle.std.specs.Prelude.{◌≡◌, ◌<◌, ◌≤◌, ℕ, Bool, List, All, Contains, Option, None, Some, length, map, slice_get, take}
+use Rattle.std.specs.Prelude.{◌≡◌, ◌<◌, ◌≤◌, ℕ, Bool, List, All, Contains, Option, None, Some, length, map}
+use Rattle.std.specs.Prelude.{slice_get, take}
 use Rattle.guest_isa.specs.declared.instr.Instr.{Instr}
 use Rattle.guest_machine.specs.Advances.{advanced}
 use Rattle.guest_machine.specs.declared.progress.Advance.{Advance}
@@ -18,8 +19,8 @@ pub record Carried : Type 0 where
   pub held : Held Opened
   pub last : Turn
 
--- a stay inside the lock: whether the thread is inside, how many of its turns were made, and the places of proposals, of
--- which this many are of its turns
+-- a stay inside the lock: whether the thread is inside, how many of its turns were made, and the places of proposals,
+-- of which this many are of its turns
 pub record Staying : Type 0 where
   pub inside : Bool
   pub made : ℕ

@@ -47,7 +47,7 @@ impl Model for Stay {
 }
 
 impl Stay {
-    /// A place for the stays of a thread that runs this text, each of several turns or, where it is to be short, of one.
+    /// A place for the stays of a thread that runs this text, each of several turns, or of one where it is to be short.
     #[tactic(auto, unfolding(guest_machine::specs::Advances::advanced))]
     pub fn new(text: &Text, is_short: bool) -> Stay
         ensures outside { result.inside ≡ false }
@@ -174,8 +174,8 @@ fn advance_in(text: &Text, regs: &Regs, place: &mut Advance)
     place.next = run_on(text, &mut place.after);
 }
 
-/// The registers that the step of this advance leaves, where they rest on the text alone: those of a pause, and those of
-/// a store that is not refused. No clause says so: a proposal from other registers is not used.
+/// The registers that the step of this advance leaves, where they rest on the text alone: those of a pause, and those
+/// of a store that is not refused. No clause says so: a proposal from other registers is not used.
 fn regs_left(advance: &Advance) -> Option<Regs> {
     let Regs { r, pc } = advance.after;
     match advance.next {
