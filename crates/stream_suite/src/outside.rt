@@ -127,19 +127,21 @@ impl Gate for HoldingGate {
 /// time is up.
 const YIELDS: u32 = 4_000_000;
 
-/// A gate that holds the first turn of each thread until as many threads as are expected stand at it.
+/// A gate that holds one turn of each thread until as many threads as are expected stand at it.
 #[derive(Drop)]
 pub struct FullGate {
     expected: u64,
+    turn: u64,
     came: AtomicU64,
     ran_out: AtomicBool,
 }
 
 impl FullGate {
-    /// A gate to which nobody has come, and that expects this many threads.
-    pub(crate) fn new(expected: u32) -> FullGate {
+    /// A gate to which nobody has come, and that expects this many threads before this turn of theirs.
+    pub(crate) fn new(expected: u32, turn: u64) -> FullGate {
         FullGate {
             expected: u64::from(expected),
+            turn,
             came: AtomicU64::new(0),
             ran_out: AtomicBool::new(false),
         }
@@ -152,10 +154,10 @@ impl FullGate {
 }
 
 impl Gate for FullGate {
-    /// Counts a thread that comes for its first turn, and holds it until all have come. Once the looks of one have run
-    /// out, those that come later are not held.
+    /// Counts a thread that comes for that turn, and holds it until all have come. Once the looks of one have run out,
+    /// those that come later are not held.
     fn before<R: Wait>(&self, _rt: &R, _thread: u32, turn: u64) {
-        if turn != 0 || self.has_run_out() {
+        if turn != self.turn || self.has_run_out() {
             return;
         }
         self.came.fetch_add(1, Ordering::SeqCst);

@@ -127,15 +127,16 @@ fn count_of_sevens(kernel: &Kernel<LazyWorld>) -> u32 {
     count
 }
 
-/// The number of steps of a run of this many threads that are all held at once, how many of them ended well with what
-/// they stored, and whether the looks of the gate ran out.
+/// The number of steps of a run of this many threads that are all held at once before this turn, how many of them
+/// ended well with what they stored, and whether the looks of the gate ran out.
 fn run_while_all_are_held<R: AllocGlobal + Abort + Threads + Wait + Sync>(
     rt: &R,
     threads: u32,
+    turn: u64,
 ) -> Result<(usize, u32, bool), Fail>
     requires { threads ≤ 16 }
 {
-    let gate = FullGate::new(threads);
+    let gate = FullGate::new(threads, turn);
     let kernel = carried(rt, run_of_many(rt, threads)?, &gate)?;
     let left = (kernel.schedule().len(), count_of_sevens(&kernel));
     drop(kernel);
@@ -146,12 +147,20 @@ fn run_while_all_are_held<R: AllocGlobal + Abort + Threads + Wait + Sync>(
 fn all_threads_of_a_run_are_held_at_once(rt: HostRuntime) -> Result<(), Fail> {
     for threads in HELD_AT_ONCE {
         assert!(rt; threads <= 16);
-        let left = run_while_all_are_held(&rt, threads)?;
+        let left = run_while_all_are_held(&rt, threads, 0)?;
         // A thread makes three steps: it stores, loads and halts.
         assert!(rt;
             left == (3 * threads as usize, threads, false),
             "all of {threads} threads are held"
         );
     }
+    Ok(())
+}
+
+#[test]
+fn threads_that_are_held_between_two_turns_are_outside(rt: HostRuntime) -> Result<(), Fail> {
+    // A thread that stayed inside behind its store would keep the others from theirs.
+    let left = run_while_all_are_held(&rt, 3, 1)?;
+    assert!(rt; left == (9, 3, false));
     Ok(())
 }
