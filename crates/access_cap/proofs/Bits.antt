@@ -9,10 +9,10 @@ use Rattle.std.proofs.lemmas.Nat.{and_le_l}
 use Rattle.std.proofs.lemmas.Nat.Bits.{bit_at-lt, bit_at-zero, bit_at_and, bit_at_not, bit_at_ones, bit_at_ones_above, bit_at_or, same_from_bits_below}
 use Rattle.lwc_base.specs.Capabilities.{has_bit, is_named}
 use Rattle.lwc_base.specs.declared.item.Item.{Item}
-use Rattle.lwc_base.specs.declared.key.Key.{Key}
-use Rattle.lwc_base.specs.declared.key.Kind.{Kind}
-use Rattle.lwc_base.specs.declared.key.Kind.TheVariants.{Page, Slot, Cred}
 use Rattle.lwc_base.specs.Modes.{mode, kind_of, names, number_of, same_kind}
+use Rattle.lwc_types.specs.declared.key.Key.{Key}
+use Rattle.lwc_types.specs.declared.key.Kind.{Kind}
+use Rattle.lwc_types.specs.declared.key.Kind.TheVariants.{Page, Slot, Cred}
 
 pub has_bit-or : (a b i : ℕ) → has_bit (bit_or a b) i ≡ (has_bit a i || has_bit b i)
 has_bit-or a b i = rw (bit_at_or a b i) (grind (arith, nat_tests, bit_at-lt a i, bit_at-lt b i))

@@ -5,11 +5,11 @@ use Rattle.std.proofs.lemmas.Bool.{and_from, and_parts, both_ways, lt-ltb, ltb-t
 use Rattle.access_cap.proofs.Keys.{HasKeysOf, within_most}
 use Rattle.lwc_base.specs.Capabilities.{has_key}
 use Rattle.lwc_base.specs.declared.descriptor.Cap.{Cap}
-use Rattle.lwc_base.specs.declared.key.Key.{Key}
-use Rattle.lwc_base.specs.declared.limits.TheConstants.{MOST_PAGES}
 use Rattle.lwc_base.specs.Modes.{IsKey, kind_of, limit, number_of}
 use Rattle.lwc_base.specs.Sharing.{any_key}
 use Rattle.lwc_base.proofs.Needs.{any_key-none, any_key-some}
+use Rattle.lwc_types.specs.declared.key.Key.{Key}
+use Rattle.lwc_types.specs.declared.limits.TheConstants.{MOST_PAGES}
 
 -- a test is another's opposite where each way is shown from one side
 opposite : (t x : Bool) → (t ≡ true → x ≡ false) → (x ≡ false → t ≡ true) → t ≡ not x

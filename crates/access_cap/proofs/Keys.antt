@@ -14,11 +14,11 @@ use Rattle.access_cap.proofs.Bits.{has_bit-and, has_bit-zero, low_word-has}
 use Rattle.lwc_base.specs.Capabilities.{IsCap, full_cap, full_word, has_bit, has_key, is_named, restricted}
 use Rattle.lwc_base.specs.declared.descriptor.Cap.{Cap}
 use Rattle.lwc_base.specs.declared.item.Item.{Item}
-use Rattle.lwc_base.specs.declared.key.Key.{Key}
-use Rattle.lwc_base.specs.declared.key.Key.TheVariants.{Page, Slot, Cred}
-use Rattle.lwc_base.specs.declared.limits.TheConstants.{MOST_PAGES}
 use Rattle.lwc_base.specs.Modes.{IsKey, kind_of, limit, number_of}
 use Rattle.lwc_base.proofs.Caps.{cap_of-valid, restricted-has, same_keys}
+use Rattle.lwc_types.specs.declared.key.Key.{Key}
+use Rattle.lwc_types.specs.declared.key.Key.TheVariants.{Page, Slot, Cred}
+use Rattle.lwc_types.specs.declared.limits.TheConstants.{MOST_PAGES}
 
 -- the words below a place are what each has to be
 pub record HasWords (is_word : ℕ → ℕ → Type 0) (i : ℕ) (words : List ℕ) : Type 0 where

@@ -10,16 +10,16 @@ use Rattle.access_cap.proofs.Bits.{is_named-any}
 use Rattle.access_cap.proofs.Keys.{full_has, within_most, zeros_have_none}
 use Rattle.lwc_base.specs.Capabilities.{covers, empty_cap, full_cap, has_bit, has_key, is_named}
 use Rattle.lwc_base.specs.declared.descriptor.Cap.{Cap}
-use Rattle.lwc_base.specs.declared.descriptor.TheConstants.{SLOTS}
 use Rattle.lwc_base.specs.declared.item.Item.{Item}
-use Rattle.lwc_base.specs.declared.key.Key.{Key}
-use Rattle.lwc_base.specs.declared.key.Key.TheVariants.{Page, Slot, Cred}
-use Rattle.lwc_base.specs.declared.key.Kind.{Kind}
-use Rattle.lwc_base.specs.declared.key.Kind.TheVariants as kind
-use Rattle.lwc_base.specs.declared.limits.TheConstants.{MOST_PAGES}
 use Rattle.lwc_base.specs.Modes.{IsItem, IsKey, kind_of, limit, names}
 use Rattle.lwc_base.specs.Sharing.{any_key}
 use Rattle.lwc_base.proofs.Needs.{any_key-none, any_key-some}
+use Rattle.lwc_types.specs.declared.key.TheConstants.{SLOTS}
+use Rattle.lwc_types.specs.declared.key.Key.{Key}
+use Rattle.lwc_types.specs.declared.key.Key.TheVariants.{Page, Slot, Cred}
+use Rattle.lwc_types.specs.declared.key.Kind.{Kind}
+use Rattle.lwc_types.specs.declared.key.Kind.TheVariants as kind
+use Rattle.lwc_types.specs.declared.limits.TheConstants.{MOST_PAGES}
 
 -- whether a key passes a test and is missing
 abbrev is_missing : Cap → (Key → Bool) → Key → Bool

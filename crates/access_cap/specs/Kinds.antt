@@ -2,10 +2,10 @@
 use Rattle.std.specs.Prelude.{ℕ, ◌&&◌, Bool, not}
 use Rattle.lwc_base.specs.Capabilities.{has_bit, has_key}
 use Rattle.lwc_base.specs.declared.descriptor.Cap.{Cap}
-use Rattle.lwc_base.specs.declared.key.Kind.{Kind}
-use Rattle.lwc_base.specs.declared.key.Kind.TheVariants.{Page, Slot, Cred}
 use Rattle.lwc_base.specs.Modes.{kind_of}
 use Rattle.lwc_base.specs.Sharing.{any_key}
+use Rattle.lwc_types.specs.declared.key.Kind.{Kind}
+use Rattle.lwc_types.specs.declared.key.Kind.TheVariants.{Page, Slot, Cred}
 
 -- whether a mask chooses a kind: bit 0 the pages, bit 1 the slots, bit 2 the credential
 abbrev pub is_chosen : ℕ → Kind → Bool

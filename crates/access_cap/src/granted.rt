@@ -7,7 +7,7 @@ ghost use Rattle.lwc_base.specs.Lending.{descriptor_of, keys_of};
 ghost use Rattle.lwc_base.specs.Modes as modes;
 ghost use Rattle.lwc_base.specs.Modes.{kind_of};
 ghost use Rattle.lwc_base.specs.Sharing.{any_key};
-ghost use Rattle.lwc_base.specs.declared.limits.TheConstants.{MOST_PAGES};
+ghost use Rattle.lwc_types.specs.declared.limits.TheConstants.{MOST_PAGES};
 
 use crate::kinds::{Mask, covers_kinds};
 use crate::sets::{covers, meet};

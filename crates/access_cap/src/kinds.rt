@@ -2,8 +2,8 @@ ghost use Rattle.std.specs.Prelude.{⊤, ◌≡◌, ◌≤◌, ◌&&◌, [], ◌
 ghost use Rattle.access_cap.specs.Kinds.{has_kinds, is_chosen};
 ghost use Rattle.lwc_base.specs.Capabilities.{has_key};
 ghost use Rattle.lwc_base.specs.Modes.{IsKey, kind_of, limit, number_of};
-ghost use Rattle.lwc_base.specs.declared.key.Key.{Key};
-ghost use Rattle.lwc_base.specs.declared.limits.TheConstants.{MOST_PAGES};
+ghost use Rattle.lwc_types.specs.declared.key.Key.{Key};
+ghost use Rattle.lwc_types.specs.declared.limits.TheConstants.{MOST_PAGES};
 
 use crate::sets::includes;
 use crate::whole::full;

@@ -2,8 +2,8 @@ ghost use Rattle.std.specs.Prelude.{◌≡◌, ◌↔◌, ◌≤◌, true};
 ghost use Rattle.lwc_base.specs.Capabilities as caps;
 ghost use Rattle.lwc_base.specs.Capabilities.{has_key, restricted};
 ghost use Rattle.lwc_base.specs.Modes.{IsKey};
-ghost use Rattle.lwc_base.specs.declared.key.Key.{Key};
-ghost use Rattle.lwc_base.specs.declared.limits.TheConstants.{MOST_PAGES};
+ghost use Rattle.lwc_types.specs.declared.key.Key.{Key};
+ghost use Rattle.lwc_types.specs.declared.limits.TheConstants.{MOST_PAGES};
 
 use crate::whole::full;
 use crate::words::{has_bits_of, named_word};

@@ -1,8 +1,8 @@
 ghost use Rattle.std.specs.Prelude.{◌≡◌, ◌≤◌, false, nat_lt};
 ghost use Rattle.lwc_base.specs.Capabilities.{empty_cap, full_cap, has_key};
 ghost use Rattle.lwc_base.specs.Modes.{IsKey, kind_of, limit, number_of};
-ghost use Rattle.lwc_base.specs.declared.limits.TheConstants.{MOST_PAGES};
-ghost use Rattle.lwc_base.specs.declared.key.Key.{Key};
+ghost use Rattle.lwc_types.specs.declared.limits.TheConstants.{MOST_PAGES};
+ghost use Rattle.lwc_types.specs.declared.key.Key.{Key};
 
 use crate::words::low_word;
 use lwc_base::{Cap, PageNumber};

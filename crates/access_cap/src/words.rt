@@ -2,7 +2,7 @@ ghost use Rattle.std.specs.Prelude.{◌≡◌, ◌↔◌, ◌<◌, ◌+◌, ◌*
 ghost use Rattle.lwc_base.specs.Capabilities.{has_bit, is_named};
 ghost use Rattle.lwc_base.specs.Capabilities as spec;
 ghost use Rattle.lwc_base.specs.Modes.{kind_of, names, number_of};
-ghost use Rattle.lwc_base.specs.declared.key.Key.{Key};
+ghost use Rattle.lwc_types.specs.declared.key.Key.{Key};
 
 use lwc_base::{Item, Kind};
 

@@ -14,17 +14,17 @@ use Rattle.kernel_core.specs.Machine.{Environment, Machine, Serve}
 use Rattle.kernel_core.specs.Step.{AfterStep, Outcome, address, advance_outcome, after_outcome, after_thread, args_of, call_outcome, counted, ended_outcome, guest_calls, is_aligned, loaded, next_outcome, roots, shared_outcome, step, step_by, store_outcome, stored_outcome, refused, switched, thread_outcome, three_times, unchanged, with_regs, with_world}
 use Rattle.kernel_core.specs.declared.calling.TheConstants.{LW_CREATE, LW_OVERLAY, LW_RESTRICT, LW_SWITCH, LW_SYSCALL}
 use Rattle.kernel_core.specs.declared.thread.Thread.{Thread}
-use Rattle.lwc_base.proofs.Orders.{other_name}
-use Rattle.lwc_base.specs.Registers.{fresh_registers}
 use Rattle.lwc_base.specs.World.{World}
 use Rattle.lwc_base.specs.declared.answer.Moved.{Moved}
 use Rattle.lwc_base.specs.declared.answer.Moved.TheVariants as moved
+use Rattle.lwc_types.proofs.Orders.{other_name}
+use Rattle.lwc_types.specs.Registers.{fresh_registers}
 use Rattle.lwc_switch.specs.Switch.{switch}
 use Rattle.lwc_base.specs.Store.{Absent, Done, Full, Piece, ReadOnly, Stored, store}
-use Rattle.lwc_base.specs.declared.fault.ThreadStatus.{ThreadStatus}
-use Rattle.lwc_base.specs.declared.fault.ThreadStatus.TheVariants as status
-use Rattle.lwc_base.specs.declared.name.Name.{Name}
-use Rattle.lwc_base.specs.declared.page.TheConstants.{PAGE_BYTES}
+use Rattle.lwc_types.specs.declared.fault.ThreadStatus.{ThreadStatus}
+use Rattle.lwc_types.specs.declared.fault.ThreadStatus.TheVariants as status
+use Rattle.lwc_types.specs.declared.name.Name.{Name}
+use Rattle.lwc_types.specs.declared.page.TheConstants.{PAGE_BYTES}
 use Rattle.blank_steps.specs.Blanks.{ActsOutside, blank_in}
 use Rattle.world_views.specs.Outside.{CallsAlike, IsOutside, covered}
 use Rattle.world_views.proofs.BlankAlike.{calls-alike}

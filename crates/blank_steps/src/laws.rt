@@ -4,7 +4,7 @@ ghost use Rattle.std.specs.Prelude.{◌≡◌, ℕ, None};
 ghost use Rattle.blank_steps.specs.Blanks.{ActsOutside, blank_in};
 ghost use Rattle.kernel_core.specs.Machine.{Machine};
 ghost use Rattle.kernel_core.specs.Step.{step};
-ghost use Rattle.lwc_base.specs.declared.name.Name.{Name};
+ghost use Rattle.lwc_types.specs.declared.name.Name.{Name};
 
 /// A step of a run that is made outside a context, by who cannot open it, depends on no byte in the context's own
 /// pages: where these bytes are zero, it is the same step.

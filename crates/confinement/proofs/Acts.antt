@@ -8,14 +8,8 @@ use Rattle.kernel_core.specs.declared.calling.TheConstants.{LW_CREATE, LW_OVERLA
 use Rattle.kernel_core.specs.declared.thread.Thread.{Thread}
 use Rattle.lwc_base.specs.declared.descriptor.Cap.{Cap}
 use Rattle.lwc_base.specs.declared.descriptor.Descriptor.TheVariants.{Ctx, Reply, Request}
-use Rattle.lwc_base.specs.declared.descriptor.TheConstants.{SLOTS}
 use Rattle.lwc_base.specs.declared.item.Item.{Item}
 use Rattle.lwc_base.specs.declared.item.Mode.TheVariants.{Share}
-use Rattle.lwc_base.specs.declared.key.Key.{Key}
-use Rattle.lwc_base.specs.declared.key.Key.TheVariants.{Page, Slot, Cred}
-use Rattle.lwc_base.specs.declared.key.Kind.TheVariants as kinds
-use Rattle.lwc_base.specs.declared.name.Name.{Name}
-use Rattle.lwc_base.specs.declared.regs.Regs.{Regs}
 use Rattle.lwc_base.specs.Capabilities.{empty_cap, full_cap, has_key, restricted}
 use Rattle.lwc_base.specs.Cells.{slot_at, value_of}
 use Rattle.lwc_base.specs.Channels.{HasItsFiles}
@@ -27,6 +21,12 @@ use Rattle.lwc_base.specs.Slots.{lowest_empty}
 use Rattle.lwc_base.specs.Sound.{IsSound}
 use Rattle.lwc_base.specs.Store.{Done, Piece, store}
 use Rattle.lwc_base.specs.World.{World, add_context, is_live, next_context}
+use Rattle.lwc_types.specs.declared.key.TheConstants.{SLOTS}
+use Rattle.lwc_types.specs.declared.key.Key.{Key}
+use Rattle.lwc_types.specs.declared.key.Key.TheVariants.{Page, Slot, Cred}
+use Rattle.lwc_types.specs.declared.key.Kind.TheVariants as kinds
+use Rattle.lwc_types.specs.declared.name.Name.{Name}
+use Rattle.lwc_types.specs.declared.regs.Regs.{Regs}
 use Rattle.lwc_create.specs.Create as create
 use Rattle.lwc_create.specs.Create.{after_call, no_caller}
 use Rattle.lwc_overlay.specs.Named.{items_of}
@@ -61,7 +61,7 @@ use Rattle.lwc_base.proofs.ItemModes.{mode-shared}
 use Rattle.lwc_syscall.proofs.Covered.{holder-covered}
 use Rattle.lwc_syscall.proofs.Does.{does-one_thing}
 use Rattle.lwc_syscall.proofs.ReadOnly.{plain_keeps}
-use Rattle.lwc_base.specs.declared.fault.ThreadStatus.TheVariants.{Idle}
+use Rattle.lwc_types.specs.declared.fault.ThreadStatus.TheVariants.{Idle}
 use Rattle.kernel_core.specs.Machine.{home_of}
 use Rattle.confinement.specs.Confined.{OutOfItsHome, OutOfItsOwn, OutOfTheChosen, OutOfTheGiver}
 use Rattle.lwc_base.specs.Capabilities.{is_named}

@@ -2,16 +2,16 @@
 use Rattle.std.proofs.Common.{◌≡◌, ◌≢◌, ◌⊎◌, inl, inr, ℕ, ap, refl, sym, ◌∙◌}
 use Rattle.lwc_base.proofs.Common.{group_of_cell, value_at-same}
 use Rattle.lwc_base.proofs.Keys.{cases_key, cases_number}
-use Rattle.lwc_base.proofs.Orders.{cases_name}
 use Rattle.lwc_base.specs.declared.cell.Cell.{Cell}
 use Rattle.lwc_base.specs.declared.cell.Cell.TheVariants.{Own, Common}
-use Rattle.lwc_base.specs.declared.key.Key.{Key}
-use Rattle.lwc_base.specs.declared.name.Name.{Name}
 use Rattle.lwc_base.specs.Cells.{value_at}
 use Rattle.lwc_base.specs.Clones.{AreApart}
 use Rattle.lwc_base.specs.Keys.{ValueOf}
 use Rattle.lwc_base.specs.Sound.{HasItsGroups}
 use Rattle.lwc_base.specs.World.{World, context, group}
+use Rattle.lwc_types.proofs.Orders.{cases_name}
+use Rattle.lwc_types.specs.declared.key.Key.{Key}
+use Rattle.lwc_types.specs.declared.name.Name.{Name}
 use Rattle.confinement.specs.One.{IsOneValue}
 
 pub number_or_not : (a b : ℕ) → (a ≡ b) ⊎ (a ≢ b)

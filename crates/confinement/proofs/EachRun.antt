@@ -11,7 +11,7 @@ use Rattle.kernel_core.specs.Step.{guest_calls, step}
 use Rattle.kernel_core.specs.declared.calling.TheConstants.{LW_SWITCH}
 use Rattle.kernel_core.specs.declared.thread.Thread.{Thread}
 use Rattle.lwc_base.specs.declared.descriptor.Cap.{Cap}
-use Rattle.lwc_base.specs.declared.name.Name.{Name}
+use Rattle.lwc_types.specs.declared.name.Name.{Name}
 use Rattle.confinement.proofs.Confining.{confined, ready_thread}
 use Rattle.confinement.proofs.Fenced.{closed_fenced, closed_leaves, closed_silent, entered_closed, fenced, fenced_silent, kept_to, made_closed}
 use Rattle.confinement.proofs.Snapshots.{as_made, goes_on_as_made}
@@ -23,11 +23,11 @@ use Rattle.confinement.specs.May.{IsGiven, MakesCall, regs_at, world_of}
 use Rattle.confinement.specs.Snapshots.{IsAsMade, IsResumed, IsUntouched, Makes}
 use Rattle.lwc_base.specs.Life.{HasItsContexts}
 use Rattle.lwc_base.specs.World.{is_live}
-use Rattle.lwc_base.specs.declared.descriptor.TheConstants.{SLOTS}
 use Rattle.lwc_base.specs.declared.item.Mode.TheVariants.{Unmap}
-use Rattle.lwc_base.specs.declared.key.Key.TheVariants.{Slot}
 use Rattle.lwc_base.specs.Modes.{mode_or_copy}
 use Rattle.lwc_base.specs.Cells.{slot_at}
+use Rattle.lwc_types.specs.declared.key.TheConstants.{SLOTS}
+use Rattle.lwc_types.specs.declared.key.Key.TheVariants.{Slot}
 use Rattle.lwc_create.specs.Create as create
 use Rattle.lwc_syscall.specs.Plain.{is_written}
 

@@ -17,15 +17,15 @@ use Rattle.lwc_base.specs.declared.answer.Answer.{Answer}
 use Rattle.lwc_base.specs.declared.answer.Answer.TheVariants as answers
 use Rattle.lwc_base.specs.declared.answer.Moved.{Moved}
 use Rattle.lwc_base.specs.declared.answer.Moved.TheVariants as moved
-use Rattle.lwc_base.specs.declared.fault.Fault.{Fault}
-use Rattle.lwc_base.specs.declared.fault.Fault.TheVariants.{Budget}
-use Rattle.lwc_base.specs.declared.fault.ThreadStatus.{ThreadStatus}
-use Rattle.lwc_base.specs.declared.fault.ThreadStatus.TheVariants as status
-use Rattle.lwc_base.specs.declared.name.Name.{Name}
 use Rattle.lwc_base.specs.Cells.{value_at}
 use Rattle.lwc_base.specs.Modes.{IsKey}
 use Rattle.lwc_base.specs.Store.{Absent, Done, Full, ReadOnly, Piece, Stored, store}
 use Rattle.lwc_base.specs.World.{World, context, is_live}
+use Rattle.lwc_types.specs.declared.fault.Fault.{Fault}
+use Rattle.lwc_types.specs.declared.fault.Fault.TheVariants.{Budget}
+use Rattle.lwc_types.specs.declared.fault.ThreadStatus.{ThreadStatus}
+use Rattle.lwc_types.specs.declared.fault.ThreadStatus.TheVariants as status
+use Rattle.lwc_types.specs.declared.name.Name.{Name}
 use Rattle.lwc_syscall.specs.declared.answer.CallAnswer.{CallAnswer}
 use Rattle.lwc_syscall.specs.declared.answer.CallAnswer.TheVariants as ends
 use Rattle.confinement.proofs.Confining.{Leaves, leaves_reaped}

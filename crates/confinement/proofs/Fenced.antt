@@ -10,7 +10,6 @@ use Rattle.kernel_core.specs.Runs.{run}
 use Rattle.kernel_core.specs.Start.{Inputs}
 use Rattle.kernel_core.specs.Step.{step}
 use Rattle.kernel_core.specs.declared.thread.Thread.{Thread}
-use Rattle.lwc_base.proofs.Orders.{name-itself, other_name, same_name}
 use Rattle.lwc_base.proofs.Common.{group_of_cell}
 use Rattle.lwc_base.proofs.Puts.{live_of_common}
 use Rattle.lwc_base.specs.declared.cell.Cell.{Cell}
@@ -18,16 +17,17 @@ use Rattle.lwc_base.specs.declared.cell.Cell.TheVariants.{Own, Common}
 use Rattle.lwc_base.specs.declared.descriptor.Cap.{Cap}
 use Rattle.lwc_base.specs.declared.descriptor.Descriptor.{Descriptor}
 use Rattle.lwc_base.specs.declared.descriptor.Descriptor.TheVariants.{Console, Ctx, Empty, File, Reply, Request}
-use Rattle.lwc_base.specs.declared.descriptor.TheConstants.{SLOTS}
-use Rattle.lwc_base.specs.declared.key.Key.{Key}
-use Rattle.lwc_base.specs.declared.key.Key.TheVariants.{Page, Slot}
-use Rattle.lwc_base.specs.declared.name.Name.{Name}
 use Rattle.lwc_base.specs.Cells.{slot_at, value_at}
 use Rattle.lwc_base.specs.Clones.{HaveInCommon}
 use Rattle.lwc_base.specs.Fresh.{IsNamedContext}
 use Rattle.lwc_base.specs.Modes.{IsKey}
-use Rattle.lwc_base.specs.Names.{name_cmp}
 use Rattle.lwc_base.specs.World.{World, context, is_live}
+use Rattle.lwc_types.proofs.Orders.{name-itself, other_name, same_name}
+use Rattle.lwc_types.specs.declared.key.TheConstants.{SLOTS}
+use Rattle.lwc_types.specs.declared.key.Key.{Key}
+use Rattle.lwc_types.specs.declared.key.Key.TheVariants.{Page, Slot}
+use Rattle.lwc_types.specs.declared.name.Name.{Name}
+use Rattle.lwc_types.specs.Names.{name_cmp}
 use Rattle.confinement.proofs.Decide.{name_or_not}
 use Rattle.confinement.proofs.Fencing.{dead_empty, dead_slot, keeps_away, keeps_to, leaves_outside, mute_keeps, silent}
 use Rattle.confinement.proofs.Snapshots.{IsReached, as_made, leads_at, left_out, lived, reached_next, ready_at}

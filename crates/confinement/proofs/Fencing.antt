@@ -17,21 +17,21 @@ use Rattle.kernel_core.specs.declared.thread.Thread.{Thread}
 use Rattle.lwc_base.specs.declared.descriptor.Cap.{Cap}
 use Rattle.lwc_base.specs.declared.descriptor.Descriptor.{Descriptor}
 use Rattle.lwc_base.specs.declared.descriptor.Descriptor.TheVariants.{Console, Ctx, Empty, File, Reply, Request}
-use Rattle.lwc_base.specs.declared.descriptor.TheConstants.{SLOTS}
-use Rattle.lwc_base.specs.declared.fault.ThreadStatus.{ThreadStatus}
-use Rattle.lwc_base.specs.declared.fault.ThreadStatus.TheVariants as status
-use Rattle.lwc_base.specs.declared.key.Key.{Key}
-use Rattle.lwc_base.specs.declared.key.Key.TheVariants.{Cred, Page, Slot}
-use Rattle.lwc_base.specs.declared.limits.TheConstants.{MOST_PAGES}
-use Rattle.lwc_base.specs.declared.name.Name.{Name}
-use Rattle.lwc_base.specs.declared.refusal.Refusal.{Refusal}
-use Rattle.lwc_base.specs.declared.regs.Regs.{Regs}
 use Rattle.lwc_base.specs.Capabilities.{has_key}
 use Rattle.lwc_base.specs.Cells.{slot_at, value_at}
 use Rattle.lwc_base.specs.Clones.{HaveInCommon}
 use Rattle.lwc_base.specs.Modes.{IsKey}
 use Rattle.lwc_base.specs.Refusals.{first_refusal}
 use Rattle.lwc_base.specs.World.{World, context, is_live, next_context}
+use Rattle.lwc_types.specs.declared.key.TheConstants.{SLOTS}
+use Rattle.lwc_types.specs.declared.fault.ThreadStatus.{ThreadStatus}
+use Rattle.lwc_types.specs.declared.fault.ThreadStatus.TheVariants as status
+use Rattle.lwc_types.specs.declared.key.Key.{Key}
+use Rattle.lwc_types.specs.declared.key.Key.TheVariants.{Cred, Page, Slot}
+use Rattle.lwc_types.specs.declared.limits.TheConstants.{MOST_PAGES}
+use Rattle.lwc_types.specs.declared.name.Name.{Name}
+use Rattle.lwc_types.specs.declared.refusal.Refusal.{Refusal}
+use Rattle.lwc_types.specs.declared.regs.Regs.{Regs}
 use Rattle.lwc_overlay.specs.OverlayCall as overlaying
 use Rattle.lwc_syscall.specs.Syscall as syscalls
 use Rattle.lwc_syscall.specs.Syscall.{inner_args, inner_call, lw_syscall, targets_of}

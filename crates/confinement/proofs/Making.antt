@@ -5,15 +5,9 @@ use Rattle.lwc_base.specs.declared.cell.Cell.TheVariants.{Own, Common}
 use Rattle.lwc_base.specs.declared.descriptor.Cap.{Cap}
 use Rattle.lwc_base.specs.declared.descriptor.Descriptor.{Descriptor}
 use Rattle.lwc_base.specs.declared.descriptor.Descriptor.TheVariants.{Ctx}
-use Rattle.lwc_base.specs.declared.descriptor.TheConstants.{SLOTS}
 use Rattle.lwc_base.specs.declared.item.Item.{Item}
 use Rattle.lwc_base.specs.declared.item.Mode.{Mode}
 use Rattle.lwc_base.specs.declared.item.Mode.TheVariants.{Copy, Share, Unmap, CopyRead}
-use Rattle.lwc_base.specs.declared.key.Key.{Key}
-use Rattle.lwc_base.specs.declared.key.Key.TheVariants.{Page, Slot}
-use Rattle.lwc_base.specs.declared.name.Name.{Name}
-use Rattle.lwc_base.specs.declared.regs.Regs.{Regs}
-use Rattle.lwc_base.specs.declared.right.Right.{Right}
 use Rattle.lwc_base.specs.Cells.{slot_at, value_at, value_of}
 use Rattle.lwc_base.specs.Facts.{AddsContext, SharesValues}
 use Rattle.lwc_base.specs.Fresh.{IsFresh, IsNamedContext}
@@ -22,6 +16,12 @@ use Rattle.lwc_base.specs.Overlay.{overlaid_cell, overlay, with_overlay}
 use Rattle.lwc_base.specs.Sharing.{clone_context, cloned_cell, cloned_context, needs_group, share}
 use Rattle.lwc_base.specs.Sound.{HasItsGroups}
 use Rattle.lwc_base.specs.World.{World, Context, Counters, context, group, is_live, next_context}
+use Rattle.lwc_types.specs.declared.key.TheConstants.{SLOTS}
+use Rattle.lwc_types.specs.declared.key.Key.{Key}
+use Rattle.lwc_types.specs.declared.key.Key.TheVariants.{Page, Slot}
+use Rattle.lwc_types.specs.declared.name.Name.{Name}
+use Rattle.lwc_types.specs.declared.regs.Regs.{Regs}
+use Rattle.lwc_types.specs.declared.right.Right.{Right}
 use Rattle.confinement.proofs.Decide.{same_then, value_same, name_or_not}
 use Rattle.confinement.proofs.Stages.{Confines, Had, Allowance, Stage, context_on}
 use Rattle.lwc_base.proofs.Clones.{clone-keeps_apart}

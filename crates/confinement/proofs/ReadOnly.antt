@@ -5,12 +5,6 @@ use Rattle.lwc_base.specs.declared.descriptor.Descriptor.{Descriptor}
 use Rattle.lwc_base.specs.declared.item.Item.{Item}
 use Rattle.lwc_base.specs.declared.item.Mode.{Mode}
 use Rattle.lwc_base.specs.declared.item.Mode.TheVariants.{Copy, CopyRead, Share, Unmap}
-use Rattle.lwc_base.specs.declared.key.Key.TheVariants.{Page, Slot}
-use Rattle.lwc_base.specs.declared.name.Name.{Name}
-use Rattle.lwc_base.specs.declared.page.PageValue.{PageValue}
-use Rattle.lwc_base.specs.declared.regs.Regs.{Regs}
-use Rattle.lwc_base.specs.declared.right.Right.{Right}
-use Rattle.lwc_base.specs.declared.right.Right.TheVariants.{Read}
 use Rattle.lwc_base.specs.Cells.{put_slot, value_at}
 use Rattle.lwc_base.specs.Facts.{AddsContext, ChangesContext, SharesValues}
 use Rattle.lwc_base.specs.Fresh.{IsFresh}
@@ -21,6 +15,12 @@ use Rattle.lwc_base.specs.Saved.{save}
 use Rattle.lwc_base.specs.Sharing.{needs_group, share, shared_cell, with_shared}
 use Rattle.lwc_base.specs.Store.{Done, Piece, store}
 use Rattle.lwc_base.specs.World.{World, Context, context, is_live, next_context, next_group}
+use Rattle.lwc_types.specs.declared.key.Key.TheVariants.{Page, Slot}
+use Rattle.lwc_types.specs.declared.name.Name.{Name}
+use Rattle.lwc_types.specs.declared.page.PageValue.{PageValue}
+use Rattle.lwc_types.specs.declared.regs.Regs.{Regs}
+use Rattle.lwc_types.specs.declared.right.Right.{Right}
+use Rattle.lwc_types.specs.declared.right.Right.TheVariants.{Read}
 use Rattle.lwc_syscall.specs.Changes.{IsMapped, KeepsReadOnly, maps_page}
 use Rattle.lwc_syscall.specs.declared.calls.CallContexts.{CallContexts}
 use Rattle.lwc_syscall.specs.declared.plain_call.PlainCall.{PlainCall}

@@ -7,13 +7,6 @@ use Rattle.lwc_base.specs.declared.cell.Cell.TheVariants.{Own, Common}
 use Rattle.lwc_base.specs.declared.descriptor.Cap.{Cap}
 use Rattle.lwc_base.specs.declared.descriptor.Descriptor.{Descriptor}
 use Rattle.lwc_base.specs.declared.descriptor.Descriptor.TheVariants.{Ctx}
-use Rattle.lwc_base.specs.declared.descriptor.TheConstants.{SLOTS}
-use Rattle.lwc_base.specs.declared.key.Key.{Key}
-use Rattle.lwc_base.specs.declared.key.Key.TheVariants.{Page, Slot, Cred}
-use Rattle.lwc_base.specs.declared.name.Name.{Name}
-use Rattle.lwc_base.specs.declared.page.PageValue.{PageValue}
-use Rattle.lwc_base.specs.declared.regs.Regs.{Regs}
-use Rattle.lwc_base.specs.declared.right.Right.{Right}
 use Rattle.lwc_base.specs.Cells.{put_at, put_page, slot_at, value_at, value_of}
 use Rattle.lwc_base.specs.Clones.{AreApart}
 use Rattle.lwc_base.specs.Facts.{ChangesContext}
@@ -28,6 +21,13 @@ use Rattle.lwc_base.specs.Sound.{HasItsGroups}
 use Rattle.lwc_base.specs.Store.{Piece, after_store, page_value_at, parting_count, stored_pages, put_pages, store}
 use Rattle.lwc_base.specs.Store as stores
 use Rattle.lwc_base.specs.World.{World, Context, Counters, context, group, change_counters, is_live}
+use Rattle.lwc_types.specs.declared.key.TheConstants.{SLOTS}
+use Rattle.lwc_types.specs.declared.key.Key.{Key}
+use Rattle.lwc_types.specs.declared.key.Key.TheVariants.{Page, Slot, Cred}
+use Rattle.lwc_types.specs.declared.name.Name.{Name}
+use Rattle.lwc_types.specs.declared.page.PageValue.{PageValue}
+use Rattle.lwc_types.specs.declared.regs.Regs.{Regs}
+use Rattle.lwc_types.specs.declared.right.Right.{Right}
 use Rattle.confinement.proofs.Decide.{same_then, value_same, apart_or_one, key_or_not, name_or_not, number_or_not}
 use Rattle.confinement.specs.One.{IsOneValue}
 use Rattle.guest_call.proofs.Changes.{putting, saving}

@@ -5,13 +5,13 @@ use Rattle.guest_call.proofs.Taken.{mode-taken}
 use Rattle.lwc_base.proofs.Overlays.{overlay-copied_value, overlay-others, overlay-shared_value, overlay-unnamed}
 use Rattle.lwc_base.specs.declared.item.Mode.{Mode}
 use Rattle.lwc_base.specs.declared.item.Mode.TheVariants.{Copy, Share, Unmap, CopyRead}
-use Rattle.lwc_base.specs.declared.key.Key.{Key}
-use Rattle.lwc_base.specs.declared.name.Name.{Name}
-use Rattle.lwc_base.specs.declared.regs.Regs.{Regs}
 use Rattle.lwc_base.specs.Cells.{value_at}
 use Rattle.lwc_base.specs.Modes.{mode}
 use Rattle.lwc_base.specs.Overlay.{IsOverlay}
 use Rattle.lwc_base.specs.World.{World}
+use Rattle.lwc_types.specs.declared.key.Key.{Key}
+use Rattle.lwc_types.specs.declared.name.Name.{Name}
+use Rattle.lwc_types.specs.declared.regs.Regs.{Regs}
 use Rattle.lwc_overlay.specs.Named.{items_of}
 use Rattle.res_spec.specs.declared.items.SpecCall.TheVariants.{Overlay}
 use Rattle.confinement.proofs.Decide.{name_or_not}

@@ -1,8 +1,8 @@
 -- What a step may change of a context, it touches.
 use Rattle.std.proofs.Common.{ℕ, refl}
 use Rattle.kernel_core.specs.Machine.{Machine}
-use Rattle.lwc_base.specs.declared.key.Key.{Key}
-use Rattle.lwc_base.specs.declared.name.Name.{Name}
+use Rattle.lwc_types.specs.declared.key.Key.{Key}
+use Rattle.lwc_types.specs.declared.name.Name.{Name}
 use Rattle.confinement.specs.May.{MayChange, OfItsOwn, OfTheChosen, OfTheGiver, OfTheTarget}
 use Rattle.confinement.specs.Snapshots.{Chosen, Entered, Inside, SharedFrom, Touches}
 

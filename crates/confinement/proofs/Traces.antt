@@ -5,11 +5,6 @@ use Rattle.lwc_base.specs.declared.cell.Cell.TheVariants.{Own, Common}
 use Rattle.lwc_base.specs.declared.item.Item.{Item}
 use Rattle.lwc_base.specs.declared.item.Mode.{Mode}
 use Rattle.lwc_base.specs.declared.item.Mode.TheVariants.{Copy, Share, Unmap, CopyRead}
-use Rattle.lwc_base.specs.declared.key.Key.{Key}
-use Rattle.lwc_base.specs.declared.key.Key.TheVariants.{Slot, Cred}
-use Rattle.lwc_base.specs.declared.name.Name.{Name}
-use Rattle.lwc_base.specs.declared.page.PageValue.{PageValue}
-use Rattle.lwc_base.specs.declared.regs.Regs.{Regs}
 use Rattle.lwc_base.specs.Facts.{AddsContext, ChangesContext}
 use Rattle.lwc_base.specs.Fresh.{IsFresh}
 use Rattle.lwc_base.specs.Mapping.{mapped_or_not, with_pages}
@@ -21,6 +16,11 @@ use Rattle.lwc_base.specs.Sound.{HasItsGroups}
 use Rattle.lwc_base.specs.Store.{Done, Piece, after_store, store}
 use Rattle.lwc_base.specs.Cells.{put_at}
 use Rattle.lwc_base.specs.World.{World, Context, add_context, context, is_live, next_context, next_group}
+use Rattle.lwc_types.specs.declared.key.Key.{Key}
+use Rattle.lwc_types.specs.declared.key.Key.TheVariants.{Slot, Cred}
+use Rattle.lwc_types.specs.declared.name.Name.{Name}
+use Rattle.lwc_types.specs.declared.page.PageValue.{PageValue}
+use Rattle.lwc_types.specs.declared.regs.Regs.{Regs}
 use Rattle.lwc_syscall.specs.Changes.{IsPlainChange, Mapped, Nothing, Read, SlotPut, UidPut, Written}
 use Rattle.lwc_base.specs.Channels.{Channels}
 use Rattle.lwc_syscall.specs.declared.calls.CallContexts.{CallContexts}
@@ -34,8 +34,8 @@ use Rattle.lwc_base.proofs.Common.{group_of_cell, names_same-after_store, names_
 use Rattle.lwc_base.proofs.Facts.{changes}
 use Rattle.lwc_base.proofs.ItemModes.{mode-shared}
 use Rattle.lwc_base.proofs.Keys.{on_pages-cases}
-use Rattle.lwc_base.proofs.Orders.{cases_name}
 use Rattle.lwc_base.proofs.Sharing.{named-not-next}
+use Rattle.lwc_types.proofs.Orders.{cases_name}
 
 -- what a context has under a key after a step it may have from itself, or from one with which the step may give it something in common
 pub data MayHaveFrom (m : Machine) (t : ℕ) : Name → Key → Name → Type 0 where

@@ -7,21 +7,21 @@ use Rattle.kernel_core.specs.declared.thread.Thread.{Thread}
 use Rattle.lwc_base.specs.declared.cell.Cell.TheVariants.{Common, Own}
 use Rattle.lwc_base.specs.declared.descriptor.Cap.{Cap}
 use Rattle.lwc_base.specs.declared.descriptor.Descriptor.TheVariants.{Ctx, Empty}
-use Rattle.lwc_base.specs.declared.descriptor.TheConstants.{SLOTS}
-use Rattle.lwc_base.specs.declared.fault.ThreadStatus.TheVariants.{Idle}
-use Rattle.lwc_base.specs.declared.key.Key.{Key}
-use Rattle.lwc_base.specs.declared.key.Key.TheVariants.{Page, Slot}
-use Rattle.lwc_base.specs.declared.key.Kind.TheVariants as kinds
-use Rattle.lwc_base.specs.declared.limits.TheConstants.{MOST_PAGES}
-use Rattle.lwc_base.specs.declared.name.Name.{Name}
-use Rattle.lwc_base.specs.declared.page.PageValue.{PageValue}
-use Rattle.lwc_base.specs.declared.right.Right.TheVariants.{Read}
 use Rattle.lwc_base.specs.Capabilities.{empty_cap, full_cap, has_key}
 use Rattle.lwc_base.specs.Cells.{slot_at, value_at}
 use Rattle.lwc_base.specs.Modes.{IsKey}
 use Rattle.lwc_base.specs.Rights.{right_at}
 use Rattle.lwc_base.specs.Slots.{lowest_empty}
 use Rattle.lwc_base.specs.World.{World, context, is_live, next_context}
+use Rattle.lwc_types.specs.declared.key.TheConstants.{SLOTS}
+use Rattle.lwc_types.specs.declared.fault.ThreadStatus.TheVariants.{Idle}
+use Rattle.lwc_types.specs.declared.key.Key.{Key}
+use Rattle.lwc_types.specs.declared.key.Key.TheVariants.{Page, Slot}
+use Rattle.lwc_types.specs.declared.key.Kind.TheVariants as kinds
+use Rattle.lwc_types.specs.declared.limits.TheConstants.{MOST_PAGES}
+use Rattle.lwc_types.specs.declared.name.Name.{Name}
+use Rattle.lwc_types.specs.declared.page.PageValue.{PageValue}
+use Rattle.lwc_types.specs.declared.right.Right.TheVariants.{Read}
 use Rattle.confinement.specs.One.{IsOneValue}
 use Rattle.lwc_syscall.specs.Syscall.{mask_in}
 use Rattle.confinement.specs.May.{IsGiven, MakesCall, MayBeSeen, MayChange, MayReplace, MayShare, regs_at, world_of}

@@ -9,8 +9,8 @@ use Rattle.kernel_core.specs.declared.calling.TheConstants.{LW_SWITCH}
 use Rattle.kernel_core.specs.declared.thread.Thread.{Thread}
 use Rattle.lwc_base.specs.Cells.{slot_at}
 use Rattle.lwc_base.specs.declared.descriptor.Cap.{Cap}
-use Rattle.lwc_base.specs.declared.descriptor.TheConstants.{SLOTS}
-use Rattle.lwc_base.specs.declared.name.Name.{Name}
+use Rattle.lwc_types.specs.declared.key.TheConstants.{SLOTS}
+use Rattle.lwc_types.specs.declared.name.Name.{Name}
 use Rattle.lwc_syscall.specs.Plain.{is_written}
 use Rattle.confinement.specs.Closed.{IsClosed, LeavesOthers, StayIn}
 use Rattle.confinement.specs.Confined.{IsConfined}

@@ -4,9 +4,9 @@ use Rattle.guest_machine.specs.Advances.{advanced}
 use Rattle.kernel_core.specs.Machine.{Machine}
 use Rattle.kernel_core.specs.Step.{advance_outcome, guest_calls}
 use Rattle.kernel_core.specs.declared.thread.Thread.{Thread}
-use Rattle.lwc_base.specs.declared.fault.Fault.{Fault}
-use Rattle.lwc_base.specs.declared.fault.Fault.TheVariants.{Budget}
-use Rattle.lwc_base.specs.declared.fault.ThreadStatus.TheVariants.{Faulted, Running}
+use Rattle.lwc_types.specs.declared.fault.Fault.{Fault}
+use Rattle.lwc_types.specs.declared.fault.Fault.TheVariants.{Budget}
+use Rattle.lwc_types.specs.declared.fault.ThreadStatus.TheVariants.{Faulted, Running}
 
 -- the next step of a running thread ends it by a fault, which is not that its budget is used up
 pub record EndsByFault (m : Machine) (t : ℕ) (x : Thread) : Type 0 where

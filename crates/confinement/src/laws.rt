@@ -28,16 +28,16 @@ ghost use Rattle.lwc_base.specs.Rights.{right_at};
 ghost use Rattle.lwc_base.specs.World.{context, is_live};
 ghost use Rattle.lwc_base.specs.declared.descriptor.Cap.{Cap};
 ghost use Rattle.lwc_base.specs.declared.descriptor.Descriptor.TheVariants.{Ctx};
-ghost use Rattle.lwc_base.specs.declared.descriptor.TheConstants.{SLOTS};
-ghost use Rattle.lwc_base.specs.declared.key.Key.{Key};
 ghost use Rattle.lwc_base.specs.declared.item.Mode.TheVariants.{Unmap};
-ghost use Rattle.lwc_base.specs.declared.key.Key.TheVariants.{Page, Slot};
-ghost use Rattle.lwc_base.specs.declared.key.Kind.TheVariants as kinds;
-ghost use Rattle.lwc_base.specs.declared.limits.TheConstants.{MOST_PAGES};
+ghost use Rattle.lwc_types.specs.declared.key.TheConstants.{SLOTS};
+ghost use Rattle.lwc_types.specs.declared.key.Key.{Key};
+ghost use Rattle.lwc_types.specs.declared.key.Key.TheVariants.{Page, Slot};
+ghost use Rattle.lwc_types.specs.declared.key.Kind.TheVariants as kinds;
+ghost use Rattle.lwc_types.specs.declared.limits.TheConstants.{MOST_PAGES};
 ghost use Rattle.lwc_create.specs.Create.{items_of};
 ghost use Rattle.lwc_syscall.specs.Plain.{is_written};
 ghost use Rattle.lwc_syscall.specs.Syscall.{mask_in};
-ghost use Rattle.lwc_base.specs.declared.name.Name.{Name};
+ghost use Rattle.lwc_types.specs.declared.name.Name.{Name};
 
 /// Whatever steps came before, the next step of a thread changes nothing of a context but what it may
 /// change, there or where it is common; and each capability that is new in a slot is one that the step may

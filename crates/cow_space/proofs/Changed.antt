@@ -4,8 +4,8 @@ use Rattle.std.specs.Prelude.{All}
 use Rattle.std.specs.List.{find}
 use Rattle.std.specs.Option.{MatchOption, option_map}
 use Rattle.std.proofs.lemmas.Bool.{cases_lt, and_parts, ltb-true}
-use Rattle.lwc_base.specs.declared.right.Right.{Right}
-use Rattle.lwc_base.specs.declared.right.Right.TheVariants.{Read}
+use Rattle.lwc_types.specs.declared.right.Right.{Right}
+use Rattle.lwc_types.specs.declared.right.Right.TheVariants.{Read}
 use Rattle.range_map.specs.declared.segment.PageState.{PageState}
 use Rattle.range_map.specs.declared.segment.Segment.{Segment}
 use Rattle.range_map.specs.declared.segment.SegmentKind.{SegmentKind}
@@ -13,7 +13,7 @@ use Rattle.range_map.specs.Kinds.{is_between, kind_at, kind_of, state_at, state_
 use Rattle.cow_space.specs.Maps.{no_pages, row_of}
 use Rattle.cow_space.specs.declared.page_runs.Origin.{Origin}
 use Rattle.cow_space.specs.declared.page_runs.Origin.TheVariants.{Absent, Zeros, Common, CopyOf}
-use Rattle.lwc_base.specs.declared.range.Range.{Range}
+use Rattle.lwc_types.specs.declared.range.Range.{Range}
 use Rattle.cow_space.specs.declared.page_runs.PageRun.{PageRun}
 use Rattle.cow_space.specs.declared.cells.PageCells.{PageCells}
 use Rattle.cow_space.specs.RowSeen.{HasNoTree, maps}
@@ -24,7 +24,7 @@ use Rattle.cow_space.specs.Kept.{HasNoOwnPage, may_have}
 use Rattle.cow_space.specs.Rows.{changed_row, origin_value, value_by}
 use Rattle.cow_space.proofs.OwnPages.{no-own-cells}
 use Rattle.cow_space.proofs.Views.{place-at, place-kinds}
-use Rattle.lwc_base.specs.declared.limits.TheConstants.{MOST_PAGES}
+use Rattle.lwc_types.specs.declared.limits.TheConstants.{MOST_PAGES}
 
 -- what is found passes the test, and has what all have
 pub find-holds : {X : Type 0} (test : X → Bool) (P : X → Type 0) (xs : List X) → All P xs → MatchOption (find test xs) (Unit {0}) (λ x. P x × (test x ≡ true))

@@ -5,7 +5,7 @@ use Rattle.std.specs.Option.{option_eq, option_or}
 use Rattle.std.proofs.lemmas.Bool.{cases_lt}
 use Rattle.std.proofs.lemmas.List.{take_more}
 use Rattle.std.proofs.lemmas.List.Folds.{find-append}
-use Rattle.lwc_base.specs.declared.limits.TheConstants.{MOST_PAGES}
+use Rattle.lwc_types.specs.declared.limits.TheConstants.{MOST_PAGES}
 use Rattle.range_map.specs.declared.segment.PageState.{PageState}
 use Rattle.range_map.specs.declared.segment.Segment.{Segment}
 use Rattle.range_map.specs.contracts.segment.PageStatePartialEq.TheImpl.{eq-value}
@@ -13,7 +13,7 @@ use Rattle.range_map.specs.Kinds.{is_between, put_state, ranges, state_at}
 use Rattle.range_map.proofs.Alike.{HasNoEdge}
 use Rattle.range_map.proofs.Built.{between, not_between}
 use Rattle.range_map.proofs.Ranges.{absent_tail, begins_where, one_piece, ranges_grow, ranges_same}
-use Rattle.lwc_base.specs.declared.range.Range.{Range}
+use Rattle.lwc_types.specs.declared.range.Range.{Range}
 use Rattle.cow_space.specs.declared.page_runs.PageRun.{PageRun}
 use Rattle.cow_space.specs.Changes.{have_page, page_run_at}
 use Rattle.cow_space.specs.Maps.{put_range}

@@ -4,7 +4,7 @@ use Rattle.std.specs.List.{sum_by}
 use Rattle.std.proofs.lemmas.List.{map-set}
 use Rattle.std.proofs.lemmas.List.Sums.{get_or-le-sum_by, sum_by-cons}
 use Rattle.pool_base.proofs.Totals.{total, total-same}
-use Rattle.lwc_base.proofs.Small.{set-map_same}
+use Rattle.lwc_types.proofs.Small.{set-map_same}
 
 pub cond-of : {X Y : Type 0} (f : X → Y) (b : Bool) (x y : X) → f (cond b x y) ≡ cond b (f x) (f y)
 cond-of f true x y = refl

@@ -1,13 +1,13 @@
 -- What places have of their own is what their rows have, but that a present page without a value reads as zeros.
 use Rattle.std.proofs.Common.{◌≡◌, ℕ, suc, ◌<◌, true, List, [], ◌∷◌, ◌++◌, length, get_or, refl, sym, ◌∙◌, ap, arith, Option, None, Some}
 use Rattle.std.specs.List.{flat_map, range_with_len}
-use Rattle.lwc_base.specs.declared.page.PageValue.{PageValue}
-use Rattle.lwc_base.specs.declared.page.PageValue.TheVariants.{Zero}
 use Rattle.lwc_base.specs.Frames.{own_value, tag_of}
+use Rattle.lwc_types.specs.declared.page.PageValue.{PageValue}
+use Rattle.lwc_types.specs.declared.page.PageValue.TheVariants.{Zero}
 use Rattle.range_map.specs.declared.segment.SegmentKind.{SegmentKind}
 use Rattle.range_map.specs.declared.segment.SegmentKind.TheVariants.{Own, Common}
 use Rattle.range_map.specs.Kinds.{kind_at}
-use Rattle.lwc_base.specs.declared.name.Tag.{Tag}
+use Rattle.lwc_types.specs.declared.name.Tag.{Tag}
 use Rattle.cow_space.specs.declared.cells.PageCells.{PageCells}
 use Rattle.cow_space.specs.RowSeen.{maps}
 use Rattle.cow_space.specs.Seen.{cells}

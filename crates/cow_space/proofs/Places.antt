@@ -6,7 +6,7 @@ use Rattle.std.proofs.lemmas.Bool.{cases_eq, cases_lt}
 use Rattle.std.proofs.lemmas.List.{ext_get_or, get_or-map, get_or-set_same, get_or_past, length-map, length-replicate, map-set}
 use Rattle.std.proofs.Math.ListN.{get_or-map as get_or-map_all}
 use Rattle.std.proofs.lemmas.List.FromFn.{get_or-range_with_len, length-range_with_len}
-use Rattle.lwc_base.specs.declared.page.PageValue.{PageValue}
+use Rattle.lwc_types.specs.declared.page.PageValue.{PageValue}
 use Rattle.range_map.specs.declared.segment.PageState.{PageState}
 use Rattle.range_map.specs.declared.segment.Segment.{Segment}
 use Rattle.range_map.specs.declared.segment.SegmentKind.{SegmentKind}
@@ -16,8 +16,8 @@ use Rattle.cow_space.specs.Maps as rows
 use Rattle.cow_space.specs.Maps.{row_of}
 use Rattle.cow_space.specs.Cells.{Place, all_cells, all_rights, all_write, cell_of, no_pages, place_cells, place_of, place_rights, right_in, rights_of, segments_of}
 use Rattle.cow_space.specs.Kept.{IsKept, may_have}
-use Rattle.lwc_base.proofs.Small.{at-new}
-use Rattle.lwc_base.specs.declared.limits.TheConstants.{MOST_PAGES}
+use Rattle.lwc_types.proofs.Small.{at-new}
+use Rattle.lwc_types.specs.declared.limits.TheConstants.{MOST_PAGES}
 
 pub length-cells : (kinds : List (List Segment)) (maps : List (ℕ → Option PageValue)) → length (all_cells kinds maps) ≡ length maps
 unfolding all_cells

@@ -7,16 +7,16 @@ use Rattle.std.proofs.lemmas.Bool.Decides.{nat_tests}
 use Rattle.std.proofs.lemmas.List.FromFn.{get_or-range_with_len, length-range_with_len}
 use Rattle.std.proofs.lemmas.List.Sums.{get_or-le-sum_by, sum_by-append, sum_by-cons}
 use Rattle.pool_base.proofs.Totals.{total, total-at, total-list, total-same, total-some, total2, total2-two, total2-other, IsElsewhere}
-use Rattle.lwc_base.specs.declared.name.Tag.{Tag}
-use Rattle.lwc_base.specs.declared.page.PageValue.{PageValue}
-use Rattle.lwc_base.specs.declared.page.PageValue.TheVariants.{Zero, Data}
 use Rattle.lwc_base.specs.Frames.{tag_of}
-use Rattle.lwc_base.specs.Names.{tag_cmp}
-use Rattle.lwc_base.proofs.Orders.{same_tag, tag-itself, tag_cmp-IsAntisymmetric, tag_cmp-total}
 use Rattle.lwc_base.proofs.Tags.{among}
+use Rattle.lwc_types.specs.declared.name.Tag.{Tag}
+use Rattle.lwc_types.specs.declared.page.PageValue.{PageValue}
+use Rattle.lwc_types.specs.declared.page.PageValue.TheVariants.{Zero, Data}
+use Rattle.lwc_types.specs.Names.{tag_cmp}
+use Rattle.lwc_types.proofs.Orders.{same_tag, tag-itself, tag_cmp-IsAntisymmetric, tag_cmp-total}
 use Rattle.cow_space.specs.Maps.{no_pages, row_of}
 use Rattle.cow_space.specs.Tags.{different, row_tags, tags_of_map, times}
-use Rattle.lwc_base.proofs.Small.{sum-some}
+use Rattle.lwc_types.proofs.Small.{sum-some}
 use Rattle.page_tree.specs.declared.store.TheConstants.{PAGES}
 
 -- lists with the same tags have as many different ones

@@ -9,12 +9,12 @@ use Rattle.std.proofs.lemmas.List.Sums.{get_or-le-sum_by, sum_by-set}
 use Rattle.pool_base.proofs.Totals.{total, total-same, total-zero}
 use Rattle.lwc_base.specs.declared.cell.Cell.{Cell}
 use Rattle.lwc_base.specs.declared.cell.Cell.TheVariants as cell
-use Rattle.lwc_base.specs.declared.name.Tag.{Tag}
-use Rattle.lwc_base.specs.declared.page.PageValue.{PageValue}
-use Rattle.lwc_base.specs.declared.page.PageValue.TheVariants.{Zero, Data}
 use Rattle.lwc_base.specs.Frames.{own_value, tag_of}
-use Rattle.lwc_base.specs.Pages.{bytes_of}
 use Rattle.lwc_base.specs.Store.{Piece, bytes_after, stored_value}
+use Rattle.lwc_types.specs.declared.name.Tag.{Tag}
+use Rattle.lwc_types.specs.declared.page.PageValue.{PageValue}
+use Rattle.lwc_types.specs.declared.page.PageValue.TheVariants.{Zero, Data}
+use Rattle.lwc_types.specs.Pages.{bytes_of}
 use Rattle.range_map.specs.Kinds.{is_between, kind_of}
 use Rattle.cow_space.specs.Maps.{put_page}
 use Rattle.cow_space.specs.declared.page_runs.Origin.{Origin}
@@ -27,7 +27,7 @@ use Rattle.cow_space.specs.Writes.{page_value, write_page, written_value}
 use Rattle.cow_space.proofs.Changed.{find-holds}
 use Rattle.cow_space.proofs.Lists.{total-change}
 use Rattle.cow_space.proofs.TagLemmas.{different-more, different-same, map-has, page-le, times-cons, times-flat_map, times-from, times-is, times-le, times-map}
-use Rattle.lwc_base.proofs.Small.{sum-some}
+use Rattle.lwc_types.proofs.Small.{sum-some}
 use Rattle.page_tree.specs.declared.store.TheConstants.{PAGES}
 
 pub own-cell : (c : Cell (Option PageValue)) (v : PageValue) → own_value c ≡ Some v → c ≡ cell.Own (Some v)

@@ -5,9 +5,9 @@ use Rattle.std.proofs.lemmas.Bool.Decides.{nat_tests}
 use Rattle.std.proofs.lemmas.List.{map-set, get_or-map, length-map, length-replicate, get_or-replicate, get_or_past, get_or_read}
 use Rattle.std.proofs.lemmas.List.Sums.{sum_by-set, get_or-le-sum_by, sum_by-cons}
 use Rattle.frame_pool.specs.Frame.{Frame, no_frame, zero_frame, frame_count}
-use Rattle.lwc_base.specs.declared.name.Tag.{Tag}
-use Rattle.lwc_base.specs.declared.page.PageValue.{PageValue}
-use Rattle.lwc_base.specs.declared.page.PageValue.TheVariants.{Data}
+use Rattle.lwc_types.specs.declared.name.Tag.{Tag}
+use Rattle.lwc_types.specs.declared.page.PageValue.{PageValue}
+use Rattle.lwc_types.specs.declared.page.PageValue.TheVariants.{Data}
 use Rattle.node_pool.specs.Nodes.{Node, free_of}
 use Rattle.page_tree.specs.declared.cell.PageCell.{PageCell}
 use Rattle.page_tree.specs.declared.cell.PageCell.TheVariants.{Absent, Zero}
@@ -27,7 +27,7 @@ use Rattle.page_tree.proofs.HolderLemmas.{having-le, tied-tree}
 use Rattle.page_tree.proofs.NodeBound.{node_bound}
 use Rattle.page_tree.proofs.TreeLemmas.{page-none}
 use Rattle.page_tree.proofs.LinkLemmas.{zero_or_more}
-use Rattle.lwc_base.proofs.Small.{map-replicate, set-again}
+use Rattle.lwc_types.proofs.Small.{map-replicate, set-again}
 use Rattle.page_tree.specs.declared.store.TheConstants.{PAGES, TREE_NODES}
 use Rattle.cow_space.specs.declared.rows.TheConstants.{FREE_NODES}
 

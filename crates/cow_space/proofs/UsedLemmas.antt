@@ -6,10 +6,10 @@ use Rattle.std.proofs.lemmas.Bool.Decides.{nat_tests}
 use Rattle.std.proofs.lemmas.List.{get_or_past}
 use Rattle.std.proofs.lemmas.List.Sums.{get_or-le-sum_by, sum_by-cons}
 use Rattle.frame_pool.specs.Frame.{Frame, no_frame, frame_at, frame_count, frame_stamp, frame_bytes, free_frames, used_frames}
-use Rattle.lwc_base.specs.declared.name.Tag.{Tag}
-use Rattle.lwc_base.specs.declared.page.PageValue.{PageValue}
-use Rattle.lwc_base.specs.declared.page.PageValue.TheVariants.{Data}
-use Rattle.lwc_base.proofs.Orders.{same_tag, tag-itself}
+use Rattle.lwc_types.specs.declared.name.Tag.{Tag}
+use Rattle.lwc_types.specs.declared.page.PageValue.{PageValue}
+use Rattle.lwc_types.specs.declared.page.PageValue.TheVariants.{Data}
+use Rattle.lwc_types.proofs.Orders.{same_tag, tag-itself}
 use Rattle.node_pool.specs.Nodes.{Node}
 use Rattle.page_tree.specs.declared.cell.PageCell.{PageCell}
 use Rattle.page_tree.specs.declared.cell.PageCell.TheVariants.{Absent, Zero}
@@ -25,7 +25,7 @@ use Rattle.cow_space.specs.Tags.{different, parts, row_tags, times}
 use Rattle.pool_base.proofs.Totals.{one_if}
 use Rattle.cow_space.proofs.TagLemmas.{HasTag, different-more, different-none, different-same, other-time, some-tag, tag-some, times-flat_map, two-times}
 use Rattle.cow_space.proofs.Trees.{length-maps, rows-in, row-page}
-use Rattle.lwc_base.proofs.Small.{sum-some}
+use Rattle.lwc_types.proofs.Small.{sum-some}
 use Rattle.page_tree.specs.declared.store.TheConstants.{PAGES}
 
 -- a cell with bytes has a frame

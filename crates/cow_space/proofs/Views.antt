@@ -4,9 +4,9 @@ use Rattle.std.proofs.lemmas.Bool.{cases_lt}
 use Rattle.std.proofs.lemmas.List.{get_or_read, length-map}
 use Rattle.std.specs.Option.{option_map}
 use Rattle.lwc_base.specs.declared.cell.Cell.TheVariants as cell
-use Rattle.lwc_base.specs.declared.page.PageValue.{PageValue}
-use Rattle.lwc_base.specs.declared.right.Right.{Right}
-use Rattle.lwc_base.specs.declared.right.Right.TheVariants.{Write}
+use Rattle.lwc_types.specs.declared.page.PageValue.{PageValue}
+use Rattle.lwc_types.specs.declared.right.Right.{Right}
+use Rattle.lwc_types.specs.declared.right.Right.TheVariants.{Write}
 use Rattle.range_map.specs.declared.segment.PageState.{PageState}
 use Rattle.range_map.specs.declared.segment.Segment.{Segment}
 use Rattle.range_map.specs.declared.segment.SegmentKind.{SegmentKind}
@@ -19,7 +19,7 @@ use Rattle.cow_space.specs.Maps.{row_of}
 use Rattle.cow_space.specs.RowSeen.{HasNoTree, maps}
 use Rattle.cow_space.specs.Seen.{cells, rights}
 use Rattle.cow_space.proofs.Places.{at-place, at-rights, by-place, kept-set, kind-cell, length-cells, set-cells, set-rights, state-again}
-use Rattle.lwc_base.specs.declared.limits.TheConstants.{MOST_PAGES}
+use Rattle.lwc_types.specs.declared.limits.TheConstants.{MOST_PAGES}
 
 module _ (w : PageCells) where
   pub row-count : length (cells w) ≡ length (maps w.rows)

@@ -6,19 +6,19 @@ use Rattle.std.proofs.lemmas.Bool.{cases_eq, cases_lt}
 use Rattle.std.proofs.lemmas.List.{get_or-map, get_or-set_same, get_or_past, length-map}
 use Rattle.std.proofs.lemmas.List.Sums.{sum_by-cons, sum_by-set}
 use Rattle.lwc_base.specs.declared.cell.Cell.TheVariants as cell
-use Rattle.lwc_base.specs.declared.key.Key.TheVariants.{Page}
-use Rattle.lwc_base.specs.declared.name.Tag.{Tag}
-use Rattle.lwc_base.specs.declared.page.PageValue.{PageValue}
-use Rattle.lwc_base.specs.declared.page.PageValue.TheVariants.{Zero, Data}
 use Rattle.lwc_base.specs.Frames as worlds
 use Rattle.lwc_base.specs.Frames.{own_value, tag_of}
 use Rattle.lwc_base.specs.World.{Context, Group, World}
+use Rattle.lwc_types.specs.declared.key.Key.TheVariants.{Page}
+use Rattle.lwc_types.specs.declared.name.Tag.{Tag}
+use Rattle.lwc_types.specs.declared.page.PageValue.{PageValue}
+use Rattle.lwc_types.specs.declared.page.PageValue.TheVariants.{Zero, Data}
 use Rattle.cow_space.specs.Cells.{Place, no_pages, place_of}
 use Rattle.cow_space.specs.Tags.{different, is_parting, parts, tags, tags_of_map, tags_of_place, times, used}
 use Rattle.cow_space.specs.Worlds.{HoldAllTags, tags_at}
 use Rattle.cow_space.proofs.TagLemmas.{different-same, times-flat_map}
 use Rattle.cow_space.proofs.Taken.{none-times}
-use Rattle.lwc_base.specs.declared.limits.TheConstants.{MOST_PAGES}
+use Rattle.lwc_types.specs.declared.limits.TheConstants.{MOST_PAGES}
 
 -- pages past the last one add nothing
 

@@ -5,11 +5,11 @@ use Rattle.std.proofs.lemmas.Bool.{cases_eq, cases_lt, lt-ltb}
 use Rattle.std.proofs.lemmas.Bool.Decides.{nat_tests}
 use Rattle.std.proofs.lemmas.List.{get_or-set_same, set-get_or}
 use Rattle.frame_pool.specs.Frame.{Frame, no_frame, frame_at, frame_count, frame_stamp, frame_bytes, recount_frame, refill_frame}
-use Rattle.lwc_base.specs.declared.name.Tag.{Tag}
-use Rattle.lwc_base.specs.declared.page.PageValue.{PageValue}
-use Rattle.lwc_base.specs.declared.page.PageValue.TheVariants as value
-use Rattle.lwc_base.specs.Pages.{bytes_of}
 use Rattle.lwc_base.specs.Store.{Piece, bytes_after, stored_value}
+use Rattle.lwc_types.specs.declared.name.Tag.{Tag}
+use Rattle.lwc_types.specs.declared.page.PageValue.{PageValue}
+use Rattle.lwc_types.specs.declared.page.PageValue.TheVariants as value
+use Rattle.lwc_types.specs.Pages.{bytes_of}
 use Rattle.node_pool.specs.Nodes.{Node}
 use Rattle.page_tree.specs.declared.cell.PageCell.{PageCell}
 use Rattle.page_tree.specs.declared.cell.PageCell.TheVariants.{Absent, Zero}

@@ -5,11 +5,11 @@ use Rattle.std.specs.List.{find, list_any}
 use Rattle.std.specs.Option.{option_eq, option_map}
 use Rattle.lwc_base.specs.declared.cell.Cell.{Cell}
 use Rattle.lwc_base.specs.declared.cell.Cell.TheVariants as cell
-use Rattle.lwc_base.specs.declared.limits.TheConstants.{MOST_PAGES}
-use Rattle.lwc_base.specs.declared.page.PageValue.{PageValue}
-use Rattle.lwc_base.specs.declared.page.PageValue.TheVariants as value
-use Rattle.lwc_base.specs.declared.right.Right.{Right}
-use Rattle.lwc_base.specs.declared.right.Right.TheVariants.{Write, Read}
+use Rattle.lwc_types.specs.declared.limits.TheConstants.{MOST_PAGES}
+use Rattle.lwc_types.specs.declared.page.PageValue.{PageValue}
+use Rattle.lwc_types.specs.declared.page.PageValue.TheVariants as value
+use Rattle.lwc_types.specs.declared.right.Right.{Right}
+use Rattle.lwc_types.specs.declared.right.Right.TheVariants.{Write, Read}
 use Rattle.range_map.specs.Kinds.{is_between, kind_of, state_at, state_of}
 use Rattle.range_map.specs.contracts.segment.PageStatePartialEq.TheImpl.{eq-value}
 use Rattle.range_map.specs.declared.segment.PageState.{PageState}
@@ -17,7 +17,7 @@ use Rattle.range_map.specs.declared.segment.Segment.{Segment}
 use Rattle.cow_space.specs.declared.kinds.Rising.{Rising}
 use Rattle.cow_space.specs.declared.page_runs.Origin.{Origin}
 use Rattle.cow_space.specs.declared.page_runs.Origin.TheVariants.{Absent, Zeros, Common, CopyOf}
-use Rattle.lwc_base.specs.declared.range.Range.{Range}
+use Rattle.lwc_types.specs.declared.range.Range.{Range}
 use Rattle.cow_space.specs.declared.page_runs.PageRun.{PageRun}
 use Rattle.cow_space.specs.Cells.{Place, place_of, right_in, rights_of, states_of}
 

@@ -1,10 +1,10 @@
 -- Laws of the pages of places.
 use Rattle.std.specs.Prelude.{◌≡◌, ◌≢◌, ℕ, ◌+◌, ◌<◌, All, List, Some, length, slice_set}
 use Rattle.lwc_base.specs.declared.cell.Cell.TheVariants as cell
-use Rattle.lwc_base.specs.declared.limits.TheConstants.{MOST_PAGES}
-use Rattle.lwc_base.specs.declared.name.Tag.{Tag}
-use Rattle.lwc_base.specs.declared.page.PageValue.TheVariants.{Data}
 use Rattle.lwc_base.specs.Store.{Piece}
+use Rattle.lwc_types.specs.declared.limits.TheConstants.{MOST_PAGES}
+use Rattle.lwc_types.specs.declared.name.Tag.{Tag}
+use Rattle.lwc_types.specs.declared.page.PageValue.TheVariants.{Data}
 use Rattle.cow_space.specs.declared.page_runs.PageRun.{PageRun}
 use Rattle.cow_space.specs.Changes.{IsPageRun, changed_place}
 use Rattle.cow_space.specs.Cells.{IsOwnPage, Place, kinds_of, no_pages, place_of}

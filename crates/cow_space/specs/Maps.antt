@@ -1,8 +1,8 @@
 -- Maps from pages to values, one for each row.
 use Rattle.std.specs.Prelude.{ℕ, ◌==◌, ◌&&◌, if◌then◌else◌, List, Option, None, Some, nat_le, nat_lt, slice_index_or}
 use Rattle.std.specs.Prelude.{slice_set}
-use Rattle.lwc_base.specs.declared.page.PageValue.{PageValue}
-use Rattle.lwc_base.specs.declared.page.PageValue.TheVariants.{Zero, Data}
+use Rattle.lwc_types.specs.declared.page.PageValue.{PageValue}
+use Rattle.lwc_types.specs.declared.page.PageValue.TheVariants.{Zero, Data}
 
 -- the map without pages
 abbrev pub no_pages : ℕ → Option PageValue

@@ -1,7 +1,7 @@
 -- What rows over a store are seen as.
 use Rattle.std.specs.Prelude.{◌≡◌, ℕ, List, Option, length, slice_index}
-use Rattle.lwc_base.specs.declared.name.Tag.{Tag}
-use Rattle.lwc_base.specs.declared.page.PageValue.{PageValue}
+use Rattle.lwc_types.specs.declared.name.Tag.{Tag}
+use Rattle.lwc_types.specs.declared.page.PageValue.{PageValue}
 use Rattle.frame_pool.specs.Frame.{frame_bytes, frame_stamp}
 use Rattle.frame_pool.specs.Frame as frames
 use Rattle.std.proofs.Math.Nat.{ℕ_set}

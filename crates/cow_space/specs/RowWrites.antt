@@ -1,10 +1,10 @@
 -- A page of a row once a piece is written to it.
 use Rattle.std.specs.Prelude.{ℕ, List, Option, Some, slice_set, unwrap_or}
-use Rattle.lwc_base.specs.declared.name.Tag.{Tag}
-use Rattle.lwc_base.specs.declared.page.PageValue.{PageValue}
-use Rattle.lwc_base.specs.declared.page.PageValue.TheVariants.{Zero}
-use Rattle.lwc_base.specs.Pages.{bytes_of}
 use Rattle.lwc_base.specs.Store.{Piece, bytes_after, stored_value}
+use Rattle.lwc_types.specs.declared.name.Tag.{Tag}
+use Rattle.lwc_types.specs.declared.page.PageValue.{PageValue}
+use Rattle.lwc_types.specs.declared.page.PageValue.TheVariants.{Zero}
+use Rattle.lwc_types.specs.Pages.{bytes_of}
 use Rattle.cow_space.specs.Maps.{put_page, row_of}
 use Rattle.cow_space.specs.Tags.{parts, row_tags}
 

@@ -1,6 +1,6 @@
 -- The row of a place once page runs of its pages have changed.
 use Rattle.std.specs.Prelude.{ℕ, List, Option, None, Some}
-use Rattle.lwc_base.specs.declared.page.PageValue.{PageValue}
+use Rattle.lwc_types.specs.declared.page.PageValue.{PageValue}
 use Rattle.cow_space.specs.Maps.{row_of}
 use Rattle.cow_space.specs.declared.page_runs.Origin.{Origin}
 use Rattle.cow_space.specs.declared.page_runs.Origin.TheVariants.{Absent, Zeros, Common, CopyOf}

@@ -1,7 +1,7 @@
 -- What the pages of places are seen as.
 use Rattle.std.specs.Prelude.{ℕ, List}
-use Rattle.lwc_base.specs.declared.name.Tag.{Tag}
-use Rattle.lwc_base.specs.declared.right.Right.{Right}
+use Rattle.lwc_types.specs.declared.name.Tag.{Tag}
+use Rattle.lwc_types.specs.declared.right.Right.{Right}
 use Rattle.cow_space.specs.RowSeen as rows
 use Rattle.cow_space.specs.declared.cells.PageCells.{PageCells}
 use Rattle.cow_space.specs.Cells.{Place, all_cells, all_rights}

@@ -1,8 +1,8 @@
 -- A frame that is taken and filled.
 use Rattle.std.specs.Prelude.{◌≡◌, ◌≢◌, ℕ, ◌<◌, List, length}
 use Rattle.frame_pool.specs.Frame.{Frame, frame_at, frame_count, frame_bytes}
-use Rattle.lwc_base.specs.declared.name.Tag.{Tag}
-use Rattle.lwc_base.specs.Pages.{zero_page}
+use Rattle.lwc_types.specs.declared.name.Tag.{Tag}
+use Rattle.lwc_types.specs.Pages.{zero_page}
 use Rattle.page_tree.specs.declared.cell.PageCell.{PageCell}
 use Rattle.page_tree.specs.declared.cell.PageCell.TheVariants.{Absent, Zero}
 use Rattle.page_tree.specs.declared.cell.PageCell.TheVariants as cell

@@ -1,8 +1,8 @@
 -- The maps that trees stand for, of their cells and of the frames.
 use Rattle.std.specs.Prelude.{ℕ, if◌then◌else◌, List, Option, None, Some, map, nat_lt}
 use Rattle.frame_pool.specs.Frame.{Frame, frame_stamp, frame_bytes}
-use Rattle.lwc_base.specs.declared.page.PageValue.{PageValue}
-use Rattle.lwc_base.specs.declared.page.PageValue.TheVariants as value
+use Rattle.lwc_types.specs.declared.page.PageValue.{PageValue}
+use Rattle.lwc_types.specs.declared.page.PageValue.TheVariants as value
 use Rattle.node_pool.specs.Nodes.{Node}
 use Rattle.page_tree.specs.declared.cell.PageCell.{PageCell}
 use Rattle.page_tree.specs.declared.cell.PageCell.TheVariants as cell

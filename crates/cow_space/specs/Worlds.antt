@@ -2,12 +2,12 @@
 use Rattle.std.specs.Prelude.{◌≡◌, ◌≢◌, ℕ, ◌<◌, ◌≤◌, All, List, [], None, Some, length}
 use Rattle.std.specs.List.{AllPairs, Contains, flat_map}
 use Rattle.lwc_base.specs.declared.cell.Cell.TheVariants as cell
-use Rattle.lwc_base.specs.declared.key.Key.TheVariants.{Page}
-use Rattle.lwc_base.specs.declared.limits.TheConstants.{MOST_PAGES}
-use Rattle.lwc_base.specs.declared.name.Tag.{Tag}
-use Rattle.lwc_base.specs.declared.page.PageValue.{PageValue}
 use Rattle.lwc_base.specs.Frames as worlds
 use Rattle.lwc_base.specs.World.{Context, Group, World}
+use Rattle.lwc_types.specs.declared.key.Key.TheVariants.{Page}
+use Rattle.lwc_types.specs.declared.limits.TheConstants.{MOST_PAGES}
+use Rattle.lwc_types.specs.declared.name.Tag.{Tag}
+use Rattle.lwc_types.specs.declared.page.PageValue.{PageValue}
 use Rattle.cow_space.specs.Cells.{Place, place_of}
 use Rattle.cow_space.specs.Tags.{is_parting, tags_of_place, used}
 

@@ -1,11 +1,11 @@
 -- A page once a piece is written to it.
 use Rattle.std.specs.Prelude.{ℕ, List, Some, slice_set, unwrap_or}
 use Rattle.lwc_base.specs.declared.cell.Cell.TheVariants as cell
-use Rattle.lwc_base.specs.declared.name.Tag.{Tag}
-use Rattle.lwc_base.specs.declared.page.PageValue.{PageValue}
-use Rattle.lwc_base.specs.declared.page.PageValue.TheVariants.{Zero}
-use Rattle.lwc_base.specs.Pages.{bytes_of}
 use Rattle.lwc_base.specs.Store.{Piece, bytes_after, stored_value}
+use Rattle.lwc_types.specs.declared.name.Tag.{Tag}
+use Rattle.lwc_types.specs.declared.page.PageValue.{PageValue}
+use Rattle.lwc_types.specs.declared.page.PageValue.TheVariants.{Zero}
+use Rattle.lwc_types.specs.Pages.{bytes_of}
 use Rattle.cow_space.specs.Maps.{put_page}
 use Rattle.cow_space.specs.Cells.{Place, place_of}
 use Rattle.cow_space.specs.Tags.{is_parting, own_values}

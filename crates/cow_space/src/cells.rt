@@ -26,8 +26,8 @@ pub struct PageCells {
 impl PageCells {
     ghost use Rattle.std.specs.Prelude.{◌+◌, ◌*◌, ◌<◌, ◌≤◌, ◌≢◌, All, IfSome, length, Some};
     ghost use Rattle.std.specs.Option.{option_copied};
-    ghost use Rattle.lwc_base.specs.declared.limits.TheConstants.{MOST_PAGE_PLACES, MOST_PAGES, MOST_RANGES};
-    ghost use Rattle.lwc_base.specs.declared.page.TheConstants.{PAGE_BYTES};
+    ghost use Rattle.lwc_types.specs.declared.limits.TheConstants.{MOST_PAGE_PLACES, MOST_PAGES, MOST_RANGES};
+    ghost use Rattle.lwc_types.specs.declared.page.TheConstants.{PAGE_BYTES};
     ghost use Rattle.page_tree.specs.declared.store.TheConstants.{TREE_NODES};
     ghost use Rattle.cow_space.specs.declared.rows.TheConstants.{FREE_NODES};
     ghost use Rattle.range_map.specs.Kinds.{IsCanonical, IsSegment, ranges, state_at};

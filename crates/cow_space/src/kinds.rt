@@ -1,9 +1,9 @@
 ghost use Rattle.std.specs.Prelude.{◌≡◌, ◌<◌, ◌≤◌, ◌+◌, ◌⊎◌, if◌then◌else◌, ℕ, suc, true, false, []};
 ghost use Rattle.std.specs.Prelude.{All, List, None, Option, Some, length, nat_le, slice_index_or, unwrap_or};
 ghost use Rattle.std.specs.Option.{option_copied};
-ghost use Rattle.lwc_base.specs.declared.limits.TheConstants.{MOST_PAGES, MOST_RANGES};
-ghost use Rattle.lwc_base.specs.declared.right.Right.{Right};
-ghost use Rattle.lwc_base.specs.declared.right.Right.TheVariants.{Read, Write};
+ghost use Rattle.lwc_types.specs.declared.limits.TheConstants.{MOST_PAGES, MOST_RANGES};
+ghost use Rattle.lwc_types.specs.declared.right.Right.{Right};
+ghost use Rattle.lwc_types.specs.declared.right.Right.TheVariants.{Read, Write};
 ghost use Rattle.range_map.specs.Kinds.{ranges, state_at};
 ghost use Rattle.range_map.specs.declared.segment.PageState.{PageState};
 ghost use Rattle.cow_space.specs.Kept.{HasNoOwnPage, has_own};

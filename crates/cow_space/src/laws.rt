@@ -1,7 +1,7 @@
 //! Laws of the pages of places: functions with empty bodies, each with a contract that is the law.
 
 ghost use Rattle.std.specs.Prelude.{◌≡◌, ◌+◌, ◌*◌};
-ghost use Rattle.lwc_base.specs.declared.limits.TheConstants.{MOST_CONTEXTS, MOST_GROUPS};
+ghost use Rattle.lwc_types.specs.declared.limits.TheConstants.{MOST_CONTEXTS, MOST_GROUPS};
 ghost use Rattle.page_tree.specs.declared.store.TheConstants.{TREE_NODES};
 ghost use Rattle.cow_space.specs.declared.rows.TheConstants.{FREE_NODES};
 ghost use Rattle.cow_space.specs.Laws.{CopyLaws, StoreLaws, WriteLaws};

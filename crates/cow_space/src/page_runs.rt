@@ -1,7 +1,7 @@
 ghost use Rattle.std.specs.Prelude.{◌≡◌, ◌≢◌, ◌<◌, ◌≤◌, ◌+◌, ◌*◌, ◌⊎◌, ℕ, All, length, min, slice_set};
 ghost use Rattle.page_tree.specs.declared.store.TheConstants.{PAGES, TREE_NODES};
 ghost use Rattle.page_tree.specs.Open.{entries_passed};
-ghost use Rattle.lwc_base.specs.declared.limits.TheConstants.{MOST_PAGES, MOST_RANGES};
+ghost use Rattle.lwc_types.specs.declared.limits.TheConstants.{MOST_PAGES, MOST_RANGES};
 ghost use Rattle.range_map.specs.Kinds.{ranges};
 ghost use Rattle.cow_space.specs.RowSeen as rows_seen;
 ghost use Rattle.cow_space.specs.Cells.{all_write, no_pages, place_of, rights_of, states_of};

@@ -1,5 +1,5 @@
 ghost use Rattle.std.specs.Prelude.{◌≡◌, ◌<◌, ◌≤◌, ◌+◌, ℕ, suc, None, Option, Some, length};
-ghost use Rattle.lwc_base.specs.declared.limits.TheConstants.{MOST_PAGES, MOST_RANGES};
+ghost use Rattle.lwc_types.specs.declared.limits.TheConstants.{MOST_PAGES, MOST_RANGES};
 ghost use Rattle.range_map.specs.Kinds.{IsCanonical, ranges, state_at, state_in};
 ghost use Rattle.range_map.specs.declared.segment.PageState.{PageState};
 ghost use Rattle.cow_space.specs.Changes.{begun, states_with, with_right};

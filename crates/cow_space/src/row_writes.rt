@@ -65,7 +65,7 @@ fn write_frame(frames: &mut Pool, frame: FrameNo, p: PageNumber, at: u32, piece:
 
 impl Rows {
     ghost use Rattle.std.specs.Prelude.{true, false, length, not};
-    ghost use Rattle.lwc_base.specs.declared.name.Tag.{Tag};
+    ghost use Rattle.lwc_types.specs.declared.name.Tag.{Tag};
     ghost use Rattle.page_tree.specs.declared.store.TheConstants.{PAGES};
     ghost use Rattle.cow_space.specs.Maps.{row_of};
     ghost use Rattle.cow_space.specs.RowWrites.{write_page};

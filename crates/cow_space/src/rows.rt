@@ -37,8 +37,8 @@ impl Rows {
     ghost use Rattle.std.specs.Option.{option_copied};
     ghost use Rattle.page_tree.specs.declared.store.TheConstants.{PAGES, TREE_NODES};
     ghost use Rattle.page_tree.specs.Pages.{page};
-    ghost use Rattle.lwc_base.specs.declared.limits.TheConstants.{MOST_PAGE_PLACES};
-    ghost use Rattle.lwc_base.specs.declared.page.TheConstants.{PAGE_BYTES};
+    ghost use Rattle.lwc_types.specs.declared.limits.TheConstants.{MOST_PAGE_PLACES};
+    ghost use Rattle.lwc_types.specs.declared.page.TheConstants.{PAGE_BYTES};
     ghost use Rattle.cow_space.specs.Maps.{data_of, no_pages, row_of};
     ghost use Rattle.cow_space.specs.RowSeen.{frames_of, free_nodes, maps, HasNoTree};
     ghost use Rattle.cow_space.specs.Tags.{different, parts, row_tags};

@@ -10,8 +10,8 @@ pub struct NoFrame;
 
 impl PageCells {
     ghost use Rattle.std.specs.Prelude.{◌≡◌, ◌↔◌, ◌+◌, ◌<◌, ◌≤◌, IfOk, IsErr, OnErr, false, length, true};
-    ghost use Rattle.lwc_base.specs.declared.name.Tag.{Tag};
-    ghost use Rattle.lwc_base.specs.declared.right.Right.TheVariants.{Write};
+    ghost use Rattle.lwc_types.specs.declared.name.Tag.{Tag};
+    ghost use Rattle.lwc_types.specs.declared.right.Right.TheVariants.{Write};
     ghost use Rattle.cow_space.specs.Cells.{IsOwnPage, place_of, rights_of};
     ghost use Rattle.cow_space.specs.Seen.{cells, frames_of, free_nodes, node_steps, rights};
     ghost use Rattle.cow_space.specs.Tags.{IsNewTag, is_parting, taken_by, used};

@@ -14,10 +14,10 @@ use Rattle.ctx_table.specs.Places.{Places}
 use Rattle.ctx_table.specs.Slots.{IsIndexed, name_in, name_slot}
 use Rattle.ctx_table.proofs.Held.{insert-indexed, not_some, remove-indexed}
 use Rattle.ctx_table.proofs.Taken.{first_free-free, found_pos, none_at, none_count, some_free}
-use Rattle.lwc_base.specs.contracts.name.NamePartialEq.TheImpl.{eq-value}
-use Rattle.lwc_base.specs.declared.name.Name.{Name}
-use Rattle.lwc_base.specs.Names.{name_cmp}
-use Rattle.lwc_base.proofs.Small.{nothing_found}
+use Rattle.lwc_types.specs.contracts.name.NamePartialEq.TheImpl.{eq-value}
+use Rattle.lwc_types.specs.declared.name.Name.{Name}
+use Rattle.lwc_types.specs.Names.{name_cmp}
+use Rattle.lwc_types.proofs.Small.{nothing_found}
 
 name-name_slot : (x : Option Name) → name_in (name_slot x) ≡ x
 name-name_slot None = refl

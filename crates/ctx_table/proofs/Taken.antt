@@ -16,10 +16,10 @@ use Rattle.ctx_table.specs.declared.place.Place.{Place}
 use Rattle.ctx_table.specs.declared.place.Place.TheVariants.{Free, Held}
 use Rattle.ctx_table.proofs.Alike.{same_names}
 use Rattle.ctx_table.proofs.Held.{count-set, get-map_of, not_some, update-indexed, update-map_of, weight}
-use Rattle.lwc_base.specs.declared.limits.TheConstants.{MOST_CONTEXTS}
-use Rattle.lwc_base.specs.declared.name.Name.{Name}
-use Rattle.lwc_base.specs.Names.{name_cmp}
-use Rattle.lwc_base.proofs.Small.{nothing_found, same_some}
+use Rattle.lwc_types.specs.declared.limits.TheConstants.{MOST_CONTEXTS}
+use Rattle.lwc_types.specs.declared.name.Name.{Name}
+use Rattle.lwc_types.specs.Names.{name_cmp}
+use Rattle.lwc_types.proofs.Small.{nothing_found, same_some}
 
 -- the first free place is free
 pub first_free-free : (names : List (Option Name)) → first_free names < length names → get_or names (first_free names) None ≡ None

@@ -3,11 +3,11 @@ use Rattle.std.specs.Prelude.{ℕ, List, Option, is_some, not, refl}
 use Rattle.std.specs.Coded.{Coded, code_by, coded×, coded_list, coded_option}
 use Rattle.std.specs.FinMap as fm
 use Rattle.std.specs.List.{position_or_len}
-use Rattle.lwc_base.specs.declared.name.Name.{Name}
-use Rattle.lwc_base.specs.declared.regs.Regs.{Regs}
-use Rattle.lwc_base.specs.contracts.name.Name as name
-use Rattle.lwc_base.specs.contracts.regs.Regs as regs
-use Rattle.lwc_base.specs.Names.{name_cmp}
+use Rattle.lwc_types.specs.declared.name.Name.{Name}
+use Rattle.lwc_types.specs.declared.regs.Regs.{Regs}
+use Rattle.lwc_types.specs.contracts.name.Name as name
+use Rattle.lwc_types.specs.contracts.regs.Regs as regs
+use Rattle.lwc_types.specs.Names.{name_cmp}
 
 -- what a context has: a value, and the registers that it begins with and that it keeps for threads
 pub record Kept (C : Type 0) : Type 0 where

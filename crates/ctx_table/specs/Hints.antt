@@ -1,6 +1,6 @@
 -- The numbers of names.
 use Rattle.std.specs.Prelude.{ℕ, ◌+◌, ◌*◌, ◌%◌, ◌==◌, Bool, false, Option, None, Some}
-use Rattle.lwc_base.specs.declared.name.Name.{Name}
+use Rattle.lwc_types.specs.declared.name.Name.{Name}
 use Rattle.ctx_table.specs.declared.hints.TheConstants.{HINTS}
 
 -- the number of a name, which other names may have too

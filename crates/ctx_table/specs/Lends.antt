@@ -7,7 +7,7 @@ use Rattle.ctx_table.specs.declared.place.Place.{Place}
 use Rattle.ctx_table.specs.declared.place.Place.TheVariants.{Free, Held}
 use Rattle.ctx_table.specs.contracts.place.Place as place
 use Rattle.ctx_table.specs.contracts.table.CtxTable as table
-use Rattle.lwc_base.specs.declared.name.Name.{Name}
+use Rattle.lwc_types.specs.declared.name.Name.{Name}
 
 -- a place with another value
 abbrev pub with_value : {C : Type 0} → Place C → C → Place C

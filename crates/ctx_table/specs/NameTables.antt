@@ -2,9 +2,9 @@
 use Rattle.std.specs.Prelude.{◌≡◌, ◌↔◌, ℕ, ◌<◌, List, Option, Some, None, length, refl, slice_index_or}
 use Rattle.std.specs.Coded.{Coded, code_by, coded×, coded_ℕ, coded_list, coded_option}
 use Rattle.std.specs.FinMap as fm
-use Rattle.lwc_base.specs.declared.name.Name.{Name}
-use Rattle.lwc_base.specs.contracts.name.Name.{the_row}
-use Rattle.lwc_base.specs.Names.{name_cmp}
+use Rattle.lwc_types.specs.declared.name.Name.{Name}
+use Rattle.lwc_types.specs.contracts.name.Name.{the_row}
+use Rattle.lwc_types.specs.Names.{name_cmp}
 
 -- the place of each name, and the name at each place, if there is one
 pub record NameTable : Type 0 where

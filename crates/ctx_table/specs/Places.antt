@@ -3,9 +3,9 @@ use Rattle.std.specs.Prelude.{◌≡◌, ℕ, ◌<◌, ◌≤◌, List, length, 
 use Rattle.std.specs.Coded.{Coded, code_by, coded×, coded_ℕ}
 use Rattle.std.specs.FinMap as fm
 use Rattle.std.specs.declared.cmp.Ordering.TheVariants.{Less, Greater}
-use Rattle.lwc_base.specs.declared.name.Name.{Name}
-use Rattle.lwc_base.specs.contracts.name.Name.{the_row}
-use Rattle.lwc_base.specs.Names.{name_cmp}
+use Rattle.lwc_types.specs.declared.name.Name.{Name}
+use Rattle.lwc_types.specs.contracts.name.Name.{the_row}
+use Rattle.lwc_types.specs.Names.{name_cmp}
 
 -- the place of each name, and the number of names that there is memory for
 pub record Places : Type 0 where

@@ -3,9 +3,9 @@ use Rattle.std.specs.Prelude.{◌≡◌, ℕ, ◌<◌, ◌≤◌, Bool, true, fa
 use Rattle.std.specs.Prelude.{is_some, length, map, slice_index_or}
 use Rattle.std.specs.FinMap as fm
 use Rattle.std.specs.Option.{option_map}
-use Rattle.lwc_base.specs.declared.name.Name.{Name}
-use Rattle.lwc_base.specs.Names.{name_cmp}
-use Rattle.lwc_base.specs.declared.limits.TheConstants.{MOST_GROUPS}
+use Rattle.lwc_types.specs.declared.name.Name.{Name}
+use Rattle.lwc_types.specs.Names.{name_cmp}
+use Rattle.lwc_types.specs.declared.limits.TheConstants.{MOST_GROUPS}
 use Rattle.ctx_table.specs.Contexts.{Contexts, Kept, first_free}
 use Rattle.ctx_table.specs.Places.{Places}
 use Rattle.ctx_table.specs.declared.place.Place.{Place}

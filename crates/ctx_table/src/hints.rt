@@ -2,7 +2,7 @@ ghost use Rattle.std.specs.Prelude.{◌≡◌, ◌<◌, if◌then◌else◌, IfO
 ghost use Rattle.ctx_table.specs.Hints.{number_of, shares_hint};
 ghost use Rattle.ctx_table.specs.declared.hints.TheConstants.{HINTS};
 
-use lwc_base::{Name, OutOfMemory};
+use lwc_types::{Name, OutOfMemory};
 use std::alloc::Global;
 use std::marker::Model;
 

@@ -1,9 +1,9 @@
 ghost use Rattle.std.specs.Prelude.{◌≡◌, ◌==◌, ◌<◌, Some, false, true, count_by, nat_lt, slice_get, IfErr, IfOk};
 ghost use Rattle.std.specs.FinMap as fm;
 ghost use Rattle.ctx_table.specs.Places.{IsAt, IsGap};
-ghost use Rattle.lwc_base.specs.Names.{name_cmp};
+ghost use Rattle.lwc_types.specs.Names.{name_cmp};
 
-use lwc_base::{Name, OutOfMemory};
+use lwc_types::{Name, OutOfMemory};
 use std::alloc::Global;
 use std::cmp::Ordering;
 use std::marker::Model;
@@ -19,7 +19,7 @@ impl Model for Index {
     ghost use Rattle.std.specs.Prelude.{T, vec_capacity};
     ghost use Rattle.std.specs.FinMap as fm;
     ghost use Rattle.ctx_table.specs.Places.{Places, places_code};
-    ghost use Rattle.lwc_base.specs.Names.{name_cmp};
+    ghost use Rattle.lwc_types.specs.Names.{name_cmp};
 
     ghost Value = { Places };
 

@@ -4,11 +4,11 @@ ghost use Rattle.std.specs.FinMap as fm;
 ghost use Rattle.std.specs.List.{position};
 ghost use Rattle.ctx_table.specs.Contexts.{first_free};
 ghost use Rattle.ctx_table.specs.NameTables.{ArePlaced};
-ghost use Rattle.lwc_base.specs.declared.limits.TheConstants.{MOST_GROUPS};
+ghost use Rattle.lwc_types.specs.declared.limits.TheConstants.{MOST_GROUPS};
 
 use crate::hints::Hints;
 use crate::index::Index;
-use lwc_base::{Name, OutOfMemory};
+use lwc_types::{Name, OutOfMemory};
 use std::alloc::Global;
 use std::marker::Model;
 

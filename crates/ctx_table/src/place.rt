@@ -1,12 +1,12 @@
 ghost use Rattle.std.specs.Prelude.{◌≡◌, ◌<◌, Some, false, slice_set, true};
 ghost use Rattle.std.specs.Borrow.{sem};
 ghost use Rattle.std.specs.List.{position};
-ghost use Rattle.lwc_base.specs.declared.limits.TheConstants.{MOST_THREADS};
-ghost use Rattle.lwc_base.specs.declared.name.Name.{Name};
+ghost use Rattle.lwc_types.specs.declared.limits.TheConstants.{MOST_THREADS};
+ghost use Rattle.lwc_types.specs.declared.name.Name.{Name};
 ghost use Rattle.ctx_table.specs.Contexts.{Kept};
 ghost use Rattle.ctx_table.specs.Slots as spec;
 
-use lwc_base::{Name, Regs};
+use lwc_types::{Name, Regs};
 
 /// A place of a table: free, or with a context that is held there.
 #[derive(Drop)]

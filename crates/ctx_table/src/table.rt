@@ -4,12 +4,12 @@ ghost use Rattle.std.specs.Borrow.{sem};
 ghost use Rattle.std.specs.FinMap as fm;
 ghost use Rattle.std.specs.Option.{option_map};
 ghost use Rattle.ctx_table.specs.Contexts.{Kept, first_free};
-ghost use Rattle.lwc_base.specs.Names.{name_cmp};
-ghost use Rattle.lwc_base.specs.declared.limits.TheConstants.{MOST_CONTEXTS, MOST_THREADS};
+ghost use Rattle.lwc_types.specs.Names.{name_cmp};
+ghost use Rattle.lwc_types.specs.declared.limits.TheConstants.{MOST_CONTEXTS, MOST_THREADS};
 
 use crate::index::Index;
 use crate::place::{Place, first_free};
-use lwc_base::{Name, OutOfMemory, Regs};
+use lwc_types::{Name, OutOfMemory, Regs};
 use std::alloc::Global;
 use std::marker::Model;
 use std::mem;
@@ -31,7 +31,7 @@ impl<C> Model for CtxTable<C> {
     ghost coded = { contexts_code C.code };
 
     ghost use Rattle.ctx_table.specs.Slots.{IsIndexed, contexts_of, slot_of};
-    ghost use Rattle.lwc_base.specs.declared.limits.TheConstants.{MOST_CONTEXTS};
+    ghost use Rattle.lwc_types.specs.declared.limits.TheConstants.{MOST_CONTEXTS};
 
     ghost view = { λ table. contexts_of table.places.items };
 

@@ -13,7 +13,7 @@ use Rattle.fd_table.specs.Kept.{IsKept}
 use Rattle.fd_table.proofs.ObjectLemmas.{one_if, counts-held, held-in, none-some}
 use Rattle.fd_table.proofs.SlotLemmas.{entry-empty, entry-some, slots-at, length-rows, row-at}
 use Rattle.fd_table.proofs.ChangeLemmas.{entry-held}
-use Rattle.lwc_base.proofs.Small.{sum-some}
+use Rattle.lwc_types.proofs.Small.{sum-some}
 
 one-some : (b : Bool) → 0 < one_if b → b ≡ true
 one-some true some = refl

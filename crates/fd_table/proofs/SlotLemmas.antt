@@ -14,7 +14,7 @@ use Rattle.fd_table.specs.Pools.{Held, no_held, count_of, slot_at, free_of}
 use Rattle.fd_table.specs.Tables.{times, naming, entry_slot, slots_of, rows, no_table, table_at, IsTable}
 use Rattle.fd_table.specs.Kept.{IsKept}
 use Rattle.fd_table.proofs.ObjectLemmas.{one_if, one-yes, one-no, times-some}
-use Rattle.lwc_base.proofs.Small.{at-new, map-replicate, set-again, set-map_same}
+use Rattle.lwc_types.proofs.Small.{at-new, map-replicate, set-again, set-map_same}
 
 -- ---- lists in which one element changes
 

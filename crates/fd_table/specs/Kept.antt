@@ -1,6 +1,6 @@
 -- What ties the tables of places to their store.
 use Rattle.std.specs.Prelude.{◌≡◌, ℕ, ◌*◌, ◌<◌, ◌≤◌, List, length}
-use Rattle.lwc_base.specs.declared.limits.TheConstants.{MOST_SLOT_PLACES}
+use Rattle.lwc_types.specs.declared.limits.TheConstants.{MOST_SLOT_PLACES}
 use Rattle.fd_table.specs.declared.table.Table.{Table}
 use Rattle.fd_table.specs.Pools.{Held, count_of}
 use Rattle.fd_table.specs.Tables.{IsTable, naming, table_at}

@@ -5,9 +5,9 @@ use Rattle.lwc_base.specs.declared.cell.Cell.TheVariants.{Own, Common}
 use Rattle.lwc_base.specs.declared.descriptor.Descriptor.{Descriptor}
 use Rattle.lwc_base.specs.declared.descriptor.Descriptor.TheVariants.{Ctx, Empty}
 use Rattle.lwc_base.specs.declared.descriptor.Lent.{Lent}
-use Rattle.lwc_base.specs.declared.name.Name.{Name}
 use Rattle.lwc_base.specs.Lending.{descriptor_of}
 use Rattle.lwc_base.specs.Summaries.{is_empty}
+use Rattle.lwc_types.specs.declared.name.Name.{Name}
 
 -- what a slot has: its cell, and a number for what the cell names
 pub record Slot : Type 0 where

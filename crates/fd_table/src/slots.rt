@@ -31,11 +31,11 @@ impl Slots {
     ghost use Rattle.std.specs.Prelude.{◌≢◌, ◌<◌, ◌≤◌, ◌↔◌, true, Some, None, IfNone, IfSome, IsTrue, count_by};
     ghost use Rattle.std.specs.Prelude.{slice_set};
     ghost use Rattle.std.specs.List.{range_with_len};
-    ghost use Rattle.lwc_base.specs.declared.descriptor.TheConstants.{SLOTS};
     ghost use Rattle.lwc_base.specs.Capabilities.{has_bit};
     ghost use Rattle.lwc_base.specs.declared.cell.Cell.TheVariants.{Own};
     ghost use Rattle.lwc_base.specs.declared.descriptor.Descriptor.TheVariants.{Empty};
-    ghost use Rattle.lwc_base.specs.declared.limits.TheConstants.{MOST_SLOT_PLACES};
+    ghost use Rattle.lwc_types.specs.declared.key.TheConstants.{SLOTS};
+    ghost use Rattle.lwc_types.specs.declared.limits.TheConstants.{MOST_SLOT_PLACES};
     ghost use Rattle.fd_table.specs.Seen.{slots};
     ghost use Rattle.fd_table.specs.Slots.{cell_of, context_in, empty_slot, is_common, is_filled, no_slots, put_slot};
     ghost use Rattle.fd_table.specs.Slots.{row_of};

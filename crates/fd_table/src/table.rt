@@ -1,7 +1,7 @@
 ghost use Rattle.std.specs.Prelude.{◌≡◌, ℕ, ◌<◌, ◌≤◌, ◌==◌, if◌then◌else◌, length, nat_lt, replicate, slice_index};
 ghost use Rattle.std.specs.Prelude.{slice_set};
 ghost use Rattle.lwc_base.specs.Capabilities.{has_bit};
-ghost use Rattle.lwc_base.specs.declared.descriptor.TheConstants.{SLOTS};
+ghost use Rattle.lwc_types.specs.declared.key.TheConstants.{SLOTS};
 ghost use Rattle.fd_table.specs.Tables.{times};
 
 use crate::bits::with_bit;

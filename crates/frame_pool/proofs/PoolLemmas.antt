@@ -2,8 +2,8 @@
 use Rattle.std.proofs.Common.{◌≡◌, ℕ, ◌<◌, ◌≤◌, ⊎_elim, cond, eqb, ltb, List, [], length, get_or, set, replicate, refl, sym, ◌∙◌, ap, arith, length-set, get_or-set_other}
 use Rattle.std.proofs.lemmas.List.{set-get_or, get_or_past, get_or_read}
 use Rattle.std.proofs.lemmas.Bool.{cases_lt}
-use Rattle.lwc_base.specs.declared.name.Tag.{Tag}
-use Rattle.lwc_base.specs.Pages.{zero_page}
+use Rattle.lwc_types.specs.declared.name.Tag.{Tag}
+use Rattle.lwc_types.specs.Pages.{zero_page}
 use Rattle.pool_base.specs.Counts.{Places, free_count, held_count}
 use Rattle.pool_base.specs.Padded.{padded}
 use Rattle.pool_base.specs.Paired.{paired}

@@ -1,7 +1,7 @@
 -- A pool of frames as the list of its frames.
 use Rattle.std.specs.Prelude.{ℕ, ◌==◌, List, [], count_by, nat_lt, slice_index_or, slice_set}
-use Rattle.lwc_base.specs.declared.name.Tag.{Tag}
-use Rattle.lwc_base.specs.Pages.{zero_page}
+use Rattle.lwc_types.specs.declared.name.Tag.{Tag}
+use Rattle.lwc_types.specs.Pages.{zero_page}
 
 -- a frame: how often it is held, its stamp, and its bytes
 pub record Frame : Type 0 where

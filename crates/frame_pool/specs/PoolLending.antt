@@ -1,7 +1,7 @@
 -- A pool that lends the bytes of a frame.
 use Rattle.std.specs.Prelude.{ℕ, List}
 use Rattle.std.specs.Borrow.{Lends, MutBor, Fml, Array, u8}
-use Rattle.lwc_base.specs.declared.page.TheConstants.{PAGE_BYTES}
+use Rattle.lwc_types.specs.declared.page.TheConstants.{PAGE_BYTES}
 use Rattle.frame_pool.specs.contracts.pool.Pool.{the_row}
 use Rattle.frame_pool.specs.Frame.{Frame, refill_frame}
 

@@ -1,8 +1,8 @@
 ghost use Rattle.std.specs.Prelude.{◌≡◌, ◌≢◌, ℕ, ◌+◌, ◌-◌, ◌<◌, ◌^◌, ◌↔◌, List, IfOk, IfSome, IfNone, IsNone, length};
 ghost use Rattle.std.specs.Prelude.{replicate, slice_set};
-ghost use Rattle.lwc_base.specs.declared.page.TheConstants.{PAGE_BYTES};
+ghost use Rattle.lwc_types.specs.declared.page.TheConstants.{PAGE_BYTES};
 
-use lwc_base::{OutOfMemory, PAGE_BYTES, Tag};
+use lwc_types::{OutOfMemory, PAGE_BYTES, Tag};
 use pool_base::{Counts, put_next};
 use std::alloc::Global;
 use std::marker::Model;

@@ -2,7 +2,7 @@
 use Rattle.std.proofs.Common.{◌≡◌, ℕ, ◌+◌, ◌*◌, ◌^◌, ◌<◌, ◌≤◌, List, [], ◌∷◌, ◌++◌, length, map, get_or, refl, ap, ◌∙◌, arith, length-append}
 use Rattle.std.specs.List.{flat_map}
 use Rattle.std.proofs.lemmas.List.Folds.{length-flat_map-take}
-use Rattle.lwc_base.specs.declared.limits.TheConstants.{MOST_IMAGE_BYTES}
+use Rattle.lwc_types.specs.declared.limits.TheConstants.{MOST_IMAGE_BYTES}
 use Rattle.guest_isa.specs.Spelling.{spelling}
 use Rattle.guest_image.specs.Spelling.{number}
 use Rattle.guest_asm.specs.declared.parts.FileDraft.{FileDraft}

@@ -3,9 +3,9 @@ use Rattle.std.proofs.Common.{◌≡◌, ℕ, ◌+◌, List, [], ◌∷◌, leng
 use Rattle.guest_asm.specs.declared.error.SourceRule.{SourceRule}
 use Rattle.guest_asm.specs.Lexis.{lines}
 use Rattle.guest_asm.specs.Sources.{Source, with_line, with_lines, at_offset}
-use Rattle.lwc_base.specs.Outcomes.{Refusal, Fails}
-use Rattle.lwc_base.specs.declared.reading.ReadError.{ReadError}
-use Rattle.lwc_base.specs.declared.reading.ReadError.TheVariants as errors
+use Rattle.lwc_types.specs.Outcomes.{Refusal, Fails}
+use Rattle.lwc_types.specs.declared.reading.ReadError.{ReadError}
+use Rattle.lwc_types.specs.declared.reading.ReadError.TheVariants as errors
 
 is_ok : (at : ℕ) (w : Result Source SourceRule) (next : Source) → at_offset at w Ok ≡ Ok next → w ≡ Ok next
 is_ok at (Ok x) next e = cc

@@ -3,8 +3,8 @@ use Rattle.std.specs.Prelude.{ℕ, ◌-◌, not, nat_lt, if◌then◌else◌, Li
 use Rattle.std.specs.Prelude.{Some, None, is_some, Result, Ok, Err}
 use Rattle.std.specs.Option.{unwrap_or}
 use Rattle.std.specs.List.{flat_map}
-use Rattle.lwc_base.specs.Outcomes.{Refusal, ◌>>=◌}
-use Rattle.lwc_base.specs.declared.page.TheConstants.{PAGE_BYTES}
+use Rattle.lwc_types.specs.Outcomes.{Refusal, ◌>>=◌}
+use Rattle.lwc_types.specs.declared.page.TheConstants.{PAGE_BYTES}
 use Rattle.guest_isa.specs.declared.instr.Instr.{Instr}
 use Rattle.guest_isa.specs.Spelling as instructions
 use Rattle.guest_image.specs.declared.fault.ImageRule.{ImageRule}
@@ -18,7 +18,7 @@ use Rattle.guest_asm.specs.declared.error.SourceRule.TheVariants as rules
 use Rattle.guest_asm.specs.declared.parts.PageDraft.{PageDraft}
 use Rattle.guest_asm.specs.declared.parts.FileDraft.{FileDraft}
 use Rattle.guest_asm.specs.declared.parts.SlotDraft.{SlotDraft}
-use Rattle.lwc_base.specs.declared.limits.TheConstants.{MOST_SOURCE_BYTES}
+use Rattle.lwc_types.specs.declared.limits.TheConstants.{MOST_SOURCE_BYTES}
 use Rattle.guest_asm.specs.Lexis.{lines}
 use Rattle.guest_asm.specs.Statements.{Immediate, Value, Label, Coded}
 use Rattle.guest_asm.specs.Sources.{Source, Use, nothing, with_lines}

@@ -1,6 +1,6 @@
 pub use Rattle.guest_image.specs.Reading
 pub use Rattle.guest_image.specs.Spelling
-pub use Rattle.lwc_base.specs.Outcomes
+pub use Rattle.lwc_types.specs.Outcomes
 pub mod Rules
 pub mod Lexis
 pub mod Numbers

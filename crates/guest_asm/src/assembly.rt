@@ -1,7 +1,7 @@
 //! From a source to an image.
 
 ghost use Rattle.std.specs.Prelude.{IfOk};
-ghost use Rattle.lwc_base.specs.Outcomes.{Answers};
+ghost use Rattle.lwc_types.specs.Outcomes.{Answers};
 ghost use Rattle.guest_image.specs.Limits.{IsImage};
 ghost use Rattle.guest_image.specs.Reading.{image_at};
 ghost use Rattle.guest_asm.specs.Drafts as spec;
@@ -11,7 +11,7 @@ use crate::draft::{check_labels, draft_bytes, draft_length};
 use crate::error::{SourceError, SourceRule};
 use crate::source::Source;
 use guest_image::{Image, ImageRule, read_image};
-use lwc_base::{MOST_IMAGE_BYTES, MOST_SOURCE_BYTES, ReadError};
+use lwc_types::{MOST_IMAGE_BYTES, MOST_SOURCE_BYTES, ReadError};
 use std::alloc::Global;
 
 /// The image that a source makes (`assembled`), which is within the limits of images.

@@ -2,11 +2,11 @@
 
 ghost use Rattle.std.specs.Prelude.{◌≡◌, ◌++◌, ◌-◌, ◌*◌, ◌≤◌, length, OnOk, IfOk};
 ghost use Rattle.std.specs.List.{flat_map};
-ghost use Rattle.lwc_base.specs.Outcomes.{Answers};
+ghost use Rattle.lwc_types.specs.Outcomes.{Answers};
 ghost use Rattle.guest_isa.specs.Spelling as instructions;
 ghost use Rattle.guest_image.specs.Spelling.{number};
-ghost use Rattle.lwc_base.specs.declared.limits.TheConstants.{MOST_IMAGE_BYTES};
-ghost use Rattle.lwc_base.specs.declared.page.TheConstants.{PAGE_BYTES};
+ghost use Rattle.lwc_types.specs.declared.limits.TheConstants.{MOST_IMAGE_BYTES};
+ghost use Rattle.lwc_types.specs.declared.page.TheConstants.{PAGE_BYTES};
 ghost use Rattle.guest_asm.specs.Drafts as spec;
 ghost use Rattle.guest_asm.specs.Views.{draft_in, immediate_in, label_at, source_in};
 
@@ -16,7 +16,7 @@ use crate::parts::{FileDraft, PageDraft, SlotDraft};
 use crate::source::Source;
 use guest_image::Form;
 use guest_isa::Instr;
-use lwc_base::{MOST_IMAGE_BYTES, OutOfMemory, PAGE_BYTES, ReadError};
+use lwc_types::{MOST_IMAGE_BYTES, OutOfMemory, PAGE_BYTES, ReadError};
 use std::alloc::Global;
 use std::collections::HashMap;
 

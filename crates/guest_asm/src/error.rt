@@ -4,7 +4,7 @@ ghost use Rattle.std.specs.Prelude.{◌≡◌};
 ghost use Rattle.guest_asm.specs.Rules.{rule_name};
 
 use guest_image::ImageRule;
-use lwc_base::ReadError;
+use lwc_types::ReadError;
 
 /// The rules of a source.
 #[derive(Clone, Copy, Debug, PartialEq, Eq)]

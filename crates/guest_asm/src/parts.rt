@@ -1,6 +1,6 @@
 //! Parts of an image as a source gives them, before they are tested. Definitions speak of them.
 
-use lwc_base::Sequence;
+use lwc_types::Sequence;
 
 /// A page: its number, and its first bytes.
 #[derive(Drop)]

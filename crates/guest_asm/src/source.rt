@@ -7,8 +7,8 @@ ghost use Rattle.guest_asm.specs.Lexis.{is_plain, lines, text_of};
 ghost use Rattle.guest_asm.specs.Statements.{bytes_of};
 ghost use Rattle.guest_asm.specs.Sources as spec;
 ghost use Rattle.guest_asm.specs.Views.{bytes_in, immediate_in, source_in, statement_in};
-ghost use Rattle.lwc_base.specs.Outcomes.{Answers};
-ghost use Rattle.lwc_base.specs.declared.reading.ReadError.TheVariants.{OutOfMemory};
+ghost use Rattle.lwc_types.specs.Outcomes.{Answers};
+ghost use Rattle.lwc_types.specs.declared.reading.ReadError.TheVariants.{OutOfMemory};
 
 use crate::error::{SourceError, SourceRule};
 use crate::operand::Immediate;
@@ -18,7 +18,7 @@ use crate::words::{FirstLine, all_clean, next_line};
 use guest_image::Form;
 use guest_isa::Instr;
 use hex::FromHexError;
-use lwc_base::{ReadError, Sequence};
+use lwc_types::{ReadError, Sequence};
 use std::alloc::Global;
 use std::collections::HashMap;
 

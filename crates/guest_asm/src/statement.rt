@@ -17,7 +17,7 @@ use crate::parts::SlotDraft;
 use crate::words::{FirstLine, all_plain, labelled, next_word};
 use guest_image::Form;
 use guest_isa::{Field, Instr, Op};
-use lwc_base::PAGE_BYTES;
+use lwc_types::PAGE_BYTES;
 
 /// What a line says beside its label. The bytes of a page and of a file are still hexadecimal.
 #[derive(Clone, Copy)]

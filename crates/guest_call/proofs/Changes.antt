@@ -1,23 +1,23 @@
 -- What a put under a key, and saving registers, leave as they were.
 use Rattle.std.proofs.Common.{◌≡◌, ℕ, true, false, ap, arith, refl, sym, subst}
 use Rattle.lwc_base.specs.declared.cell.Cell.TheVariants.{Own}
-use Rattle.lwc_base.specs.declared.key.Key.{Key}
-use Rattle.lwc_base.specs.declared.name.Name.{Name}
-use Rattle.lwc_base.specs.declared.regs.Regs.{Regs}
 use Rattle.lwc_base.specs.Cells.{put_at, value_at, with_cell}
 use Rattle.lwc_base.specs.Clones.{AreApart}
 use Rattle.lwc_base.specs.Facts.{ChangesContext}
 use Rattle.lwc_base.specs.Keys.{ValueOf}
 use Rattle.lwc_base.specs.Saved.{save}
 use Rattle.lwc_base.specs.World.{World, Context, context, is_live}
+use Rattle.lwc_types.specs.declared.key.Key.{Key}
+use Rattle.lwc_types.specs.declared.name.Name.{Name}
+use Rattle.lwc_types.specs.declared.regs.Regs.{Regs}
 use Rattle.guest_call.specs.Changes.{ChangesKey, ChangesSaved, IsUntouched}
-use Rattle.lwc_base.proofs.Orders.{cases_name}
 use Rattle.lwc_base.proofs.Lookups.{changes-change_context, changes-change_group}
 use Rattle.lwc_base.proofs.Keys.{cases_key}
 use Rattle.lwc_base.proofs.Puts.{after_put_at, names-put_at}
 use Rattle.lwc_base.proofs.Rights.{rights-put_at, rights-save}
 use Rattle.lwc_base.proofs.Saving.{save-value, saves}
 use Rattle.lwc_base.proofs.Common.{put-apart, put-other_cell, put-other_key, put-others}
+use Rattle.lwc_types.proofs.Orders.{cases_name}
 
 -- what a change of one context leaves of it, it leaves of each
 left_of_each : {X : Type 0} (part : Context → X) (w v : World) (c : Name) (f : Context → Context) → ChangesContext w c f v →

@@ -2,13 +2,13 @@
 use Rattle.std.proofs.Common.{◌≡◌, refl, ◌*◌, ◌≤◌, ◌++◌, ℕ, Bool, List, [], Some, None, Ok, ap, arith, false, length, true}
 use Rattle.std.proofs.lemmas.List.FromFn.{length-map-range_with_len}
 use Rattle.guest_call.specs.Asked.{asked, item_bytes, item_refusals, items_of}
-use Rattle.lwc_base.specs.declared.limits.TheConstants.{MOST_ITEMS}
-use Rattle.lwc_base.specs.declared.name.Name.{Name}
-use Rattle.lwc_base.specs.declared.refusal.Refusal.{Refusal}
 use Rattle.lwc_base.specs.Memory.{bytes_for, byte_at, load}
 use Rattle.lwc_base.specs.Modes.{IsSpec}
 use Rattle.lwc_base.specs.Refusals.{first_refusal}
 use Rattle.lwc_base.specs.World.{World}
+use Rattle.lwc_types.specs.declared.limits.TheConstants.{MOST_ITEMS}
+use Rattle.lwc_types.specs.declared.name.Name.{Name}
+use Rattle.lwc_types.specs.declared.refusal.Refusal.{Refusal}
 use Rattle.res_spec.proofs.ValidItems.{read_spec}
 use Rattle.res_spec.specs.Items as items
 use Rattle.res_spec.specs.Items.{all_taken, all_within, faults, has_overlap, items_in, read}

@@ -4,10 +4,10 @@ use Rattle.std.specs.List.{filter_map, find}
 use Rattle.guest_call.specs.Asked.{asked, items_of}
 use Rattle.lwc_base.specs.declared.item.Item.{Item}
 use Rattle.lwc_base.specs.declared.item.Mode.{Mode}
-use Rattle.lwc_base.specs.declared.key.Key.{Key}
-use Rattle.lwc_base.specs.declared.name.Name.{Name}
 use Rattle.lwc_base.specs.Modes.{mode, names}
 use Rattle.lwc_base.specs.World.{World}
+use Rattle.lwc_types.specs.declared.key.Key.{Key}
+use Rattle.lwc_types.specs.declared.name.Name.{Name}
 use Rattle.res_spec.specs.Items.{Spelled, item_of, items_in, spelled, takes_mode}
 use Rattle.res_spec.specs.declared.items.SpecCall.{SpecCall}
 

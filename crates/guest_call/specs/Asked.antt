@@ -1,12 +1,12 @@
 -- The items that a call of a guest asks for: where they stand, and why they are refused.
 use Rattle.std.specs.Prelude.{ℕ, ◌*◌, Bool, not, List, [], ◌∷◌, Option, is_none, nat_lt, unwrap_or}
 use Rattle.lwc_base.specs.declared.item.Item.{Item}
-use Rattle.lwc_base.specs.declared.name.Name.{Name}
-use Rattle.lwc_base.specs.declared.limits.TheConstants.{MOST_ITEMS}
-use Rattle.lwc_base.specs.declared.refusal.Refusal.{Refusal}
-use Rattle.lwc_base.specs.declared.refusal.Refusal.TheVariants.{TooManyItems, BadAddress, BadMode, BadRange, Overlap}
 use Rattle.lwc_base.specs.Memory.{bytes_for}
 use Rattle.lwc_base.specs.World.{World}
+use Rattle.lwc_types.specs.declared.name.Name.{Name}
+use Rattle.lwc_types.specs.declared.limits.TheConstants.{MOST_ITEMS}
+use Rattle.lwc_types.specs.declared.refusal.Refusal.{Refusal}
+use Rattle.lwc_types.specs.declared.refusal.Refusal.TheVariants.{TooManyItems, BadAddress, BadMode, BadRange, Overlap}
 use Rattle.res_spec.specs.Items.{all_taken, all_within, has_overlap, items_in}
 use Rattle.res_spec.specs.declared.items.SpecCall.{SpecCall}
 use Rattle.res_spec.specs.declared.items.SpecFault.{SpecFault}

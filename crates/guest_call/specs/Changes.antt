@@ -1,11 +1,11 @@
 -- What a put under a key, and what saving registers, may change.
 use Rattle.std.specs.Prelude.{◌≡◌, ◌≢◌, ℕ}
-use Rattle.lwc_base.specs.declared.key.Key.{Key}
-use Rattle.lwc_base.specs.declared.name.Name.{Name}
 use Rattle.lwc_base.specs.Cells.{value_at}
 use Rattle.lwc_base.specs.Clones.{AreApart}
 use Rattle.lwc_base.specs.Facts.{KeepsNames}
 use Rattle.lwc_base.specs.World.{World, context}
+use Rattle.lwc_types.specs.declared.key.Key.{Key}
+use Rattle.lwc_types.specs.declared.name.Name.{Name}
 
 -- a key is not the one that changes, or the context in which that changes and the other one are apart under
 -- it

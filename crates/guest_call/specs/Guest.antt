@@ -4,15 +4,15 @@ use Rattle.std.specs.Prelude.{is_none, nat_lt, slice_set}
 use Rattle.lwc_base.specs.declared.descriptor.Cap.{Cap}
 use Rattle.lwc_base.specs.declared.descriptor.Descriptor.{Descriptor}
 use Rattle.lwc_base.specs.declared.descriptor.Descriptor.TheVariants.{Empty, Ctx}
-use Rattle.lwc_base.specs.declared.descriptor.TheConstants.{SLOTS}
-use Rattle.lwc_base.specs.declared.name.Name.{Name}
-use Rattle.lwc_base.specs.declared.limits.TheConstants.{MOST_RANGES}
-use Rattle.lwc_base.specs.declared.refusal.Refusal.{Refusal}
-use Rattle.lwc_base.specs.declared.refusal.Refusal.TheVariants.{BadFd, WrongKind}
-use Rattle.lwc_base.specs.declared.regs.Regs.{Regs}
 use Rattle.lwc_base.specs.Cells.{slot_at}
 use Rattle.lwc_base.specs.Summaries.{is_empty}
 use Rattle.lwc_base.specs.World.{World}
+use Rattle.lwc_types.specs.declared.key.TheConstants.{SLOTS}
+use Rattle.lwc_types.specs.declared.name.Name.{Name}
+use Rattle.lwc_types.specs.declared.limits.TheConstants.{MOST_RANGES}
+use Rattle.lwc_types.specs.declared.refusal.Refusal.{Refusal}
+use Rattle.lwc_types.specs.declared.refusal.Refusal.TheVariants.{BadFd, WrongKind}
+use Rattle.lwc_types.specs.declared.regs.Regs.{Regs}
 
 -- what is in the slot of a number; nothing where no slot has that number
 unfoldable pub descriptor_for : World → Name → ℕ → Descriptor

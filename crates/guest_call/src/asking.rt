@@ -4,9 +4,9 @@ ghost use Rattle.guest_call.specs.Asked.{item_refusals, items_of};
 ghost use Rattle.lwc_base.specs.Modes.{IsSpec};
 ghost use Rattle.lwc_base.specs.Refusals.{first_refusal};
 ghost use Rattle.lwc_base.specs.World as worlds;
-ghost use Rattle.lwc_base.specs.declared.limits.TheConstants.{MOST_ITEMS};
-ghost use Rattle.lwc_base.specs.declared.name.Name as names;
-ghost use Rattle.lwc_base.specs.declared.refusal.Refusal.{Refusal};
+ghost use Rattle.lwc_types.specs.declared.limits.TheConstants.{MOST_ITEMS};
+ghost use Rattle.lwc_types.specs.declared.name.Name as names;
+ghost use Rattle.lwc_types.specs.declared.refusal.Refusal.{Refusal};
 ghost use Rattle.res_spec.specs.declared.items.SpecCall as calls;
 ghost use Rattle.world_face.specs.Calls.{IsLive};
 

@@ -7,9 +7,9 @@ ghost use Rattle.lwc_base.specs.Life.{links};
 ghost use Rattle.lwc_base.specs.Saved.{save};
 ghost use Rattle.lwc_base.specs.World.{World};
 ghost use Rattle.lwc_base.specs.declared.descriptor.Cap.{Cap};
-ghost use Rattle.lwc_base.specs.declared.key.Key.{Key};
-ghost use Rattle.lwc_base.specs.declared.name.Name.{Name};
-ghost use Rattle.lwc_base.specs.declared.regs.Regs.{Regs};
+ghost use Rattle.lwc_types.specs.declared.key.Key.{Key};
+ghost use Rattle.lwc_types.specs.declared.name.Name.{Name};
+ghost use Rattle.lwc_types.specs.declared.regs.Regs.{Regs};
 
 /// A context links to the one that a slot of it has a descriptor of.
 #[tactic(auto, using(crate::proofs::Targets::target_links))]

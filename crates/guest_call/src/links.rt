@@ -3,8 +3,8 @@ ghost use Rattle.guest_call.specs.Guest.{descriptor_for, link_of, slot_refusals}
 ghost use Rattle.lwc_base.specs.Lending.{descriptor_of, keys_of};
 ghost use Rattle.lwc_base.specs.Life.{HasItsContexts};
 ghost use Rattle.lwc_base.specs.Refusals.{first_refusal};
-ghost use Rattle.lwc_base.specs.declared.descriptor.TheConstants.{SLOTS};
-ghost use Rattle.lwc_base.specs.declared.refusal.Refusal.{Refusal};
+ghost use Rattle.lwc_types.specs.declared.key.TheConstants.{SLOTS};
+ghost use Rattle.lwc_types.specs.declared.refusal.Refusal.{Refusal};
 ghost use Rattle.world_face.specs.Calls.{IsLive};
 
 use lwc_base::{Grant, Lent, Name, Refusal, SLOTS, SlotNumber};

@@ -6,8 +6,8 @@ use Rattle.std.proofs.lemmas.List.{length-map}
 use Rattle.std.proofs.lemmas.List.Sums.{sum_by-cons}
 use Rattle.std.proofs.lemmas.List.Folds.{flat_map-map}
 use Rattle.std.proofs.lemmas.List.Elements.{All-nil, All-cons, All-head, All-tail}
-use Rattle.lwc_base.specs.declared.channels.FileImage.{FileImage}
-use Rattle.lwc_base.specs.declared.limits.TheConstants.{MOST_SOURCE_BYTES}
+use Rattle.lwc_types.specs.declared.file_image.FileImage.{FileImage}
+use Rattle.lwc_types.specs.declared.limits.TheConstants.{MOST_SOURCE_BYTES}
 use Rattle.guest_isa.specs.Instructions.{IsInstruction, HasFieldsInRange}
 use Rattle.guest_image.specs.declared.image.Form.{Form}
 use Rattle.guest_image.specs.declared.image.Form.TheVariants.{One, Two}

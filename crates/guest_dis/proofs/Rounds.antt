@@ -5,8 +5,8 @@ use Rattle.std.specs.List.{flat_map, list_all}
 use Rattle.std.proofs.lemmas.List.{append-nil, map-append}
 use Rattle.std.proofs.lemmas.List.Elements.{All-head, All-tail}
 use Rattle.std.proofs.lemmas.Bool.{le-ltb}
-use Rattle.lwc_base.specs.declared.channels.FileImage.{FileImage}
-use Rattle.lwc_base.specs.declared.limits.TheConstants.{MOST_SOURCE_BYTES}
+use Rattle.lwc_types.specs.declared.file_image.FileImage.{FileImage}
+use Rattle.lwc_types.specs.declared.limits.TheConstants.{MOST_SOURCE_BYTES}
 use Rattle.guest_isa.specs.declared.instr.Instr.{Instr}
 use Rattle.guest_isa.specs.Instructions.{IsInstruction, HasFieldsInRange}
 use Rattle.guest_image.specs.declared.image.Form.{Form}

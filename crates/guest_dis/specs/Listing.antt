@@ -1,7 +1,7 @@
 -- The source of an image, without labels.
 use Rattle.std.specs.Prelude.{ℕ, ◌<◌, ◌==◌, Bool, if◌then◌else◌, List, [], ◌∷◌, ◌++◌, length, map, All, codes, decimal}
 use Rattle.std.specs.List.{flat_map}
-use Rattle.lwc_base.specs.declared.channels.FileImage.{FileImage}
+use Rattle.lwc_types.specs.declared.file_image.FileImage.{FileImage}
 use Rattle.guest_isa.specs.declared.instr.Instr.{Instr}
 use Rattle.guest_image.specs.declared.image.Form.{Form}
 use Rattle.guest_image.specs.declared.image.Form.TheVariants.{One, Two}

@@ -5,7 +5,7 @@ ghost use Rattle.guest_dis.specs.Listing as spec;
 
 use guest_image::{Form, PageImage, SlotImage};
 use guest_isa::{Field, Instr};
-use lwc_base::{FileImage, OutOfMemory};
+use lwc_types::{FileImage, OutOfMemory};
 use std::alloc::Global;
 
 /// Appends the line of the form, if it is 2.

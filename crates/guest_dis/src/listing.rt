@@ -9,7 +9,7 @@ ghost use Rattle.guest_dis.specs.Listing as spec;
 use crate::lines::{put_entry, put_file, put_form, put_instruction, put_page, put_slot, put_uid};
 use guest_image::{Image, PageImage, SlotImage};
 use guest_isa::Text;
-use lwc_base::{FileImage, OutOfMemory};
+use lwc_types::{FileImage, OutOfMemory};
 use std::alloc::Global;
 
 /// The source of an image (`listing`): the form if it is 2, the uid, the entries, the instructions, the pages, the

@@ -11,9 +11,9 @@ use Rattle.guest_image.proofs.FieldLaws.{IsBytes}
 use Rattle.guest_image.proofs.PartLaws.{all_bytes}
 use Rattle.guest_image.proofs.WholeLaws.{image_takes, image_again, refused_fails, fails_refused}
 use Rattle.guest_isa.proofs.Inverse.{IsBytes-from_all}
-use Rattle.lwc_base.specs.Outcomes.{Answers}
-use Rattle.lwc_base.specs.declared.reading.ReadError.{ReadError}
-use Rattle.lwc_base.specs.declared.reading.ReadError.TheVariants.{Refused}
+use Rattle.lwc_types.specs.Outcomes.{Answers}
+use Rattle.lwc_types.specs.declared.reading.ReadError.{ReadError}
+use Rattle.lwc_types.specs.declared.reading.ReadError.TheVariants.{Refused}
 
 -- an image is read from its bytes, no other bytes give one, and a refusal is exactly where a rule is broken
 pub reading_facts : ReadingFacts

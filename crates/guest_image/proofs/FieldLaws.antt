@@ -9,7 +9,7 @@ use Rattle.guest_image.specs.declared.fault.ImageRule.TheVariants.{Truncated}
 use Rattle.guest_image.specs.Rest.{Rest}
 use Rattle.guest_image.specs.Spelling.{number}
 use Rattle.guest_image.specs.Reading.{Read, refused, bytes_at, number_at, number_where}
-use Rattle.lwc_base.specs.Outcomes.{Refusal, ◌>>=◌}
+use Rattle.lwc_types.specs.Outcomes.{Refusal, ◌>>=◌}
 
 abbrev pub IsBytes : List ℕ → Type 0
 IsBytes bytes = (i : ℕ) → get_or bytes i 0 < 256

@@ -6,8 +6,8 @@ use Rattle.std.proofs.lemmas.Bool.{eqb-true, and_parts, and_from, leb-true, le-l
 use Rattle.std.proofs.lemmas.Bool.Decides.{nat_tests}
 use Rattle.std.proofs.lemmas.List.{flat_map_more, append-nil, length-append}
 use Rattle.std.proofs.lemmas.List.Concat.{flat_map-cons}
-use Rattle.lwc_base.specs.Outcomes.{Refusal, ◌>>=◌}
-use Rattle.lwc_base.specs.declared.limits.TheConstants.{MOST_FILES, MOST_IMAGE_SLOTS, MOST_INSTRUCTIONS, MOST_THREADS}
+use Rattle.lwc_types.specs.Outcomes.{Refusal, ◌>>=◌}
+use Rattle.lwc_types.specs.declared.limits.TheConstants.{MOST_FILES, MOST_IMAGE_SLOTS, MOST_INSTRUCTIONS, MOST_THREADS}
 use Rattle.guest_image.specs.declared.fault.ImageRule.{ImageRule}
 use Rattle.guest_image.specs.declared.fault.ImageRule.TheVariants.{BadMagic, BadCount}
 use Rattle.guest_image.specs.declared.header.Header.{Header}

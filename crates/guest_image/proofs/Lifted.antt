@@ -1,7 +1,7 @@
 -- An image that is lifted is an image, and its bytes differ in the last byte of the magic alone.
 use Rattle.std.proofs.Common.{◌≡◌, ◌<◌, ◌≤◌, List, refl, arith}
 use Rattle.std.proofs.lemmas.List.Elements.{All-weaker}
-use Rattle.lwc_base.specs.declared.limits.TheConstants.{MOST_PAGES}
+use Rattle.lwc_types.specs.declared.limits.TheConstants.{MOST_PAGES}
 use Rattle.guest_image.specs.declared.image.Form.{Form}
 use Rattle.guest_image.specs.declared.image.Form.TheVariants.{One, Two}
 use Rattle.guest_image.specs.declared.image.Image.{Image}

@@ -3,9 +3,9 @@ use Rattle.std.proofs.Common.{◌≡◌, ℕ, suc, ◌-◌, ◌+◌, ◌≤◌, 
 use Rattle.guest_image.specs.declared.fault.ImageRule.{ImageRule}
 use Rattle.guest_image.specs.Reading.{Read, list_at}
 use Rattle.guest_image.specs.Rest.{Rest}
-use Rattle.lwc_base.specs.Outcomes.{Fails}
-use Rattle.lwc_base.specs.declared.reading.ReadError.{ReadError}
-use Rattle.lwc_base.specs.declared.reading.ReadError.TheVariants as errors
+use Rattle.lwc_types.specs.Outcomes.{Fails}
+use Rattle.lwc_types.specs.declared.reading.ReadError.{ReadError}
+use Rattle.lwc_types.specs.declared.reading.ReadError.TheVariants as errors
 
 -- how a value is read after others
 abbrev pub Reader : Type 0 → Type 0

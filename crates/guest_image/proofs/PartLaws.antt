@@ -6,11 +6,11 @@ use Rattle.std.proofs.lemmas.Bool.Decides.{nat_tests}
 use Rattle.std.proofs.lemmas.List.{get_or_append_left, get_or_default, length-append, length-replicate, map_push, map-append}
 use Rattle.std.proofs.lemmas.List.Elements.{All-push, All-contains, All-weaker, Contains-push}
 use Rattle.std.proofs.lemmas.List.Sums.{sum_by_push, sum_by-append}
-use Rattle.lwc_base.specs.Outcomes.{Refusal, ◌>>=◌}
-use Rattle.lwc_base.specs.declared.channels.FileImage.{FileImage}
-use Rattle.lwc_base.specs.declared.descriptor.TheConstants.{SLOTS}
-use Rattle.lwc_base.specs.declared.limits.TheConstants.{MOST_FILE_BYTES, MOST_RANGES}
-use Rattle.lwc_base.specs.declared.page.TheConstants.{PAGE_BYTES}
+use Rattle.lwc_types.specs.Outcomes.{Refusal, ◌>>=◌}
+use Rattle.lwc_types.specs.declared.file_image.FileImage.{FileImage}
+use Rattle.lwc_types.specs.declared.key.TheConstants.{SLOTS}
+use Rattle.lwc_types.specs.declared.limits.TheConstants.{MOST_FILE_BYTES, MOST_RANGES}
+use Rattle.lwc_types.specs.declared.page.TheConstants.{PAGE_BYTES}
 use Rattle.guest_isa.specs.declared.instr.Instr.{Instr}
 use Rattle.guest_isa.specs.Instructions.{IsInstruction}
 use Rattle.guest_isa.specs.Spelling.{reading}

@@ -5,7 +5,7 @@ use Rattle.guest_image.specs.declared.image.Form.{Form}
 use Rattle.guest_image.specs.Rest.{Rest}
 use Rattle.guest_image.specs.Refusals.{Breaks}
 use Rattle.guest_image.proofs.FieldLaws.{Takes, Takes-end, end_of}
-use Rattle.lwc_base.specs.Outcomes.{Refusal}
+use Rattle.lwc_types.specs.Outcomes.{Refusal}
 
 -- the rule is broken behind the bytes that were taken
 pub record StopsAt (form : Form) (file : Rest) (s : Refusal ImageRule) : Type 0 where

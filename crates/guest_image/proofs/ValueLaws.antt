@@ -11,7 +11,7 @@ use Rattle.guest_image.specs.Refusals.{AllValues, SomeValues}
 use Rattle.guest_image.proofs.FieldLaws.{IsBytes, from, bind_ok, bind_err, ok_is, Takes, Takes-then}
 use Rattle.guest_image.proofs.Loops.{Reader}
 use Rattle.guest_image.proofs.Stops.{Stops}
-use Rattle.lwc_base.specs.Outcomes.{Refusal}
+use Rattle.lwc_types.specs.Outcomes.{Refusal}
 
 -- what is read is spelled so, and then P holds of it and those before it
 pub record TakesEach {A : Type 0} (P : List A → Type 0) (spell : A → List ℕ) (read : Reader A) : Type 0 where

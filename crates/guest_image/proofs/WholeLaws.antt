@@ -8,11 +8,11 @@ use Rattle.std.proofs.lemmas.List.{append-nil, nil_from_length, length-append, g
 use Rattle.std.proofs.lemmas.List.Concat.{length-flat_map}
 use Rattle.std.proofs.lemmas.List.Elements.{All-nil, All-weaker}
 use Rattle.std.proofs.lemmas.List.Sums.{sum_by-le, sum_by-cons}
-use Rattle.lwc_base.specs.Outcomes.{Refusal}
-use Rattle.lwc_base.specs.declared.channels.FileImage.{FileImage}
-use Rattle.lwc_base.specs.declared.descriptor.TheConstants.{SLOTS}
-use Rattle.lwc_base.specs.declared.limits.TheConstants.{MOST_BYTES_OF_FORM_ONE, MOST_IMAGE_BYTES}
-use Rattle.lwc_base.specs.declared.page.TheConstants.{PAGE_BYTES}
+use Rattle.lwc_types.specs.Outcomes.{Refusal}
+use Rattle.lwc_types.specs.declared.file_image.FileImage.{FileImage}
+use Rattle.lwc_types.specs.declared.key.TheConstants.{SLOTS}
+use Rattle.lwc_types.specs.declared.limits.TheConstants.{MOST_BYTES_OF_FORM_ONE, MOST_IMAGE_BYTES}
+use Rattle.lwc_types.specs.declared.page.TheConstants.{PAGE_BYTES}
 use Rattle.guest_isa.specs.declared.instr.Instr.{Instr}
 use Rattle.guest_isa.specs.Spelling as instructions
 use Rattle.guest_image.specs.declared.fault.ImageRule.{ImageRule}

@@ -2,7 +2,7 @@
 use Rattle.std.proofs.Common.{◌≡◌, ℕ, ◌+◌, List, [], ◌∷◌, ◌++◌, length, take, Some, sym, ap, ◌∙◌, append_assoc}
 use Rattle.std.specs.List.{flat_map, slice_get}
 use Rattle.std.proofs.lemmas.List.{take_more, flat_map_more}
-use Rattle.lwc_base.specs.declared.channels.FileImage.{FileImage}
+use Rattle.lwc_types.specs.declared.file_image.FileImage.{FileImage}
 use Rattle.guest_image.specs.declared.header.Header.{Header}
 use Rattle.guest_image.specs.declared.image.Form.{Form}
 use Rattle.guest_image.specs.Spelling.{magic, number, flag, header, file}

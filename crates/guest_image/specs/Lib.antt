@@ -1,6 +1,6 @@
 pub use Rattle.guest_isa.specs.Instructions
 pub use Rattle.guest_isa.specs.Opcodes
-pub use Rattle.lwc_base.specs.Outcomes
+pub use Rattle.lwc_types.specs.Outcomes
 pub mod Facts
 pub mod Limits
 pub mod Numbers

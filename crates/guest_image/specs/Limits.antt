@@ -1,11 +1,11 @@
 -- What an image is.
 use Rattle.std.specs.Prelude.{ℕ, ◌<◌, ◌≤◌, ◌^◌, ◌≡◌, Bool, not, ◌||◌, nat_lt, IsTrue, List, length, map, All}
 use Rattle.std.specs.List.{sum_by}
-use Rattle.lwc_base.specs.declared.channels.FileImage.{FileImage}
-use Rattle.lwc_base.specs.declared.descriptor.TheConstants.{SLOTS}
-use Rattle.lwc_base.specs.declared.limits.TheConstants.{MOST_FILE_BYTES, MOST_FILES, MOST_IMAGE_SLOTS, MOST_PAGES}
-use Rattle.lwc_base.specs.declared.limits.TheConstants.{MOST_RANGES, MOST_THREADS, PAGES_OF_FORM_ONE}
-use Rattle.lwc_base.specs.declared.page.TheConstants.{PAGE_BYTES}
+use Rattle.lwc_types.specs.declared.file_image.FileImage.{FileImage}
+use Rattle.lwc_types.specs.declared.key.TheConstants.{SLOTS}
+use Rattle.lwc_types.specs.declared.limits.TheConstants.{MOST_FILE_BYTES, MOST_FILES, MOST_IMAGE_SLOTS, MOST_PAGES}
+use Rattle.lwc_types.specs.declared.limits.TheConstants.{MOST_RANGES, MOST_THREADS, PAGES_OF_FORM_ONE}
+use Rattle.lwc_types.specs.declared.page.TheConstants.{PAGE_BYTES}
 use Rattle.guest_isa.specs.declared.instr.Instr.{Instr}
 use Rattle.guest_isa.specs.Opcodes.{has_target}
 use Rattle.guest_isa.specs.Instructions.{IsText}

@@ -2,13 +2,13 @@
 use Rattle.std.specs.Prelude.{ℕ, zero, suc, ◌+◌, Bool, false, ◌&&◌, nat_lt, nat_le, ◌==◌, if◌then◌else◌, List, []}
 use Rattle.std.specs.Prelude.{◌∷◌, ◌++◌, length, take, drop, slice_index, Option, Some, None, Result, Ok, Err}
 use Rattle.std.specs.Int.{w32, from_le_bytes}
-use Rattle.lwc_base.specs.Outcomes.{Refusal, ◌>>=◌}
-use Rattle.lwc_base.specs.declared.channels.FileImage.{FileImage}
-use Rattle.lwc_base.specs.declared.descriptor.TheConstants.{SLOTS}
-use Rattle.lwc_base.specs.declared.limits.TheConstants.{MOST_FILE_BYTES, MOST_FILES, MOST_IMAGE_BYTES}
-use Rattle.lwc_base.specs.declared.limits.TheConstants.{MOST_IMAGE_SLOTS, MOST_BYTES_OF_FORM_ONE, MOST_INSTRUCTIONS}
-use Rattle.lwc_base.specs.declared.limits.TheConstants.{MOST_RANGES, MOST_THREADS}
-use Rattle.lwc_base.specs.declared.page.TheConstants.{PAGE_BYTES}
+use Rattle.lwc_types.specs.Outcomes.{Refusal, ◌>>=◌}
+use Rattle.lwc_types.specs.declared.file_image.FileImage.{FileImage}
+use Rattle.lwc_types.specs.declared.key.TheConstants.{SLOTS}
+use Rattle.lwc_types.specs.declared.limits.TheConstants.{MOST_FILE_BYTES, MOST_FILES, MOST_IMAGE_BYTES}
+use Rattle.lwc_types.specs.declared.limits.TheConstants.{MOST_IMAGE_SLOTS, MOST_BYTES_OF_FORM_ONE, MOST_INSTRUCTIONS}
+use Rattle.lwc_types.specs.declared.limits.TheConstants.{MOST_RANGES, MOST_THREADS}
+use Rattle.lwc_types.specs.declared.page.TheConstants.{PAGE_BYTES}
 use Rattle.guest_isa.specs.declared.instr.Instr.{Instr}
 use Rattle.guest_isa.specs.Spelling.{reading}
 use Rattle.guest_image.specs.declared.fault.ImageRule.{ImageRule}

@@ -2,7 +2,7 @@
 use Rattle.std.specs.Prelude.{ℕ, Bool, if◌then◌else◌, List, [], ◌∷◌, ◌++◌, length, codes, slice_set}
 use Rattle.std.specs.List.{flat_map}
 use Rattle.std.specs.Int.{w32, to_le_bytes}
-use Rattle.lwc_base.specs.declared.channels.FileImage.{FileImage}
+use Rattle.lwc_types.specs.declared.file_image.FileImage.{FileImage}
 use Rattle.guest_isa.specs.Spelling as instructions
 use Rattle.guest_image.specs.declared.image.Form.{Form}
 use Rattle.guest_image.specs.declared.image.Form.TheVariants.{One, Two}

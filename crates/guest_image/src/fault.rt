@@ -3,7 +3,7 @@
 ghost use Rattle.std.specs.Prelude.{◌≡◌};
 ghost use Rattle.guest_image.specs.Rules.{rule_name};
 
-use lwc_base::ReadError;
+use lwc_types::ReadError;
 
 /// The rules of an image.
 #[derive(Clone, Copy, Debug, PartialEq, Eq)]

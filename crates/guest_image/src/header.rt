@@ -1,15 +1,15 @@
 //! The head of an image.
 
 ghost use Rattle.std.specs.Prelude.{◌≡◌, ◌≤◌, IfOk};
-ghost use Rattle.lwc_base.specs.Outcomes.{Answers};
-ghost use Rattle.lwc_base.specs.declared.limits.TheConstants.{MOST_FILES, MOST_INSTRUCTIONS};
+ghost use Rattle.lwc_types.specs.Outcomes.{Answers};
+ghost use Rattle.lwc_types.specs.declared.limits.TheConstants.{MOST_FILES, MOST_INSTRUCTIONS};
 ghost use Rattle.guest_image.specs.Reading.{byte_at, magic_at, count_at, header_at};
 ghost use Rattle.guest_image.specs.Spelling.{digit};
 
 use crate::fault::{ImageFault, ImageRule};
 use crate::image::Form;
 use crate::reader::Reader;
-use lwc_base::{MOST_FILES, MOST_IMAGE_SLOTS, MOST_INSTRUCTIONS, MOST_THREADS, ReadError};
+use lwc_types::{MOST_FILES, MOST_IMAGE_SLOTS, MOST_INSTRUCTIONS, MOST_THREADS, ReadError};
 
 /// The number of values of each list, and the uid.
 #[derive(Clone, Copy)]

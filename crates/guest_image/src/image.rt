@@ -5,7 +5,7 @@ ghost use Rattle.guest_image.specs.Limits.{pages_of};
 ghost use Rattle.guest_image.specs.Spelling.{magic};
 
 use guest_isa::Text;
-use lwc_base::{
+use lwc_types::{
     FileImage, MOST_PAGES, PAGES_OF_FORM_ONE, PageBytes, PageNumber, Sequence, SlotNumber,
 };
 

@@ -1,8 +1,8 @@
 //! The lists of an image, each as long as its header says.
 
 ghost use Rattle.std.specs.Prelude.{◌≡◌, ◌≤◌};
-ghost use Rattle.lwc_base.specs.Outcomes.{Answers};
-ghost use Rattle.lwc_base.specs.declared.limits.TheConstants.{MOST_FILES, MOST_INSTRUCTIONS};
+ghost use Rattle.lwc_types.specs.Outcomes.{Answers};
+ghost use Rattle.lwc_types.specs.declared.limits.TheConstants.{MOST_FILES, MOST_INSTRUCTIONS};
 ghost use Rattle.guest_image.specs.Reading.{instructions_at, pages_at, files_at, slots_at, entries_at};
 
 use crate::fault::{ImageFault, ImageRule};
@@ -12,7 +12,7 @@ use crate::parts::{
 };
 use crate::reader::Reader;
 use guest_isa::Text;
-use lwc_base::{FileImage, Sequence};
+use lwc_types::{FileImage, Sequence};
 use std::alloc::Global;
 
 /// Reads a text of this length.

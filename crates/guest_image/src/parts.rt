@@ -1,9 +1,9 @@
 //! One instruction, page, file, slot or entry of an image.
 
 ghost use Rattle.std.specs.Prelude.{◌≡◌, ◌+◌, ◌<◌, ◌≤◌, length, IfOk};
-ghost use Rattle.lwc_base.specs.Outcomes.{Answers};
+ghost use Rattle.lwc_types.specs.Outcomes.{Answers};
 ghost use Rattle.guest_isa.specs.Instructions.{IsInstruction};
-ghost use Rattle.lwc_base.specs.declared.limits.TheConstants.{MOST_FILE_BYTES, MOST_FILES, MOST_RANGES};
+ghost use Rattle.lwc_types.specs.declared.limits.TheConstants.{MOST_FILE_BYTES, MOST_FILES, MOST_RANGES};
 ghost use Rattle.guest_image.specs.Numbers.{is_above, begins, ranges_with};
 ghost use Rattle.guest_image.specs.Limits.{stays_inside};
 ghost use Rattle.guest_image.specs.Reading.{number_below, instruction_at, page_number_at, page_at, public_at};
@@ -13,7 +13,7 @@ use crate::fault::{ImageFault, ImageRule};
 use crate::image::{FIRST_SLOT, Form, PageImage, SlotImage};
 use crate::reader::Reader;
 use guest_isa::{Instr, decode};
-use lwc_base::{
+use lwc_types::{
     FileImage, MOST_FILE_BYTES, MOST_RANGES, PAGE_BYTES, PageBytes, PageNumber, ReadError, SLOTS,
     Sequence, SlotNumber,
 };

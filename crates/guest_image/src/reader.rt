@@ -1,12 +1,12 @@
 //! What is still to be read of a file, and the fields that every part of an image is made of.
 
 ghost use Rattle.std.specs.Prelude.{◌≡◌, ◌≤◌, ◌==◌, length, IfOk};
-ghost use Rattle.lwc_base.specs.Outcomes.{Answers};
-ghost use Rattle.lwc_base.specs.declared.limits.TheConstants.{MOST_IMAGE_BYTES};
+ghost use Rattle.lwc_types.specs.Outcomes.{Answers};
+ghost use Rattle.lwc_types.specs.declared.limits.TheConstants.{MOST_IMAGE_BYTES};
 ghost use Rattle.guest_image.specs.Reading.{bytes_at, number_at};
 
 use crate::fault::{ImageFault, ImageRule};
-use lwc_base::ReadError;
+use lwc_types::ReadError;
 use std::marker::Model;
 
 /// The bytes of a file from an offset on.
@@ -18,7 +18,7 @@ pub(crate) struct Reader<'a> {
 
 impl<'a> Model for Reader<'a> {
     ghost use Rattle.std.specs.Prelude.{◌+◌, ◌≤◌, length};
-    ghost use Rattle.lwc_base.specs.declared.limits.TheConstants.{MOST_IMAGE_BYTES};
+    ghost use Rattle.lwc_types.specs.declared.limits.TheConstants.{MOST_IMAGE_BYTES};
     ghost use Rattle.guest_image.specs.Rest.{Rest};
 
     ghost Value = { Rest };

@@ -1,9 +1,9 @@
 //! Reading an image.
 
 ghost use Rattle.std.specs.Prelude.{◌≡◌, ◌≤◌, ℕ, IfOk, Ok, Err};
-ghost use Rattle.lwc_base.specs.declared.limits.TheConstants.{MOST_IMAGE_BYTES};
-ghost use Rattle.lwc_base.specs.Outcomes.{Answers};
-ghost use Rattle.lwc_base.specs.declared.reading.ReadError.TheVariants.{Refused};
+ghost use Rattle.lwc_types.specs.declared.limits.TheConstants.{MOST_IMAGE_BYTES};
+ghost use Rattle.lwc_types.specs.Outcomes.{Answers};
+ghost use Rattle.lwc_types.specs.declared.reading.ReadError.TheVariants.{Refused};
 ghost use Rattle.guest_image.specs.declared.fault.ImageRule.{ImageRule};
 ghost use Rattle.guest_image.specs.declared.image.Image.{Image};
 ghost use Rattle.guest_image.specs.Limits.{IsImage};
@@ -16,7 +16,7 @@ use crate::header::Header;
 use crate::image::{Form, Image};
 use crate::lists::{read_entries, read_files, read_pages, read_slots, read_text};
 use crate::reader::Reader;
-use lwc_base::{MOST_BYTES_OF_FORM_ONE, MOST_IMAGE_BYTES, ReadError};
+use lwc_types::{MOST_BYTES_OF_FORM_ONE, MOST_IMAGE_BYTES, ReadError};
 use std::alloc::Global;
 
 /// The image that these bytes spell, all of them.

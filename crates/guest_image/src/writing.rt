@@ -10,7 +10,7 @@ ghost use Rattle.guest_image.specs.Spelling.{file as file_spelling, slot, spelli
 use crate::header::Header;
 use crate::image::{Form, Image, PageImage, SlotImage};
 use guest_isa::{Text, encode};
-use lwc_base::{FileImage, OutOfMemory};
+use lwc_types::{FileImage, OutOfMemory};
 use std::alloc::Global;
 
 /// The bytes of an image (`spelling`), unless memory runs out.

@@ -6,7 +6,7 @@ use Rattle.guest_isa.specs.declared.op.Op.TheVariants.{Li, Lih, Mov, Add, Sub, M
 use Rattle.guest_isa.specs.declared.op.Op.TheVariants.{Shr, Ltu, Eq, Addi, Jmp, Jz, Jnz, Jal, Jr}
 use Rattle.guest_isa.specs.declared.instr.Instr.{Instr}
 use Rattle.guest_isa.specs.Instructions.{sx}
-use Rattle.lwc_base.specs.declared.regs.Regs.{Regs}
+use Rattle.lwc_types.specs.declared.regs.Regs.{Regs}
 use Rattle.guest_machine.specs.declared.effect.Effect.{Effect}
 use Rattle.guest_machine.specs.declared.effect.Effect.TheVariants.{Puts, Jumps, Links, Passes}
 

@@ -1,14 +1,14 @@
 ghost use Rattle.std.specs.Prelude.{◌≡◌, ℕ, List, slice_get, Some, None, IfOk, IfErr, unwrap_or};
 ghost use Rattle.guest_isa.specs.declared.instr.Instr.{Instr};
 ghost use Rattle.guest_isa.specs.Instructions.{IsInstruction, IsText};
-ghost use Rattle.lwc_base.specs.declared.regs.Regs.{Regs};
+ghost use Rattle.lwc_types.specs.declared.regs.Regs.{Regs};
 ghost use Rattle.guest_machine.specs.declared.progress.Advance.{Advance};
 ghost use Rattle.guest_machine.specs.Advances.{stop, advanced, IfShared, IsAdvance, IsShared};
 
 use crate::effect::after_private;
 use crate::progress::{Advance, Next};
 use guest_isa::{Instr, Text};
-use lwc_base::Regs;
+use lwc_types::Regs;
 
 /// The most private instructions of one step.
 const MOST: usize = 256;

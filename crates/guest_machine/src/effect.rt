@@ -5,7 +5,7 @@ ghost use Rattle.guest_isa.specs.Opcodes.{is_private, is_shared};
 ghost use Rattle.guest_machine.specs.Effects.{quotient, remainder, effect};
 
 use guest_isa::{Instr, Op};
-use lwc_base::Regs;
+use lwc_types::Regs;
 
 /// What a private instruction does. Unless it says otherwise, pc grows by one, modulo 2^64.
 #[derive(Clone, Copy, PartialEq, Eq)]

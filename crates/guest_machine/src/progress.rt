@@ -1,5 +1,5 @@
 use guest_isa::Instr;
-use lwc_base::Regs;
+use lwc_types::Regs;
 
 /// What comes after private instructions.
 #[derive(Clone, Copy, Debug, PartialEq, Eq)]

@@ -21,22 +21,22 @@ use Rattle.lwc_base.specs.Keys.{ValueOf}
 use Rattle.lwc_base.specs.Sound.{IsSound}
 use Rattle.lwc_base.specs.declared.cell.Cell.{Cell}
 use Rattle.lwc_base.specs.declared.cell.Cell.TheVariants.{Common}
-use Rattle.lwc_base.specs.declared.key.Key.{Key}
 use Rattle.lwc_base.specs.Life.{is_among, reap}
-use Rattle.lwc_base.specs.Names.{name_cmp}
 use Rattle.lwc_base.specs.Jobs.{NamesKeepToJobs, own_names}
 use Rattle.lwc_base.specs.World.{World, context, is_live}
-use Rattle.lwc_base.specs.declared.fault.ThreadStatus.{ThreadStatus}
-use Rattle.lwc_base.specs.declared.fault.ThreadStatus.TheVariants as status
-use Rattle.lwc_base.specs.declared.name.Name.{Name}
+use Rattle.lwc_types.specs.declared.key.Key.{Key}
+use Rattle.lwc_types.specs.Names.{name_cmp}
+use Rattle.lwc_types.specs.declared.fault.ThreadStatus.{ThreadStatus}
+use Rattle.lwc_types.specs.declared.fault.ThreadStatus.TheVariants as status
+use Rattle.lwc_types.specs.declared.name.Name.{Name}
 use Rattle.lwc_syscall.specs.Changes.{IsWell}
 use Rattle.snapshot_host.specs.Begin.{IsNewJob, begin}
 use Rattle.lwc_base.proofs.Facts.{counts}
 use Rattle.lwc_base.proofs.Jobs.{root_of_job}
-use Rattle.lwc_base.proofs.Orders.{name-itself, same_name}
 use Rattle.lwc_base.proofs.Reaped.{reaped-reap, was_group-reap, way-of_kept}
 use Rattle.lwc_base.proofs.Reaps.{keeps-reap}
 use Rattle.lwc_base.proofs.Life.{or_cases, or_right}
+use Rattle.lwc_types.proofs.Orders.{name-itself, same_name}
 
 -- the steps of a thread, and those for requests that are not begun
 abbrev pub steps_with : Option Serve → ℕ → Thread → ℕ

@@ -15,15 +15,15 @@ use Rattle.lwc_base.specs.Modes.{IsSpec}
 use Rattle.lwc_base.specs.Sharing.{clone_context}
 use Rattle.lwc_base.specs.World.{World, Counters, context, is_live, live_of, next_context}
 use Rattle.lwc_base.specs.declared.descriptor.Descriptor.TheVariants.{Reply, Request}
-use Rattle.lwc_base.specs.declared.name.Name.{Name}
+use Rattle.lwc_types.specs.declared.name.Name.{Name}
 use Rattle.lwc_syscall.specs.Changes.{IsWell}
 use Rattle.snapshot_host.specs.Begin.{IsNewJob, begin, begun_context, request_context}
 use Rattle.lwc_base.proofs.Facts.{counts}
 use Rattle.lwc_base.proofs.InRange.{files-clone}
 use Rattle.lwc_base.proofs.Lookups.{adds-add_context}
 use Rattle.lwc_base.proofs.NamedContexts.{contexts-clone}
-use Rattle.lwc_base.proofs.Orders.{cases_name}
 use Rattle.lwc_base.proofs.Sound.{sound-clone_context}
+use Rattle.lwc_types.proofs.Orders.{cases_name}
 use Rattle.snapshot_host.proofs.Copies.{begun}
 use Rattle.lwc_syscall.proofs.Kept.{well-slot}
 

@@ -11,8 +11,8 @@ use Rattle.kernel_core.specs.Machine.{Environment, Machine, Serve, has_ended, is
 use Rattle.kernel_core.specs.Runs.{last_finished, run}
 use Rattle.kernel_core.specs.Step.{AfterStep, Outcome, advance_outcome, after_outcome, after_thread, begin_next, finish, finished_in, finished_of, finishes, guest_calls, only, step, step_by, thread_outcome, unchanged, with_status}
 use Rattle.kernel_core.specs.declared.thread.Thread.{Thread}
-use Rattle.lwc_base.specs.declared.fault.ThreadStatus.{ThreadStatus}
-use Rattle.lwc_base.specs.declared.fault.ThreadStatus.TheVariants.{Idle, Running, Done, Faulted}
+use Rattle.lwc_types.specs.declared.fault.ThreadStatus.{ThreadStatus}
+use Rattle.lwc_types.specs.declared.fault.ThreadStatus.TheVariants.{Idle, Running, Done, Faulted}
 use Rattle.snapshot_host.specs.declared.finishing.Finished.{Finished}
 
 -- one more step

@@ -15,12 +15,12 @@ use Rattle.kernel_core.specs.Start.{first_context, first_name, first_slot, first
 use Rattle.kernel_core.specs.Step.{roots}
 use Rattle.lwc_base.specs.Cells.{slot_at, value_at, value_of}
 use Rattle.lwc_base.specs.Life.{HasItsContexts, IsReaped, Root, is_among, is_of, links}
-use Rattle.lwc_base.specs.Names.{name_cmp}
 use Rattle.lwc_base.specs.World.{Context, is_live}
 use Rattle.lwc_base.specs.declared.descriptor.Descriptor.TheVariants.{Console, Empty, File}
-use Rattle.lwc_base.specs.declared.key.Key.TheVariants.{Slot}
-use Rattle.lwc_base.specs.declared.name.Name.{Name}
-use Rattle.lwc_base.proofs.Orders.{same_name}
+use Rattle.lwc_types.specs.Names.{name_cmp}
+use Rattle.lwc_types.specs.declared.key.Key.TheVariants.{Slot}
+use Rattle.lwc_types.specs.declared.name.Name.{Name}
+use Rattle.lwc_types.proofs.Orders.{same_name}
 
 pub none_of : (test : ℕ → Bool) (ns : List ℕ) → ((n : ℕ) → test n ≡ false) → list_any test ns ≡ false
 none_of test [] fails = refl

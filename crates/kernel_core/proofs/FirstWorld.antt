@@ -16,21 +16,21 @@ use Rattle.lwc_base.specs.Frames.{is_parting, tags, tags_of_context, tags_of_gro
 use Rattle.lwc_base.specs.Keys.{ValueOf, is_there}
 use Rattle.lwc_base.specs.Mapping.{map_pages, with_zeros}
 use Rattle.lwc_base.specs.Memory.{is_present, touched}
-use Rattle.lwc_base.specs.Names.{name_cmp, tag_cmp}
-use Rattle.lwc_base.specs.Pages.{bytes_of, zero_bytes, zero_page}
-use Rattle.lwc_base.specs.Registers.{fresh_registers}
-use Rattle.lwc_base.specs.declared.right.Right.TheVariants.{Write}
 use Rattle.lwc_base.specs.Rights.{is_writable, may_write, right_at}
 use Rattle.lwc_base.specs.Store.{Absent, Done, Full, ReadOnly, Piece, after_store, byte_after, bytes_after, page_value_at, parting_count, stored_pages, put_pages, store, stored_value}
 use Rattle.lwc_base.specs.World.{World, Context, Group, add_context, change_context, change_counters, changed_context, context, empty_world, is_live, new_context}
 use Rattle.lwc_base.specs.declared.cell.Cell.TheVariants.{Own}
-use Rattle.lwc_base.specs.declared.key.Key.{Key}
-use Rattle.lwc_base.specs.declared.key.Key.TheVariants.{Page}
-use Rattle.lwc_base.specs.declared.name.Name.{Name}
-use Rattle.lwc_base.specs.declared.name.Tag.{Tag}
-use Rattle.lwc_base.specs.declared.page.PageValue.TheVariants.{Zero, Data}
-use Rattle.lwc_base.specs.declared.page.TheConstants.{PAGE_BYTES}
 use Rattle.lwc_base.proofs.Facts.{orders}
+use Rattle.lwc_types.specs.Names.{name_cmp, tag_cmp}
+use Rattle.lwc_types.specs.Pages.{bytes_of, zero_bytes, zero_page}
+use Rattle.lwc_types.specs.Registers.{fresh_registers}
+use Rattle.lwc_types.specs.declared.right.Right.TheVariants.{Write}
+use Rattle.lwc_types.specs.declared.key.Key.{Key}
+use Rattle.lwc_types.specs.declared.key.Key.TheVariants.{Page}
+use Rattle.lwc_types.specs.declared.name.Name.{Name}
+use Rattle.lwc_types.specs.declared.name.Tag.{Tag}
+use Rattle.lwc_types.specs.declared.page.PageValue.TheVariants.{Zero, Data}
+use Rattle.lwc_types.specs.declared.page.TheConstants.{PAGE_BYTES}
 use Rattle.snapshot_host.proofs.Copies.{chosen_twice}
 
 counted_once : (b : Bool) → cond b (record (counted 0 0) { contexts = 0 + 1 }) (counted 0 0) ≡ cond b (counted 1 0) (counted 0 0)

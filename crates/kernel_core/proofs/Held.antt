@@ -10,19 +10,19 @@ use Rattle.lwc_base.specs.Frames.{is_parting, used}
 use Rattle.lwc_base.specs.Keys.{ValueOf, is_there}
 use Rattle.lwc_base.specs.Mapping.{map_pages, with_zeros}
 use Rattle.lwc_base.specs.Memory.{is_present}
-use Rattle.lwc_base.specs.Pages.{bytes_of, zero_page}
-use Rattle.lwc_base.specs.Registers.{fresh_registers}
-use Rattle.lwc_base.specs.declared.right.Right.TheVariants.{Write}
 use Rattle.lwc_base.specs.Rights.{is_writable, may_write, right_at}
 use Rattle.lwc_base.specs.Store.{Done, after_store, bytes_after, page_value_at, parting_count, stored_pages, put_pages, store, stored_value}
 use Rattle.lwc_base.specs.World.{World, Context, Counters, add_context, change_context, change_counters, changed_context, context, is_live, new_context, next_context}
 use Rattle.lwc_base.specs.declared.cell.Cell.TheVariants.{Own}
-use Rattle.lwc_base.specs.declared.key.Key.{Key}
-use Rattle.lwc_base.specs.declared.key.Key.TheVariants.{Page}
-use Rattle.lwc_base.specs.declared.name.Name.{Name}
-use Rattle.lwc_base.specs.declared.page.PageValue.TheVariants.{Zero, Data}
 use Rattle.lwc_base.proofs.Facts.{orders}
-use Rattle.lwc_base.proofs.Orders.{name-itself}
+use Rattle.lwc_types.specs.Pages.{bytes_of, zero_page}
+use Rattle.lwc_types.specs.Registers.{fresh_registers}
+use Rattle.lwc_types.specs.declared.right.Right.TheVariants.{Write}
+use Rattle.lwc_types.specs.declared.key.Key.{Key}
+use Rattle.lwc_types.specs.declared.key.Key.TheVariants.{Page}
+use Rattle.lwc_types.specs.declared.name.Name.{Name}
+use Rattle.lwc_types.specs.declared.page.PageValue.TheVariants.{Zero, Data}
+use Rattle.lwc_types.proofs.Orders.{name-itself}
 use Rattle.kernel_core.proofs.FirstWorld.{bytes_whole, is_done, length-zero_page, page_piece, touched_page}
 use Rattle.snapshot_host.proofs.Copies.{insert-twice}
 

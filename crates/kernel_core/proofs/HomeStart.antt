@@ -43,29 +43,29 @@ use Rattle.lwc_base.specs.Cells.{put_slot, slot_at, value_at, value_of, with_cel
 use Rattle.lwc_base.specs.Keys.{with_key}
 use Rattle.lwc_base.specs.Life.{HasItsContexts, IsReaped, Link, Reaches, Root, is_among, is_of, is_reached, links, names_group, reap}
 use Rattle.lwc_base.specs.Modes.{IsSpec}
-use Rattle.lwc_base.specs.Names.{name_cmp}
 use Rattle.lwc_base.specs.Sharing.{clone_context, cloned_context, share}
 use Rattle.lwc_base.specs.World.{World, Context, Group, add_context, change_counters, context, groups_of, is_live, live_of, new_context, next_context}
 use Rattle.lwc_base.specs.declared.cell.Cell.{Cell}
 use Rattle.lwc_base.specs.declared.cell.Cell.TheVariants.{Own}
 use Rattle.lwc_base.specs.declared.descriptor.Descriptor.{Descriptor}
 use Rattle.lwc_base.specs.declared.descriptor.Descriptor.TheVariants.{Ctx, Empty}
-use Rattle.lwc_base.specs.declared.key.Key.{Key}
-use Rattle.lwc_base.specs.declared.key.Key.TheVariants.{Page, Slot, Cred}
-use Rattle.lwc_base.specs.Registers.{fresh_registers}
-use Rattle.lwc_base.specs.declared.name.Name.{Name}
-use Rattle.lwc_base.specs.declared.right.Right.TheVariants.{Write}
-use Rattle.lwc_base.specs.declared.regs.Regs.{Regs}
 use Rattle.lwc_base.proofs.Clones.{next_context-share}
 use Rattle.lwc_base.proofs.Facts.{changes, orders}
 use Rattle.lwc_base.proofs.InRange.{files-clone, files-put_slot, files-reap}
 use Rattle.lwc_base.proofs.Life.{or_cases, or_right, reached_by_way, way_of_reached}
-use Rattle.lwc_base.proofs.Orders.{name-itself, same_name}
 use Rattle.lwc_base.proofs.Puts.{names-put_at}
 use Rattle.lwc_base.proofs.Sound.{sound-clone_context, sound-put_slot, sound-reap}
+use Rattle.lwc_types.specs.Names.{name_cmp}
+use Rattle.lwc_types.specs.declared.key.Key.{Key}
+use Rattle.lwc_types.specs.declared.key.Key.TheVariants.{Page, Slot, Cred}
+use Rattle.lwc_types.specs.Registers.{fresh_registers}
+use Rattle.lwc_types.specs.declared.name.Name.{Name}
+use Rattle.lwc_types.specs.declared.right.Right.TheVariants.{Write}
+use Rattle.lwc_types.specs.declared.regs.Regs.{Regs}
+use Rattle.lwc_types.proofs.Orders.{name-itself, same_name}
 use Rattle.snapshot_host.proofs.Copies.{copy_of, is_copy, no_group, put_added, shares_nothing}
 use Rattle.snapshot_host.proofs.CopyRanges.{ranges_copied}
-use Rattle.lwc_base.specs.declared.limits.TheConstants.{MOST_BUDGET, MOST_REQUESTS}
+use Rattle.lwc_types.specs.declared.limits.TheConstants.{MOST_BUDGET, MOST_REQUESTS}
 
 -- the contexts of a run's start: the first one
 abbrev pub only_first : Image → fm.FinMap name_cmp Context

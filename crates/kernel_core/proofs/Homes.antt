@@ -6,7 +6,7 @@ use Rattle.std.specs.Prelude.{is_some}
 use Rattle.guest_image.specs.Limits.{IsImage, page_numbers, pages_of}
 use Rattle.guest_image.specs.declared.image.Image.{Image}
 use Rattle.guest_image.specs.declared.image.PageImage.{PageImage}
-use Rattle.lwc_base.specs.declared.page.PageValue.TheVariants.{Data}
+use Rattle.lwc_types.specs.declared.page.PageValue.TheVariants.{Data}
 use Rattle.kernel_core.proofs.FirstLife.{not_of}
 use Rattle.kernel_core.proofs.Ranges.{has, is_some-found, ranges-own}
 use Rattle.kernel_core.specs.Start.{Inputs, first_context, first_page, first_slot, home_context, image_tag, world_size}
@@ -15,8 +15,8 @@ use Rattle.lwc_base.specs.Life.{is_of}
 use Rattle.lwc_base.specs.Ranges.{ranges, ranges_of}
 use Rattle.lwc_base.specs.World.{World, Context, context}
 use Rattle.lwc_base.specs.declared.descriptor.Descriptor.TheVariants.{Empty}
-use Rattle.lwc_base.specs.declared.key.Key.TheVariants.{Slot}
-use Rattle.lwc_base.specs.declared.name.Name.{Name}
+use Rattle.lwc_types.specs.declared.key.Key.TheVariants.{Slot}
+use Rattle.lwc_types.specs.declared.name.Name.{Name}
 
 module _ (image : Image) (is : IsImage image) where
   found_page : (o : Option (ℕ × PageImage)) → is_some (option_map (λ e. Data (image_tag e.0) e.1.bytes) o) ≡ is_some o

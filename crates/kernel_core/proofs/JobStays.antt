@@ -14,7 +14,6 @@ use Rattle.lwc_base.specs.Keys.{ValueOf, is_there}
 use Rattle.lwc_base.specs.Life.{Link, Root, is_among, is_of, links}
 use Rattle.lwc_base.specs.Mapping.{mapped_or_not}
 use Rattle.lwc_base.specs.Memory.{touched}
-use Rattle.lwc_base.specs.Names.{name_cmp}
 use Rattle.lwc_base.specs.Refusals.{first_refusal}
 use Rattle.lwc_base.specs.Sharing.{clone_context, needs_group, share}
 use Rattle.lwc_base.specs.Store.{Done, Piece, after_store, parting_count, stored_pages, put_pages, store}
@@ -29,12 +28,13 @@ use Rattle.lwc_base.specs.declared.descriptor.Cap.{Cap}
 use Rattle.lwc_base.specs.declared.descriptor.Descriptor.{Descriptor}
 use Rattle.lwc_base.specs.declared.descriptor.Descriptor.TheVariants.{Ctx, Empty, Reply, Request}
 use Rattle.lwc_base.specs.declared.item.Item.{Item}
-use Rattle.lwc_base.specs.declared.key.Key.{Key}
-use Rattle.lwc_base.specs.declared.key.Key.TheVariants.{Page, Slot, Cred}
-use Rattle.lwc_base.specs.declared.name.Name.{Name}
-use Rattle.lwc_base.specs.declared.page.PageValue.{PageValue}
-use Rattle.lwc_base.specs.declared.refusal.Refusal.{Refusal}
-use Rattle.lwc_base.specs.declared.regs.Regs.{Regs}
+use Rattle.lwc_types.specs.Names.{name_cmp}
+use Rattle.lwc_types.specs.declared.key.Key.{Key}
+use Rattle.lwc_types.specs.declared.key.Key.TheVariants.{Page, Slot, Cred}
+use Rattle.lwc_types.specs.declared.name.Name.{Name}
+use Rattle.lwc_types.specs.declared.page.PageValue.{PageValue}
+use Rattle.lwc_types.specs.declared.refusal.Refusal.{Refusal}
+use Rattle.lwc_types.specs.declared.regs.Regs.{Regs}
 use Rattle.lwc_create.specs.Create as create
 use Rattle.lwc_overlay.specs.OverlayCall as overlaying
 use Rattle.lwc_overlay.specs.RestrictCall as restricting
@@ -45,17 +45,17 @@ use Rattle.lwc_syscall.specs.Plain as calls
 use Rattle.lwc_syscall.specs.Syscall as syscalls
 use Rattle.lwc_syscall.specs.Syscall.{lw_syscall}
 use Rattle.lwc_syscall.specs.declared.calls.CallContexts.{CallContexts}
-use Rattle.lwc_base.specs.declared.key.Kind.TheVariants as kinds
+use Rattle.lwc_types.specs.declared.key.Kind.TheVariants as kinds
 use Rattle.snapshot_host.specs.Begin.{begin, begun_context}
 use Rattle.lwc_base.proofs.Facts.{changes}
 use Rattle.lwc_base.proofs.Holders.{keeps-add_context}
 use Rattle.lwc_base.proofs.Jobs.{jobs-after_store, jobs-clone, jobs-map_pages, jobs-overlay, jobs-put_slot, jobs-put_uid, jobs-save, jobs-slot_at, jobs-unmap_pages, root_of_job}
 use Rattle.lwc_base.proofs.Lookups.{adds-add_context, changes-change_context, changes-change_group}
-use Rattle.lwc_base.proofs.Orders.{name-itself, same_name}
 use Rattle.lwc_base.proofs.Puts.{names-put_at, takes-after_store}
 use Rattle.lwc_base.proofs.Saving.{saves}
 use Rattle.lwc_base.proofs.Sharing.{context-same, shares-share}
 use Rattle.lwc_base.proofs.Stored.{is_done}
+use Rattle.lwc_types.proofs.Orders.{name-itself, same_name}
 use Rattle.lwc_overlay.proofs.Accepted.{restriction, taken}
 use Rattle.lwc_switch.proofs.Accepted.{accepted}
 use Rattle.lwc_syscall.proofs.Does.{does-one_thing}

@@ -10,13 +10,13 @@ use Rattle.std.proofs.lemmas.List.Sums.{sum_by-cons}
 use Rattle.guest_image.specs.declared.image.Form.{Form}
 use Rattle.kernel_core.specs.Ready.{IsWithinLimits}
 use Rattle.kernel_core.specs.Start.{world_size}
-use Rattle.lwc_base.specs.Names.{name_cmp}
 use Rattle.lwc_base.specs.World.{World, groups_of, live_of}
-use Rattle.lwc_base.specs.declared.name.Name.{Name}
+use Rattle.lwc_types.specs.Names.{name_cmp}
+use Rattle.lwc_types.specs.declared.name.Name.{Name}
 use Rattle.lwc_create.specs.Create.{HasPlaces}
 use Rattle.world_face.specs.Calls.{HasPlace}
-use Rattle.lwc_base.proofs.Orders.{name-itself}
 use Rattle.lwc_base.proofs.Life.{or_right}
+use Rattle.lwc_types.proofs.Orders.{name-itself}
 
 abbrev num : Bool → ℕ
 num b = cond b 1 0

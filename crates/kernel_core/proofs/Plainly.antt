@@ -9,8 +9,8 @@ use Rattle.kernel_core.specs.declared.thread.Thread.{Thread}
 use Rattle.lwc_base.specs.Life.{IsReaped}
 use Rattle.lwc_base.specs.Store.{Done, Piece, store}
 use Rattle.lwc_base.specs.World.{World}
-use Rattle.lwc_base.specs.declared.name.Name.{Name}
-use Rattle.lwc_base.specs.declared.refusal.Refusal.{Refusal}
+use Rattle.lwc_types.specs.declared.name.Name.{Name}
+use Rattle.lwc_types.specs.declared.refusal.Refusal.{Refusal}
 use Rattle.lwc_syscall.specs.Changes.{CutsNone, Put, Same, StoredPut, cuts_none, leaves_world}
 use Rattle.lwc_syscall.specs.declared.answer.CallAnswer.{CallAnswer}
 use Rattle.lwc_syscall.specs.declared.answer.CallAnswer.TheVariants as ends

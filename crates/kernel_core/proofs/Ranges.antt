@@ -8,15 +8,15 @@ use Rattle.guest_image.specs.Limits.{page_numbers}
 use Rattle.guest_image.specs.Numbers.{begins, ranges_after}
 use Rattle.guest_image.specs.declared.image.PageImage.{PageImage}
 use Rattle.lwc_base.specs.Frames.{own_value, tag_of, tags_of_context}
-use Rattle.lwc_base.specs.declared.right.Right.TheVariants.{Write}
 use Rattle.lwc_base.specs.Rights.{same_right}
 use Rattle.lwc_base.specs.Ranges.{are_alike, are_of_one_kind, begins_range, continues_range, has_page, is_page, ranges}
 use Rattle.lwc_base.specs.World.{Context}
 use Rattle.lwc_base.specs.declared.cell.Cell.TheVariants.{Own}
-use Rattle.lwc_base.specs.declared.key.Key.TheVariants.{Page}
-use Rattle.lwc_base.specs.declared.page.PageValue.{PageValue}
-use Rattle.lwc_base.specs.declared.page.PageValue.TheVariants.{Zero, Data}
 use Rattle.lwc_base.proofs.Life.{or_right}
+use Rattle.lwc_types.specs.declared.right.Right.TheVariants.{Write}
+use Rattle.lwc_types.specs.declared.key.Key.TheVariants.{Page}
+use Rattle.lwc_types.specs.declared.page.PageValue.{PageValue}
+use Rattle.lwc_types.specs.declared.page.PageValue.TheVariants.{Zero, Data}
 
 at_most_one : (b : Bool) → cond b 1 0 ≤ 1
 at_most_one true = omega arith

@@ -27,10 +27,10 @@ use Rattle.kernel_core.specs.declared.thread.Thread.{Thread}
 use Rattle.lwc_base.specs.Life.{is_among, reap}
 use Rattle.lwc_base.specs.Jobs.{NamesKeepToJobs, own_names}
 use Rattle.lwc_base.specs.World.{World, Counters, context, is_live}
-use Rattle.lwc_base.specs.declared.fault.ThreadStatus.{ThreadStatus}
-use Rattle.lwc_base.specs.declared.fault.ThreadStatus.TheVariants.{Idle, Running, Done, Faulted}
-use Rattle.lwc_base.specs.declared.limits.TheConstants.{MOST_STEPS}
-use Rattle.lwc_base.specs.declared.name.Name.{Name}
+use Rattle.lwc_types.specs.declared.fault.ThreadStatus.{ThreadStatus}
+use Rattle.lwc_types.specs.declared.fault.ThreadStatus.TheVariants.{Idle, Running, Done, Faulted}
+use Rattle.lwc_types.specs.declared.limits.TheConstants.{MOST_STEPS}
+use Rattle.lwc_types.specs.declared.name.Name.{Name}
 use Rattle.lwc_syscall.specs.Changes.{IsWell}
 use Rattle.snapshot_host.specs.Begin.{begin}
 use Rattle.lwc_base.proofs.InRange.{files-reap}

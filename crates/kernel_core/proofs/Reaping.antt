@@ -16,7 +16,6 @@ use Rattle.kernel_core.specs.declared.thread.Thread.{Thread}
 use Rattle.lwc_base.specs.Cells.{put_slot, slot_at}
 use Rattle.lwc_base.specs.Facts.{HasFewer}
 use Rattle.lwc_base.specs.Life.{IsReaped, Root, is_among, is_of, reap}
-use Rattle.lwc_base.specs.Names.{name_cmp}
 use Rattle.lwc_base.specs.Saved.{save}
 use Rattle.lwc_base.specs.Slots.{lowest_empty}
 use Rattle.lwc_base.specs.Sound.{HasItsGroups, IsSound}
@@ -27,18 +26,19 @@ use Rattle.lwc_base.specs.declared.answer.Answer.{Answer}
 use Rattle.lwc_base.specs.declared.answer.Answer.TheVariants as answers
 use Rattle.lwc_base.specs.declared.descriptor.Cap.{Cap}
 use Rattle.lwc_base.specs.declared.descriptor.Descriptor.TheVariants.{Ctx}
-use Rattle.lwc_base.specs.declared.descriptor.TheConstants.{SLOTS}
-use Rattle.lwc_base.specs.declared.name.Name.{Name}
-use Rattle.lwc_base.specs.declared.refusal.Refusal.{Refusal}
-use Rattle.lwc_base.specs.declared.regs.Regs.{Regs}
+use Rattle.lwc_types.specs.Names.{name_cmp}
+use Rattle.lwc_types.specs.declared.key.TheConstants.{SLOTS}
+use Rattle.lwc_types.specs.declared.name.Name.{Name}
+use Rattle.lwc_types.specs.declared.refusal.Refusal.{Refusal}
+use Rattle.lwc_types.specs.declared.regs.Regs.{Regs}
 use Rattle.lwc_create.specs.Create as create
 use Rattle.lwc_overlay.specs.RestrictCall.{IsRestriction}
 use Rattle.lwc_base.proofs.Facts.{counts}
-use Rattle.lwc_base.proofs.Orders.{name-itself, same_name}
 use Rattle.lwc_base.proofs.Reaped.{kept-by_way, live-was_live, was_group-reap}
 use Rattle.lwc_base.proofs.Slots.{lowest_is_empty_slot}
 use Rattle.lwc_base.proofs.Stored.{is_done}
 use Rattle.lwc_base.proofs.StillReaped.{reaped-after_store, reaped-created, reaped-put_slot, reaped-switched}
+use Rattle.lwc_types.proofs.Orders.{name-itself, same_name}
 use Rattle.lwc_create.proofs.Allowed.{slot_there}
 use Rattle.lwc_base.proofs.Life.{or_cases, or_right}
 

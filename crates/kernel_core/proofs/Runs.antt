@@ -6,8 +6,8 @@ use Rattle.kernel_core.specs.Machine.{Machine, has_ended, is_ended}
 use Rattle.kernel_core.specs.Runs.{frames_of, kept, peak, run}
 use Rattle.kernel_core.specs.Step.{after_outcome, after_thread, guest_calls, step, step_by, thread_outcome}
 use Rattle.kernel_core.specs.declared.thread.Thread.{Thread}
-use Rattle.lwc_base.specs.declared.fault.ThreadStatus.{ThreadStatus}
-use Rattle.lwc_base.specs.declared.fault.ThreadStatus.TheVariants.{Idle, Running, Done, Faulted}
+use Rattle.lwc_types.specs.declared.fault.ThreadStatus.{ThreadStatus}
+use Rattle.lwc_types.specs.declared.fault.ThreadStatus.TheVariants.{Idle, Running, Done, Faulted}
 
 pub run-push : (m : Machine) (ts : List ℕ) (t : ℕ) → run m (ts ++ t ∷ []) ≡ step (run m ts) t
 run-push m [] t = refl

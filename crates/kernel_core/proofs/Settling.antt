@@ -9,8 +9,8 @@ use Rattle.kernel_core.specs.Step.{advance_outcome, beside, guest_calls, unchang
 use Rattle.kernel_core.specs.declared.thread.Thread.{Thread}
 use Rattle.lwc_base.specs.Channels.{Channels, HasItsFiles}
 use Rattle.lwc_base.specs.World.{World, is_live}
-use Rattle.lwc_base.specs.declared.fault.ThreadStatus.{ThreadStatus}
-use Rattle.lwc_base.specs.declared.fault.ThreadStatus.TheVariants.{Running}
+use Rattle.lwc_types.specs.declared.fault.ThreadStatus.{ThreadStatus}
+use Rattle.lwc_types.specs.declared.fault.ThreadStatus.TheVariants.{Running}
 use Rattle.kernel_core.proofs.Outcomes.{keeps_contexts}
 
 module _ (t : ℕ) (w : World) (io : Channels) (v : World) (after : Channels) (x y : Thread) (text : List Instr) (serve : Option Serve) (running : x.status ≡ Running)

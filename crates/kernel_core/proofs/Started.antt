@@ -32,20 +32,20 @@ use Rattle.kernel_core.specs.Start.{Inputs, counted, first_context, first_entry,
 use Rattle.lwc_base.specs.Cells.{put_slot}
 use Rattle.lwc_base.specs.Channels.{HasItsFiles, IsInRange, opened}
 use Rattle.lwc_base.specs.Mapping.{map_pages}
-use Rattle.lwc_base.specs.Names.{name_cmp}
-use Rattle.lwc_base.specs.Registers.{fresh_registers}
 use Rattle.lwc_base.specs.Sound.{IsSound}
 use Rattle.lwc_base.specs.Store.{Done, Piece, store}
 use Rattle.lwc_base.specs.World.{World, Context, Group, add_context, empty_world, groups_of, is_live, live_of, new_context}
-use Rattle.lwc_base.specs.declared.channels.FileImage.{FileImage}
 use Rattle.lwc_base.specs.declared.descriptor.Descriptor.TheVariants.{Console, Empty, File}
-use Rattle.lwc_base.specs.declared.limits.TheConstants.{MOST_BUDGET}
-use Rattle.lwc_base.specs.declared.name.Name.{Name}
 use Rattle.lwc_base.proofs.Facts.{orders}
 use Rattle.lwc_base.proofs.InRange.{files-add_context, files-empty_world, files-map_pages, files-put_slot}
-use Rattle.lwc_base.proofs.Orders.{same_name}
 use Rattle.lwc_base.proofs.Room.{sound-store}
 use Rattle.lwc_base.proofs.Sound.{sound-add_new_context, sound-empty_world, sound-map_pages, sound-put_slot}
+use Rattle.lwc_types.specs.Names.{name_cmp}
+use Rattle.lwc_types.specs.Registers.{fresh_registers}
+use Rattle.lwc_types.specs.declared.file_image.FileImage.{FileImage}
+use Rattle.lwc_types.specs.declared.limits.TheConstants.{MOST_BUDGET}
+use Rattle.lwc_types.specs.declared.name.Name.{Name}
+use Rattle.lwc_types.proofs.Orders.{same_name}
 
 -- the threads of one entry more
 pub one_thread_more : (budget t : ℕ) (entries : List ℕ) → t < length entries →

@@ -38,10 +38,10 @@ use Rattle.lwc_base.specs.Channels as channels
 use Rattle.lwc_base.specs.Frames.{used}
 use Rattle.lwc_base.specs.Life.{IsReaped, reap}
 use Rattle.lwc_base.specs.World.{World, is_live}
-use Rattle.lwc_base.specs.declared.fault.ThreadStatus.{ThreadStatus}
-use Rattle.lwc_base.specs.declared.fault.ThreadStatus.TheVariants.{Idle, Running, Done, Faulted}
-use Rattle.lwc_base.specs.declared.limits.TheConstants.{MOST_BUDGET, MOST_STEPS}
-use Rattle.lwc_base.specs.declared.name.Name.{Name}
+use Rattle.lwc_types.specs.declared.fault.ThreadStatus.{ThreadStatus}
+use Rattle.lwc_types.specs.declared.fault.ThreadStatus.TheVariants.{Idle, Running, Done, Faulted}
+use Rattle.lwc_types.specs.declared.limits.TheConstants.{MOST_BUDGET, MOST_STEPS}
+use Rattle.lwc_types.specs.declared.name.Name.{Name}
 use Rattle.snapshot_host.specs.Finish.{StillHas}
 use Rattle.snapshot_host.specs.declared.finishing.Finished.{Finished}
 use Rattle.kernel_core.proofs.ReadyMachines.{ready_machine}

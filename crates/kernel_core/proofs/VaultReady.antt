@@ -32,26 +32,26 @@ use Rattle.lwc_base.specs.Facts.{KeepsNames}
 use Rattle.lwc_base.specs.Holders.{IsGroup}
 use Rattle.lwc_base.specs.Life.{HasItsContexts, IsReaped, Link, Reaches, Root, is_among, is_of, links}
 use Rattle.lwc_base.specs.Mapping.{map_pages}
-use Rattle.lwc_base.specs.Names.{name_cmp}
-use Rattle.lwc_base.specs.Registers.{fresh_registers}
 use Rattle.lwc_base.specs.Sound.{IsSound}
 use Rattle.lwc_base.specs.Store.{Done, Piece, store}
 use Rattle.lwc_base.specs.World.{World, Context, Counters, Group, add_context, change_counters, context, groups_of, is_live, live_of, new_context}
 use Rattle.lwc_base.specs.declared.descriptor.Descriptor.TheVariants.{Ctx, Empty}
-use Rattle.lwc_base.specs.declared.key.Key.TheVariants.{Slot}
-use Rattle.lwc_base.specs.declared.key.TheConstants.{NOBODY}
-use Rattle.lwc_base.specs.declared.name.Name.{Name}
 use Rattle.lwc_base.proofs.Common.{put-itself}
 use Rattle.lwc_base.proofs.Counted.{count_by-same}
 use Rattle.lwc_base.proofs.Facts.{orders}
 use Rattle.lwc_base.proofs.InRange.{files-add_context, files-map_pages, files-put_slot}
 use Rattle.lwc_base.proofs.NamedContexts.{contexts-put_slot}
-use Rattle.lwc_base.proofs.Orders.{same_name}
 use Rattle.lwc_base.proofs.Puts.{names-put_at}
 use Rattle.lwc_base.proofs.Room.{sound-store}
 use Rattle.lwc_base.proofs.Slots.{linked_slot, slot_links}
 use Rattle.lwc_base.proofs.Sound.{sound-add_new_context, sound-map_pages, sound-put_slot}
 use Rattle.lwc_base.proofs.Tables.{contains_key-insert, entry-insert}
+use Rattle.lwc_types.specs.Names.{name_cmp}
+use Rattle.lwc_types.specs.Registers.{fresh_registers}
+use Rattle.lwc_types.specs.declared.key.Key.TheVariants.{Slot}
+use Rattle.lwc_types.specs.declared.key.TheConstants.{NOBODY}
+use Rattle.lwc_types.specs.declared.name.Name.{Name}
+use Rattle.lwc_types.proofs.Orders.{same_name}
 
 module _ (image : Image) (is : IsImage image) (v : Vault) (is_vault : IsVault (length image.text) (pages_of image.form) v) (frames : ℕ)
     (fits : length image.pages + length v.pages ≤ frames) where

@@ -25,8 +25,8 @@ use Rattle.lwc_base.specs.declared.descriptor.Cap.{Cap}
 use Rattle.lwc_base.specs.declared.descriptor.Descriptor.{Descriptor}
 use Rattle.lwc_base.specs.declared.descriptor.Descriptor.TheVariants.{Ctx}
 use Rattle.lwc_base.specs.declared.item.Item.{Item}
-use Rattle.lwc_base.specs.declared.name.Name.{Name}
-use Rattle.lwc_base.specs.declared.regs.Regs.{Regs}
+use Rattle.lwc_types.specs.declared.name.Name.{Name}
+use Rattle.lwc_types.specs.declared.regs.Regs.{Regs}
 use Rattle.lwc_syscall.specs.Changes.{IsWell, KeepsNumbers}
 use Rattle.lwc_base.proofs.Clones.{next_context-share}
 use Rattle.lwc_base.proofs.Facts.{changes, counts}
@@ -37,7 +37,7 @@ use Rattle.lwc_base.proofs.Saving.{saves}
 use Rattle.lwc_base.proofs.Sharing.{shares-share}
 use Rattle.lwc_base.proofs.Sound.{sound-clone_context, sound-save, sound-share}
 use Rattle.lwc_base.proofs.Stored.{is_done}
-use Rattle.lwc_base.proofs.Orders.{cases_name, same_name}
+use Rattle.lwc_types.proofs.Orders.{cases_name, same_name}
 use Rattle.lwc_syscall.proofs.Kept.{well-slot}
 
 -- what an act for a job leaves: names keep to their jobs, and contexts and counters of other jobs are as before

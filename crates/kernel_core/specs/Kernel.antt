@@ -16,7 +16,7 @@ use Rattle.kernel_core.specs.declared.thread.Thread.{Thread}
 use Rattle.kernel_core.specs.declared.thread.ThreadView.{ThreadView}
 use Rattle.kernel_core.specs.declared.thread.Turn.{Turn}
 use Rattle.snapshot_host.specs.declared.finishing.Finished.{Finished}
-use Rattle.lwc_base.specs.declared.limits.TheConstants.{MOST_REQUESTS, MOST_REQUEST_BYTES}
+use Rattle.lwc_types.specs.declared.limits.TheConstants.{MOST_REQUESTS, MOST_REQUEST_BYTES}
 
 -- requests within their limits
 pub record AreRequests (requests : List (List ℕ)) : Type 0 where

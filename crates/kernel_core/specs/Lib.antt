@@ -1,7 +1,7 @@
 pub use Rattle.lwc_base.specs.Capabilities
 pub use Rattle.lwc_base.specs.Cells
 pub use Rattle.lwc_base.specs.Channels
-pub use Rattle.lwc_base.specs.Faults
+pub use Rattle.lwc_types.specs.Faults
 pub use Rattle.lwc_base.specs.Frames
 pub use Rattle.lwc_base.specs.Facts
 pub use Rattle.lwc_base.specs.Fresh
@@ -12,12 +12,12 @@ pub use Rattle.lwc_base.specs.Life
 pub use Rattle.lwc_base.specs.Mapping
 pub use Rattle.lwc_base.specs.Memory
 pub use Rattle.lwc_base.specs.Modes
-pub use Rattle.lwc_base.specs.Names
+pub use Rattle.lwc_types.specs.Names
 pub use Rattle.lwc_base.specs.Overlay
-pub use Rattle.lwc_base.specs.Pages
+pub use Rattle.lwc_types.specs.Pages
 pub use Rattle.lwc_base.specs.Ranges
 pub use Rattle.lwc_base.specs.Refusals
-pub use Rattle.lwc_base.specs.Registers
+pub use Rattle.lwc_types.specs.Registers
 pub use Rattle.lwc_base.specs.Saved
 pub use Rattle.lwc_base.specs.Sharing
 pub use Rattle.lwc_base.specs.Slots

@@ -5,11 +5,11 @@ use Rattle.std.specs.List.{range_with_len, sum_by}
 use Rattle.std.specs.Option.{option_map_or}
 use Rattle.guest_isa.specs.declared.instr.Instr.{Instr}
 use Rattle.kernel_core.specs.declared.thread.Thread.{Thread}
-use Rattle.lwc_base.specs.declared.fault.ThreadStatus.{ThreadStatus}
-use Rattle.lwc_base.specs.declared.fault.ThreadStatus.TheVariants.{Idle, Running, Done, Faulted}
-use Rattle.lwc_base.specs.declared.name.Name.{Name}
 use Rattle.lwc_base.specs.Channels.{Channels}
 use Rattle.lwc_base.specs.World.{World}
+use Rattle.lwc_types.specs.declared.fault.ThreadStatus.{ThreadStatus}
+use Rattle.lwc_types.specs.declared.fault.ThreadStatus.TheVariants.{Idle, Running, Done, Faulted}
+use Rattle.lwc_types.specs.declared.name.Name.{Name}
 use Rattle.snapshot_host.specs.declared.finishing.Finished.{Finished}
 
 -- what the threads have in common: the world, and what calls read and write beside it

@@ -9,11 +9,6 @@ use Rattle.lwc_base.specs.Jobs.{NamesKeepToJobs}
 use Rattle.kernel_core.specs.Start.{Inputs, first_name, home_context, thread_count, world_size}
 use Rattle.kernel_core.specs.Step.{Outcome, roots}
 use Rattle.kernel_core.specs.declared.thread.Thread.{Thread}
-use Rattle.lwc_base.specs.declared.fault.ThreadStatus.{ThreadStatus}
-use Rattle.lwc_base.specs.declared.fault.ThreadStatus.TheVariants.{Idle, Running, Done, Faulted}
-use Rattle.lwc_base.specs.declared.limits.TheConstants.{MOST_BUDGET, MOST_CONTEXTS_OF_JOB, MOST_GROUPS_OF_JOB}
-use Rattle.lwc_base.specs.declared.limits.TheConstants.{MOST_PAGES, MOST_RANGES, MOST_REQUESTS, MOST_THREADS}
-use Rattle.lwc_base.specs.declared.name.Name.{Name}
 use Rattle.lwc_base.specs.Channels.{Channels, HasItsFiles}
 use Rattle.lwc_base.specs.Holders.{IsGroup}
 use Rattle.lwc_base.specs.Life.{HasItsContexts, IsReaped}
@@ -21,13 +16,18 @@ use Rattle.lwc_base.specs.Mapping.{map_pages}
 use Rattle.lwc_base.specs.Ranges.{ranges_of}
 use Rattle.lwc_base.specs.Store as stores
 use Rattle.lwc_base.specs.Store.{Stored, store}
-use Rattle.lwc_base.specs.declared.page.TheConstants.{PAGE_BYTES}
 use Rattle.lwc_base.specs.Sound.{HasItsGroups, IsSound}
 use Rattle.lwc_base.specs.Cells.{put_slot}
 use Rattle.lwc_base.specs.Sharing.{clone_context, needs_group, ranges_after_clone}
 use Rattle.lwc_base.specs.declared.descriptor.Descriptor.TheVariants.{Empty}
-use Rattle.lwc_base.specs.declared.regs.Regs.{Regs}
 use Rattle.lwc_base.specs.World.{World, Counters, context, groups_of, is_live, live_of, next_context}
+use Rattle.lwc_types.specs.declared.fault.ThreadStatus.{ThreadStatus}
+use Rattle.lwc_types.specs.declared.fault.ThreadStatus.TheVariants.{Idle, Running, Done, Faulted}
+use Rattle.lwc_types.specs.declared.limits.TheConstants.{MOST_BUDGET, MOST_CONTEXTS_OF_JOB, MOST_GROUPS_OF_JOB}
+use Rattle.lwc_types.specs.declared.limits.TheConstants.{MOST_PAGES, MOST_RANGES, MOST_REQUESTS, MOST_THREADS}
+use Rattle.lwc_types.specs.declared.name.Name.{Name}
+use Rattle.lwc_types.specs.declared.page.TheConstants.{PAGE_BYTES}
+use Rattle.lwc_types.specs.declared.regs.Regs.{Regs}
 use Rattle.lwc_create.specs.Create.{HasPlaces}
 use Rattle.snapshot_host.specs.Begin.{IsNewJob}
 use Rattle.world_face.specs.Calls.{AreFew, HasPlace, IsLive, MayName}

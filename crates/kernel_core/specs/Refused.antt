@@ -12,8 +12,8 @@ use Rattle.lwc_base.specs.declared.answer.Answer.{Answer}
 use Rattle.lwc_base.specs.declared.answer.Answer.TheVariants as answer
 use Rattle.lwc_base.specs.declared.answer.Moved.{Moved}
 use Rattle.lwc_base.specs.declared.answer.Moved.TheVariants as moved
-use Rattle.lwc_base.specs.declared.fault.ThreadStatus.TheVariants.{Running}
-use Rattle.lwc_base.specs.declared.refusal.Refusal.{Refusal}
+use Rattle.lwc_types.specs.declared.fault.ThreadStatus.TheVariants.{Running}
+use Rattle.lwc_types.specs.declared.refusal.Refusal.{Refusal}
 use Rattle.lwc_create.specs.Create.{create}
 use Rattle.lwc_overlay.specs.OverlayCall.{overlay}
 use Rattle.lwc_overlay.specs.RestrictCall.{restrict}

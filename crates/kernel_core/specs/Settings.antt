@@ -3,7 +3,7 @@ use Rattle.std.specs.Prelude.{◌≤◌}
 use Rattle.kernel_core.specs.declared.settings.Job.{Job}
 use Rattle.kernel_core.specs.declared.settings.Job.TheVariants.{Run, Serve}
 use Rattle.kernel_core.specs.declared.settings.Settings.{Settings}
-use Rattle.lwc_base.specs.declared.limits.TheConstants.{MOST_BUDGET, MOST_FRAMES, MOST_THREADS}
+use Rattle.lwc_types.specs.declared.limits.TheConstants.{MOST_BUDGET, MOST_FRAMES, MOST_THREADS}
 
 -- a serve has 1 to 16 workers
 abbrev pub IsJob : Job → Type 0

@@ -10,9 +10,9 @@ use Rattle.kernel_core.specs.Start.{start}
 use Rattle.kernel_core.specs.declared.settings.Settings.{Settings}
 use Rattle.kernel_core.specs.declared.thread.Thread.{Thread}
 use Rattle.kernel_core.specs.Step.{beside}
-use Rattle.lwc_base.specs.declared.limits.TheConstants.{MOST_STEPS}
 use Rattle.lwc_base.specs.Channels.{Channels}
 use Rattle.lwc_base.specs.World.{World}
+use Rattle.lwc_types.specs.declared.limits.TheConstants.{MOST_STEPS}
 
 -- the history of a kernel's parts
 abbrev pub history : Image → Option Vault → List (List ℕ) → Settings → List ℕ → ℕ → History

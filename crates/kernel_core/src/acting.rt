@@ -8,7 +8,7 @@ ghost use Rattle.kernel_core.specs.Step as spec;
 ghost use Rattle.lwc_base.specs.Channels.{HasItsFiles};
 ghost use Rattle.kernel_core.specs.declared.thread.Thread.{Thread};
 ghost use Rattle.lwc_base.specs.World.{World};
-ghost use Rattle.lwc_base.specs.declared.limits.TheConstants.{MOST_THREADS};
+ghost use Rattle.lwc_types.specs.declared.limits.TheConstants.{MOST_THREADS};
 ghost use Rattle.world_face.specs.Calls.{IsLive};
 
 use crate::calling::call;

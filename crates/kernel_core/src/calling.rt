@@ -4,7 +4,7 @@ ghost use Rattle.kernel_core.specs.Changes as spec_changes;
 ghost use Rattle.kernel_core.specs.Ready.{CanAct};
 ghost use Rattle.kernel_core.specs.Step as spec;
 ghost use Rattle.lwc_base.specs.Channels.{HasItsFiles};
-ghost use Rattle.lwc_base.specs.declared.limits.TheConstants.{MOST_THREADS};
+ghost use Rattle.lwc_types.specs.declared.limits.TheConstants.{MOST_THREADS};
 
 use crate::acting::Change;
 use crate::thread::Thread;

@@ -14,7 +14,7 @@ ghost use Rattle.kernel_core.specs.declared.settings.Job.TheVariants as jobs;
 ghost use Rattle.kernel_core.specs.declared.thread.Thread.{Thread};
 ghost use Rattle.kernel_core.specs.declared.thread.Turn.{Turn};
 ghost use Rattle.lwc_base.specs.Sound.{IsSound};
-ghost use Rattle.lwc_base.specs.declared.refusal.Refusal.{Refusal};
+ghost use Rattle.lwc_types.specs.declared.refusal.Refusal.{Refusal};
 
 /// Of kept steps all are kept.
 #[tactic(auto, using(crate::proofs::Runs::kept_twice))]

@@ -2,7 +2,7 @@ ghost use Rattle.std.specs.Prelude.{◌≡◌, ◌<◌, ◌≤◌, IfOk, IsOk, O
 ghost use Rattle.kernel_core.specs.Changes.{Keeps, Makes};
 ghost use Rattle.kernel_core.specs.Ready.{CanAct};
 ghost use Rattle.kernel_core.specs.Step as spec;
-ghost use Rattle.lwc_base.specs.declared.page.TheConstants.{PAGE_BYTES};
+ghost use Rattle.lwc_types.specs.declared.page.TheConstants.{PAGE_BYTES};
 ghost use Rattle.world_face.specs.Calls.{IsLive};
 
 use crate::acting::Change;

@@ -5,7 +5,7 @@ ghost use Rattle.std.specs.Option.{option_map};
 ghost use Rattle.kernel_core.specs.Machine as machine;
 ghost use Rattle.kernel_core.specs.Step as spec;
 ghost use Rattle.lwc_base.specs.Channels.{bytes_in};
-ghost use Rattle.lwc_base.specs.declared.limits.TheConstants.{MOST_REQUESTS, MOST_THREADS};
+ghost use Rattle.lwc_types.specs.declared.limits.TheConstants.{MOST_REQUESTS, MOST_THREADS};
 ghost use Rattle.snapshot_host.specs.Finish.{StillHas};
 
 use lwc_base::{Channels, Name, OutOfMemory, ThreadStatus};
@@ -36,7 +36,7 @@ impl Model for Serve {
     } };
 
     ghost use Rattle.std.specs.Prelude.{◌≤◌};
-    ghost use Rattle.lwc_base.specs.declared.limits.TheConstants.{MOST_THREADS};
+    ghost use Rattle.lwc_types.specs.declared.limits.TheConstants.{MOST_THREADS};
 
     ghost invariant = { λ s. s.workers ≤ MOST_THREADS };
 }

@@ -9,8 +9,8 @@ ghost use Rattle.kernel_core.specs.Settings.{IsJob, IsSettings};
 ghost use Rattle.lwc_base.specs.Store as stores;
 ghost use Rattle.lwc_base.specs.Channels.{opened};
 ghost use Rattle.lwc_base.specs.Lending.{descriptor_of};
-ghost use Rattle.lwc_base.specs.declared.descriptor.TheConstants.{SLOTS};
-ghost use Rattle.lwc_base.specs.declared.limits.TheConstants.{MOST_FRAMES, MOST_THREADS};
+ghost use Rattle.lwc_types.specs.declared.key.TheConstants.{SLOTS};
+ghost use Rattle.lwc_types.specs.declared.limits.TheConstants.{MOST_FRAMES, MOST_THREADS};
 
 use crate::serve::{Serve, home_of};
 use crate::settings::{Job, Settings};

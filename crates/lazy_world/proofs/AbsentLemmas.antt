@@ -1,8 +1,8 @@
 -- The rights of absent pages.
 use Rattle.std.proofs.Common.{◌≡◌, ℕ, ◌<◌, length, arith, None}
 use Rattle.lwc_base.specs.declared.cell.Cell.TheVariants.{Own}
-use Rattle.lwc_base.specs.declared.key.Key.TheVariants.{Page}
-use Rattle.lwc_base.specs.declared.right.Right.TheVariants.{Write}
+use Rattle.lwc_types.specs.declared.key.Key.TheVariants.{Page}
+use Rattle.lwc_types.specs.declared.right.Right.TheVariants.{Write}
 use Rattle.cow_space.specs.declared.cells.PageCells.{PageCells}
 use Rattle.cow_space.specs.Cells.{place_of, rights_of}
 use Rattle.cow_space.specs.Seen as pages_seen

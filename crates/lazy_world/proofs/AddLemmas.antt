@@ -8,18 +8,18 @@ use Rattle.lwc_base.specs.declared.cell.Cell.{Cell}
 use Rattle.lwc_base.specs.declared.cell.Cell.TheVariants.{Own, Common}
 use Rattle.lwc_base.specs.declared.descriptor.Descriptor.{Descriptor}
 use Rattle.lwc_base.specs.declared.descriptor.Descriptor.TheVariants.{Empty, Console, File, Request, Reply, Ctx}
-use Rattle.lwc_base.specs.declared.key.Key.{Key}
-use Rattle.lwc_base.specs.declared.key.Key.TheVariants.{Page, Slot, Cred}
-use Rattle.lwc_base.specs.declared.name.Name.{Name}
-use Rattle.lwc_base.specs.declared.name.Tag.{Tag}
-use Rattle.lwc_base.specs.declared.page.PageValue.{PageValue}
-use Rattle.lwc_base.specs.declared.page.PageValue.TheVariants.{Data}
-use Rattle.lwc_base.specs.declared.regs.Regs.{Regs}
-use Rattle.lwc_base.specs.declared.right.Right.TheVariants.{Write}
 use Rattle.lwc_base.specs.Fresh.{IsFresh}
 use Rattle.lwc_base.specs.Keys.{with_key}
 use Rattle.lwc_base.specs.Summaries.{is_empty}
 use Rattle.lwc_base.specs.World.{World, Counters, add_context, change_counters, group, new_context, new_value, next_context}
+use Rattle.lwc_types.specs.declared.key.Key.{Key}
+use Rattle.lwc_types.specs.declared.key.Key.TheVariants.{Page, Slot, Cred}
+use Rattle.lwc_types.specs.declared.name.Name.{Name}
+use Rattle.lwc_types.specs.declared.name.Tag.{Tag}
+use Rattle.lwc_types.specs.declared.page.PageValue.{PageValue}
+use Rattle.lwc_types.specs.declared.page.PageValue.TheVariants.{Data}
+use Rattle.lwc_types.specs.declared.regs.Regs.{Regs}
+use Rattle.lwc_types.specs.declared.right.Right.TheVariants.{Write}
 use Rattle.ctx_table.specs.NameTables.{ArePlaced, NameTable}
 use Rattle.lazy_world.specs.declared.counts.Counts.{Counts}
 use Rattle.lazy_world.specs.Registers.{KeptRegisters}
@@ -32,7 +32,7 @@ use Rattle.lazy_world.proofs.PageLemmas.{pages-row, pages-same}
 use Rattle.lazy_world.proofs.PlaceLemmas.{choose, pass, set_at}
 use Rattle.lazy_world.proofs.SoundLemmas.{each_row, homes-row}
 use Rattle.lwc_base.proofs.Facts.{changes, stays_fresh}
-use Rattle.lwc_base.proofs.Small.{at-new}
+use Rattle.lwc_types.proofs.Small.{at-new}
 
 -- a cell with nothing in it
 pub no_page : (cell : Cell (Option PageValue)) (p : ℕ) → is_nothing (Page p) cell ≡ true → cell ≡ Own None

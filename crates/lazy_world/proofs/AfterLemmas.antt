@@ -6,11 +6,6 @@ use Rattle.lwc_base.specs.declared.cell.Cell.TheVariants as cells
 use Rattle.lwc_base.specs.declared.item.Item.{Item}
 use Rattle.lwc_base.specs.declared.item.Mode.{Mode}
 use Rattle.lwc_base.specs.declared.item.Mode.TheVariants.{Copy, Share, Unmap, CopyRead}
-use Rattle.lwc_base.specs.declared.key.Key.{Key}
-use Rattle.lwc_base.specs.declared.key.Key.TheVariants.{Page}
-use Rattle.lwc_base.specs.declared.name.Name.{Name}
-use Rattle.lwc_base.specs.declared.page.PageValue.{PageValue}
-use Rattle.lwc_base.specs.declared.right.Right.{Right}
 use Rattle.lwc_base.specs.Cells.{value_at, value_of}
 use Rattle.lwc_base.specs.Fresh.{IsFresh}
 use Rattle.lwc_base.specs.Keys.{ValueOf}
@@ -20,6 +15,11 @@ use Rattle.lwc_base.specs.Overlay.{overlaid_cell, overlay, ranges_after_overlay}
 use Rattle.lwc_base.specs.Ranges.{is_page, ranges, ranges_of}
 use Rattle.lwc_base.specs.Sharing.{cloned_cell, cloned_context, cloned_right, needs_group, ranges_after_clone, share, shared_cell, with_shared}
 use Rattle.lwc_base.specs.World.{World, Context, context, group, is_live, next_group}
+use Rattle.lwc_types.specs.declared.key.Key.{Key}
+use Rattle.lwc_types.specs.declared.key.Key.TheVariants.{Page}
+use Rattle.lwc_types.specs.declared.name.Name.{Name}
+use Rattle.lwc_types.specs.declared.page.PageValue.{PageValue}
+use Rattle.lwc_types.specs.declared.right.Right.{Right}
 use Rattle.lazy_world.specs.Followed.{followed, with_transferred}
 use Rattle.lazy_world.specs.Transfers.{overlaid_right, transferred_cell, taken_cell, taken_right}
 use Rattle.lazy_world.specs.declared.transfer.Transfer.{Transfer}

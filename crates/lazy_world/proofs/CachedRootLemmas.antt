@@ -7,32 +7,32 @@ use Rattle.fd_table.specs.Slots.{context_of}
 use Rattle.lwc_base.specs.declared.cell.Cell.{Cell}
 use Rattle.lwc_base.specs.declared.cell.Cell.TheVariants.{Own, Common}
 use Rattle.lwc_base.specs.declared.descriptor.Descriptor.{Descriptor}
-use Rattle.lwc_base.specs.declared.key.Key.TheVariants.{Slot, Cred}
-use Rattle.lwc_base.specs.declared.name.Name.{Name}
 use Rattle.lwc_base.specs.declared.item.Item.{Item}
-use Rattle.lwc_base.specs.declared.regs.Regs.{Regs}
 use Rattle.lwc_base.specs.Cells.{put_slot, put_uid, slot_at, value_at, value_of}
 use Rattle.lwc_base.specs.Facts.{AddsContext, ChangesContext}
 use Rattle.lwc_base.specs.Fresh.{IsFresh}
 use Rattle.lwc_base.specs.Life.{IsReaped, Link, Reaches, Root, is_among}
 use Rattle.lwc_base.specs.Mapping.{map_pages, unmap_pages}
 use Rattle.lwc_base.specs.Modes.{mode}
-use Rattle.lwc_base.specs.Names.{name_cmp}
 use Rattle.lwc_base.specs.Overlay.{overlay, overlaid_cell}
 use Rattle.lwc_base.specs.Saved.{save}
 use Rattle.lwc_base.specs.Sharing.{clone_context, cloned_context, share}
 use Rattle.lwc_base.specs.Store.{Done, Piece, store}
 use Rattle.lwc_base.specs.World.{World, Context, Group, context, is_live, next_context}
+use Rattle.lwc_types.specs.declared.key.Key.TheVariants.{Slot, Cred}
+use Rattle.lwc_types.specs.declared.name.Name.{Name}
+use Rattle.lwc_types.specs.declared.regs.Regs.{Regs}
+use Rattle.lwc_types.specs.Names.{name_cmp}
 use Rattle.lazy_world.specs.CachedRoots.{AreReached, with_cached_root}
 use Rattle.lazy_world.proofs.LooseLemmas.{links-by, links-slot}
 use Rattle.lwc_base.proofs.Stored.{is_done}
 use Rattle.lwc_base.proofs.Facts.{changes, stays_fresh}
 use Rattle.lwc_base.proofs.Life.{or_cases, or_left, or_right, reached_by_way, way_of_reached}
 use Rattle.lwc_base.proofs.Common.{put-other_key}
-use Rattle.lwc_base.proofs.Orders.{cases_name, name-itself}
 use Rattle.lwc_base.proofs.Sharing.{value_at-share}
 use Rattle.lwc_base.proofs.Slots.{put_slot-reads}
 use Rattle.lwc_base.proofs.StoredBytes.{store-other_keys}
+use Rattle.lwc_types.proofs.Orders.{cases_name, name-itself}
 
 -- no context is gone, and no slot has lost a descriptor of a context that is not given
 pub record KeepsLinks (w v : World) (cut : Option Name) : Type 0 where

@@ -4,8 +4,8 @@ use Rattle.std.proofs.lemmas.List.{get_or-set_same}
 use Rattle.lwc_base.specs.declared.cell.Cell.{Cell}
 use Rattle.lwc_base.specs.declared.cell.Cell.TheVariants.{Own}
 use Rattle.lwc_base.specs.declared.descriptor.Descriptor.TheVariants.{Empty}
-use Rattle.lwc_base.specs.declared.key.Key.TheVariants.{Page, Slot, Cred}
-use Rattle.lwc_base.specs.declared.key.TheConstants.{NOBODY}
+use Rattle.lwc_types.specs.declared.key.Key.TheVariants.{Page, Slot, Cred}
+use Rattle.lwc_types.specs.declared.key.TheConstants.{NOBODY}
 use Rattle.fd_table.specs.Slots as slots
 use Rattle.cow_space.specs.Cells.{Place, no_pages}
 use Rattle.lazy_world.specs.Cells.{Row, no_row, put_row, rows_of}

@@ -6,17 +6,17 @@ use Rattle.std.specs.Option.{option_map}
 use Rattle.std.proofs.lemmas.List.Folds.{Any-from_list_any, list_any_at}
 use Rattle.lwc_base.specs.declared.cell.Cell.{Cell}
 use Rattle.lwc_base.specs.declared.cell.Cell.TheVariants.{Own, Common}
-use Rattle.lwc_base.specs.declared.page.PageValue.{PageValue}
-use Rattle.lwc_base.specs.declared.right.Right.{Right}
+use Rattle.lwc_types.specs.declared.page.PageValue.{PageValue}
+use Rattle.lwc_types.specs.declared.right.Right.{Right}
 use Rattle.range_map.specs.Kinds.{IsCanonical, kind_of, state_at, state_in, state_of}
 use Rattle.range_map.specs.declared.segment.PageState.{PageState}
 use Rattle.range_map.specs.declared.segment.Segment.{Segment}
 use Rattle.range_map.proofs.Edges.{none, own, owned}
-use Rattle.lwc_base.specs.declared.name.Name.{Name}
 use Rattle.lwc_base.specs.Life.{is_in}
 use Rattle.lwc_base.proofs.Needs.{some_in_range}
 use Rattle.lwc_base.proofs.Reaped.{number_in}
-use Rattle.lwc_base.proofs.Small.{same_bool}
+use Rattle.lwc_types.specs.declared.name.Name.{Name}
+use Rattle.lwc_types.proofs.Small.{same_bool}
 use Rattle.lazy_world.specs.Cells.{is_common, is_own}
 use Rattle.lazy_world.specs.Reaping.{is_of}
 use Rattle.lazy_world.proofs.MarkLemmas.{in-kind, kind-of-state, named_kind}

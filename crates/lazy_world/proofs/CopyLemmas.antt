@@ -11,12 +11,6 @@ use Rattle.lwc_base.specs.declared.descriptor.Descriptor.{Descriptor}
 use Rattle.lwc_base.specs.declared.item.Item.{Item}
 use Rattle.lwc_base.specs.declared.item.Mode.{Mode}
 use Rattle.lwc_base.specs.declared.item.Mode.TheVariants.{Copy, Share}
-use Rattle.lwc_base.specs.declared.key.Key.{Key}
-use Rattle.lwc_base.specs.declared.key.Key.TheVariants.{Page, Slot, Cred}
-use Rattle.lwc_base.specs.declared.limits.TheConstants.{MOST_PAGES}
-use Rattle.lwc_base.specs.declared.name.Name.{Name}
-use Rattle.lwc_base.specs.declared.page.PageValue.{PageValue}
-use Rattle.lwc_base.specs.declared.right.Right.{Right}
 use Rattle.lwc_base.specs.Capabilities.{has_bit}
 use Rattle.lwc_base.specs.Cells.{value_of}
 use Rattle.lwc_base.specs.Keys.{ValueOf}
@@ -24,6 +18,12 @@ use Rattle.lwc_base.specs.Modes.{mode, mode_or_copy}
 use Rattle.lwc_base.specs.Summaries.{is_empty}
 use Rattle.lwc_base.specs.Sharing.{needs_group}
 use Rattle.lwc_base.specs.World.{World}
+use Rattle.lwc_types.specs.declared.key.Key.{Key}
+use Rattle.lwc_types.specs.declared.key.Key.TheVariants.{Page, Slot, Cred}
+use Rattle.lwc_types.specs.declared.limits.TheConstants.{MOST_PAGES}
+use Rattle.lwc_types.specs.declared.name.Name.{Name}
+use Rattle.lwc_types.specs.declared.page.PageValue.{PageValue}
+use Rattle.lwc_types.specs.declared.right.Right.{Right}
 use Rattle.lazy_world.specs.Cells.{HasOwnPages, Row, is_nothing, is_own}
 use Rattle.lazy_world.specs.Transfers.{transferred_cell, transferred_rights, transferred_row, taken_cell}
 use Rattle.lazy_world.specs.Sound.{IsAllOwn, IsWithin}

@@ -1,9 +1,9 @@
 -- The states of pages that a transfer gives, as a walk counts their ranges.
 use Rattle.std.proofs.Common.{◌≡◌, Bool, cond, ap, refl, sym, ◌∙◌, Option, Some, None}
 use Rattle.lwc_base.specs.declared.cell.Cell.{Cell}
-use Rattle.lwc_base.specs.declared.page.PageValue.{PageValue}
-use Rattle.lwc_base.specs.declared.right.Right.{Right}
-use Rattle.lwc_base.specs.declared.right.Right.TheVariants.{Read}
+use Rattle.lwc_types.specs.declared.page.PageValue.{PageValue}
+use Rattle.lwc_types.specs.declared.right.Right.{Right}
+use Rattle.lwc_types.specs.declared.right.Right.TheVariants.{Read}
 use Rattle.cow_space.specs.Cells.{right_in}
 use Rattle.range_map.specs.Kinds.{kind_of, state_of}
 use Rattle.range_map.specs.declared.segment.SegmentKind.{SegmentKind}

@@ -6,13 +6,13 @@ use Rattle.std.specs.Ordering.{eq_by_cmp}
 use Rattle.std.specs.FinMap as fm
 use Rattle.std.proofs.lemmas.Bool.{cases_eq, false≢true}
 use Rattle.lwc_base.specs.declared.cell.Cell.TheVariants.{Common}
-use Rattle.lwc_base.specs.declared.key.Key.TheVariants.{Page}
-use Rattle.lwc_base.specs.declared.name.Name.{Name}
 use Rattle.lwc_base.specs.Fresh.{IsFresh, named_groups}
 use Rattle.lwc_base.specs.Holders.{InContext}
-use Rattle.lwc_base.specs.Names.{name_cmp}
-use Rattle.lwc_base.specs.Registers.{fresh_registers}
 use Rattle.lwc_base.specs.World.{World, Context, Group, context, group, new_context, new_group}
+use Rattle.lwc_types.specs.declared.key.Key.TheVariants.{Page}
+use Rattle.lwc_types.specs.declared.name.Name.{Name}
+use Rattle.lwc_types.specs.Names.{name_cmp}
+use Rattle.lwc_types.specs.Registers.{fresh_registers}
 use Rattle.ctx_table.specs.NameTables.{ArePlaced, NameTable}
 use Rattle.cow_space.specs.Cells.{all_write}
 use Rattle.lazy_world.specs.Cells.{Row, no_row, put_rights, put_row}
@@ -27,8 +27,8 @@ use Rattle.lazy_world.proofs.PageLemmas.{has_group_page, no_group, pages-row, pa
 use Rattle.lazy_world.proofs.PlaceLemmas.{choose, pass}
 use Rattle.lazy_world.proofs.SoundLemmas.{each_row, homes-row}
 use Rattle.lwc_base.proofs.Facts.{changes, orders}
-use Rattle.lwc_base.proofs.Orders.{same_name}
-use Rattle.lwc_base.proofs.Small.{same_some}
+use Rattle.lwc_types.proofs.Orders.{same_name}
+use Rattle.lwc_types.proofs.Small.{same_some}
 
 -- a world with no context and no group that was not there has only old names
 pub fresh-fewer : (w : World) → IsFresh w → (contexts : fm.FinMap name_cmp Context) (groups : fm.FinMap name_cmp Group) →

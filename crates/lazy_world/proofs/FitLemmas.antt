@@ -2,8 +2,8 @@
 use Rattle.std.proofs.Common.{◌≡◌, ℕ, List, Option}
 use Rattle.std.specs.Option.{option_map}
 use Rattle.lwc_base.specs.declared.item.Item.{Item}
-use Rattle.lwc_base.specs.declared.key.Key.TheVariants.{Page}
 use Rattle.lwc_base.specs.Modes.{mode}
+use Rattle.lwc_types.specs.declared.key.Key.TheVariants.{Page}
 use Rattle.lazy_world.specs.declared.transfer.Transfer.{Transfer}
 use Rattle.lazy_world.specs.declared.world.PlacedWorld.{PlacedWorld}
 use Rattle.lazy_world.specs.Origins.{Gift, gift_right, shown_right}

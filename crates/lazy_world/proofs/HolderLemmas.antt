@@ -4,12 +4,12 @@ use Rattle.std.specs.FinMap as fm
 use Rattle.std.specs.Option.{option_map}
 use Rattle.lwc_base.specs.declared.cell.Cell.{Cell}
 use Rattle.lwc_base.specs.declared.cell.Cell.TheVariants.{Own, Common}
-use Rattle.lwc_base.specs.declared.key.Key.TheVariants.{Page}
-use Rattle.lwc_base.specs.declared.name.Name.{Name}
-use Rattle.lwc_base.specs.declared.page.PageValue.{PageValue}
 use Rattle.lwc_base.specs.Cells.{value_of}
 use Rattle.lwc_base.specs.Frames.{own_value}
 use Rattle.lwc_base.specs.World.{Group}
+use Rattle.lwc_types.specs.declared.key.Key.TheVariants.{Page}
+use Rattle.lwc_types.specs.declared.name.Name.{Name}
+use Rattle.lwc_types.specs.declared.page.PageValue.{PageValue}
 use Rattle.range_map.specs.declared.segment.SegmentKind.TheVariants as kind
 use Rattle.range_map.specs.Kinds.{kind_of}
 use Rattle.lazy_world.specs.Memory.{holder, holder_of, page_in}

@@ -10,15 +10,15 @@ use Rattle.lwc_base.specs.declared.descriptor.Descriptor.TheVariants.{Empty}
 use Rattle.lwc_base.specs.declared.item.Item.{Item}
 use Rattle.lwc_base.specs.declared.item.Mode.{Mode}
 use Rattle.lwc_base.specs.declared.item.Mode.TheVariants.{Copy, Share, Unmap, CopyRead}
-use Rattle.lwc_base.specs.declared.key.Key.{Key}
-use Rattle.lwc_base.specs.declared.key.Key.TheVariants.{Slot}
-use Rattle.lwc_base.specs.declared.key.Kind.TheVariants as kind
-use Rattle.lwc_base.specs.declared.name.Name.{Name}
 use Rattle.lwc_base.specs.Capabilities.{has_bit}
 use Rattle.lwc_base.specs.Keys.{ValueOf}
 use Rattle.lwc_base.specs.Modes.{mode, names, same_kind}
 use Rattle.lwc_base.specs.Sharing.{needs_group, shared_cell}
 use Rattle.lwc_base.specs.World.{World}
+use Rattle.lwc_types.specs.declared.key.Key.{Key}
+use Rattle.lwc_types.specs.declared.key.Key.TheVariants.{Slot}
+use Rattle.lwc_types.specs.declared.key.Kind.TheVariants as kind
+use Rattle.lwc_types.specs.declared.name.Name.{Name}
 use Rattle.fd_table.specs.Slots as slots
 use Rattle.access_cap.proofs.Bits.{has_bit-or}
 use Rattle.lazy_world.specs.Cells.{Row}

@@ -5,14 +5,14 @@ use Rattle.std.specs.Ordering.{eq_by_cmp}
 use Rattle.std.specs.FinMap as fm
 use Rattle.std.proofs.lemmas.Bool.{cases_eq}
 use Rattle.std.proofs.lemmas.Bool.Decides.{nat_tests}
-use Rattle.lwc_base.specs.declared.name.Name.{Name}
-use Rattle.lwc_base.specs.Names.{name_cmp}
+use Rattle.lwc_types.specs.declared.name.Name.{Name}
+use Rattle.lwc_types.specs.Names.{name_cmp}
 use Rattle.ctx_table.specs.NameTables.{ArePlaced, NameTable}
 use Rattle.reach.specs.Reach.{is_marked}
 use Rattle.lazy_world.specs.Reaping.{keeps, left_by, passes}
 use Rattle.lwc_base.proofs.Facts.{orders}
-use Rattle.lwc_base.proofs.Orders.{name-itself, same_name}
-use Rattle.lwc_base.proofs.Small.{alike, same_some}
+use Rattle.lwc_types.proofs.Orders.{name-itself, same_name}
+use Rattle.lwc_types.proofs.Small.{alike, same_some}
 
 -- two tests, one after the other
 joined : {X : Type 0} (a b c : Bool) (o : Option X) → (a && b) ≡ c → cond b (cond a o None) None ≡ cond c o None

@@ -2,10 +2,10 @@
 use Rattle.std.proofs.Common.{◌≡◌, ℕ, ◌∙◌, ap, get_or, sym, false, Some, None, Option}
 use Rattle.std.specs.Prelude.{IfNone, IfSome, not}
 use Rattle.fd_table.specs.Slots.{is_filled}
-use Rattle.lwc_base.specs.declared.key.Key.TheVariants.{Slot}
-use Rattle.lwc_base.specs.declared.name.Name.{Name}
 use Rattle.lwc_base.specs.Cells.{slot_at, value_at, value_of}
 use Rattle.lwc_base.specs.World.{Context}
+use Rattle.lwc_types.specs.declared.key.Key.TheVariants.{Slot}
+use Rattle.lwc_types.specs.declared.name.Name.{Name}
 use Rattle.ctx_table.specs.NameTables.{ArePlaced}
 use Rattle.lazy_world.specs.declared.world.PlacedWorld.{PlacedWorld}
 use Rattle.lazy_world.specs.Reaping.{link_from, link_of, place_in}

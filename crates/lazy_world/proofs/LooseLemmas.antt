@@ -9,21 +9,21 @@ use Rattle.lwc_base.specs.declared.cell.Cell.{Cell}
 use Rattle.lwc_base.specs.declared.cell.Cell.TheVariants.{Own, Common}
 use Rattle.lwc_base.specs.declared.descriptor.Descriptor.{Descriptor}
 use Rattle.lwc_base.specs.declared.descriptor.Descriptor.TheVariants.{Empty, Console, File, Request, Reply, Ctx}
-use Rattle.lwc_base.specs.declared.descriptor.TheConstants.{SLOTS}
-use Rattle.lwc_base.specs.declared.key.Key.TheVariants.{Slot}
-use Rattle.lwc_base.specs.declared.name.Name.{Name}
 use Rattle.lwc_base.specs.Cells.{slot_at, value_at, value_of}
 use Rattle.lwc_base.specs.Life.{Link, Reaches, Root, is_among, is_of, is_reached, links}
-use Rattle.lwc_base.specs.Names.{name_cmp}
 use Rattle.lwc_base.specs.World.{World, Context, Group, group, is_live}
+use Rattle.lwc_types.specs.declared.key.TheConstants.{SLOTS}
+use Rattle.lwc_types.specs.declared.key.Key.TheVariants.{Slot}
+use Rattle.lwc_types.specs.declared.name.Name.{Name}
+use Rattle.lwc_types.specs.Names.{name_cmp}
 use Rattle.lazy_world.specs.CachedRoots.{AreReached, HasLoose, HasRoot, IsLoose}
 use Rattle.lazy_world.specs.States.{Parts, held, world_of}
 use Rattle.lazy_world.proofs.WorldLemmas.{context-found, group-found, group-missed, live-there}
 use Rattle.lwc_base.proofs.Facts.{orders}
 use Rattle.lwc_base.proofs.Life.{or_left, or_right, reached_by_way, way_of_reached}
-use Rattle.lwc_base.proofs.Orders.{name-itself, same_name}
 use Rattle.lwc_base.proofs.Slots.{linked_slot, slot_links}
-use Rattle.lwc_base.proofs.Small.{alike, same_bool, same_some}
+use Rattle.lwc_types.proofs.Orders.{name-itself, same_name}
+use Rattle.lwc_types.proofs.Small.{alike, same_bool, same_some}
 
 -- names are the same exactly where the order ties them
 pub same-test : (a b : Name) → (eqb a.job b.job && eqb a.k b.k) ≡ eq_by_cmp name_cmp b a

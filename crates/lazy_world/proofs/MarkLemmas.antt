@@ -4,23 +4,23 @@ use Rattle.std.specs.Prelude.{◌||◌}
 use Rattle.std.specs.List.{list_any, range_with_len}
 use Rattle.lwc_base.specs.declared.cell.Cell.{Cell}
 use Rattle.lwc_base.specs.declared.descriptor.Descriptor.{Descriptor}
-use Rattle.lwc_base.specs.declared.page.PageValue.{PageValue}
+use Rattle.lwc_types.specs.declared.page.PageValue.{PageValue}
 use Rattle.std.specs.Option.{option_map}
 use Rattle.std.proofs.lemmas.Bool.{cases_lt, false≢true}
-use Rattle.lwc_base.specs.declared.right.Right.{Right}
+use Rattle.lwc_types.specs.declared.right.Right.{Right}
 use Rattle.range_map.specs.Kinds.{kind_of, state_of}
 use Rattle.range_map.specs.declared.segment.PageState.{PageState}
 use Rattle.range_map.specs.declared.segment.SegmentKind.{SegmentKind}
 use Rattle.fd_table.specs.Slots.{is_common}
 use Rattle.lwc_base.specs.declared.cell.Cell.TheVariants.{Own, Common}
-use Rattle.lwc_base.specs.declared.name.Name.{Name}
 use Rattle.lwc_base.specs.Life.{is_in}
+use Rattle.lwc_types.specs.declared.name.Name.{Name}
 use Rattle.reach.specs.Reach.{is_marked}
 use Rattle.lazy_world.specs.KeyValues.{group_in}
 use Rattle.lazy_world.specs.Reaping.{AddsMarks, is_name, is_of}
 use Rattle.lwc_base.proofs.Needs.{some_in_range}
 use Rattle.lwc_base.proofs.Reaped.{number_in}
-use Rattle.lwc_base.proofs.Small.{at-new, or_assoc, same_bool}
+use Rattle.lwc_types.proofs.Small.{at-new, or_assoc, same_bool}
 
 or_false : (b : Bool) → b ≡ (b || false)
 or_false true = refl

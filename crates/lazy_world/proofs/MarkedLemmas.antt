@@ -6,13 +6,13 @@ use Rattle.std.specs.Ordering.{eq_by_cmp}
 use Rattle.std.specs.FinMap as fm
 use Rattle.std.proofs.lemmas.Bool.{false≢true}
 use Rattle.std.proofs.lemmas.List.{length-map}
-use Rattle.lwc_base.specs.declared.name.Name.{Name}
-use Rattle.lwc_base.specs.Names.{name_cmp}
+use Rattle.lwc_types.specs.declared.name.Name.{Name}
+use Rattle.lwc_types.specs.Names.{name_cmp}
 use Rattle.ctx_table.specs.NameTables.{ArePlaced, NameTable}
 use Rattle.reach.specs.Reach.{is_marked}
 use Rattle.lazy_world.specs.Reaping.{AddsMarks}
 use Rattle.lwc_base.proofs.Life.{or_cases}
-use Rattle.lwc_base.proofs.Orders.{same_name}
+use Rattle.lwc_types.proofs.Orders.{same_name}
 
 -- an element at which a test passes is somewhere
 passes_somewhere : {A : Type 0} (test : A → Bool) (xs : List A) → list_any test xs ≡ true → (n : ℕ) × (x : A) × (n < length xs) × (slice_get xs n ≡ Some x) × (test x ≡ true)

@@ -6,16 +6,16 @@ use Rattle.std.proofs.lemmas.List.{get_or-replicate, length-replicate}
 use Rattle.std.proofs.lemmas.List.Edits.{get_or-between, length-between}
 use Rattle.lazy_world.specs.Cells.{Row}
 use Rattle.std.specs.Option.{option_map_or}
-use Rattle.lwc_base.specs.declared.name.Name.{Name}
-use Rattle.lwc_base.specs.declared.page.PageValue.{PageValue}
-use Rattle.lwc_base.specs.declared.page.PageValue.TheVariants.{Zero, Data}
 use Rattle.lwc_base.specs.Cells.{page_at, value_at}
 use Rattle.lwc_base.specs.Memory.{byte_at, is_present, touched}
-use Rattle.lwc_base.specs.Pages.{bytes_of}
 use Rattle.lwc_base.specs.World.{Context, World, context}
+use Rattle.lwc_types.specs.declared.name.Name.{Name}
+use Rattle.lwc_types.specs.declared.page.PageValue.{PageValue}
+use Rattle.lwc_types.specs.declared.page.PageValue.TheVariants.{Zero, Data}
+use Rattle.lwc_types.specs.Pages.{bytes_of}
 use Rattle.cow_space.specs.Maps.{data_of}
 use Rattle.lazy_world.specs.Memory.{byte_in, page_in}
-use Rattle.lwc_base.proofs.Small.{filled_from, zeros_at}
+use Rattle.lwc_types.proofs.Small.{filled_from, zeros_at}
 
 -- a byte of a page without bytes is 0
 pub byte-none : (o : Option PageValue) (k : ℕ) → None ≡ data_of o → 0 ≡ option_map_or (λ value. slice_index (bytes_of value) k) o 0

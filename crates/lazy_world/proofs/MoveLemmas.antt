@@ -3,9 +3,9 @@ use Rattle.std.proofs.Common.{◌≡◌, refl, sym, ap, ◌∙◌, true, false}
 use Rattle.lwc_base.specs.declared.cell.Cell.{Cell}
 use Rattle.lwc_base.specs.declared.item.Mode.{Mode}
 use Rattle.lwc_base.specs.declared.item.Mode.TheVariants.{Copy, Share, Unmap, CopyRead}
-use Rattle.lwc_base.specs.declared.key.Key.{Key}
 use Rattle.lwc_base.specs.Keys.{ValueOf}
 use Rattle.lwc_base.specs.Sharing.{has_own, is_moved}
+use Rattle.lwc_types.specs.declared.key.Key.{Key}
 
 -- what moves is of mode share, and the context's own
 pub moves-share : (m : Mode) (k : Key) (cell : Cell (ValueOf k)) → is_moved m k cell ≡ true → m ≡ Share

@@ -6,15 +6,15 @@ use Rattle.lwc_base.specs.declared.cell.Cell.{Cell}
 use Rattle.lwc_base.specs.declared.cell.Cell.TheVariants as cells
 use Rattle.lwc_base.specs.declared.item.Item.{Item}
 use Rattle.lwc_base.specs.declared.item.Mode.TheVariants.{Copy, Share}
-use Rattle.lwc_base.specs.declared.key.Key.{Key}
-use Rattle.lwc_base.specs.declared.key.Key.TheVariants.{Page, Slot, Cred}
-use Rattle.lwc_base.specs.declared.limits.TheConstants.{MOST_PAGES}
-use Rattle.lwc_base.specs.declared.name.Name.{Name}
-use Rattle.lwc_base.specs.declared.page.PageValue.{PageValue}
 use Rattle.lwc_base.specs.Keys.{ValueOf}
 use Rattle.lwc_base.specs.Modes.{IsKey, mode, mode_or_copy}
 use Rattle.lwc_base.specs.Sharing.{has_own, is_moved, needs_group}
 use Rattle.lwc_base.specs.World.{World, context}
+use Rattle.lwc_types.specs.declared.key.Key.{Key}
+use Rattle.lwc_types.specs.declared.key.Key.TheVariants.{Page, Slot, Cred}
+use Rattle.lwc_types.specs.declared.limits.TheConstants.{MOST_PAGES}
+use Rattle.lwc_types.specs.declared.name.Name.{Name}
+use Rattle.lwc_types.specs.declared.page.PageValue.{PageValue}
 use Rattle.lazy_world.specs.Cells.{Row, is_nothing}
 use Rattle.lazy_world.specs.Transfers.{moves}
 use Rattle.lazy_world.specs.Sound.{IsWithin}

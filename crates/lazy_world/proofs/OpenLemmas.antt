@@ -2,10 +2,10 @@
 use Rattle.std.proofs.Common.{◌≡◌, ℕ, List, length, refl, sym, subst, None, replicate}
 use Rattle.std.specs.FinMap as fm
 use Rattle.std.proofs.lemmas.List.{length-replicate}
-use Rattle.lwc_base.specs.declared.key.Key.TheVariants.{Page, Slot, Cred}
-use Rattle.lwc_base.specs.declared.size.WorldSize.{WorldSize}
 use Rattle.lwc_base.specs.Fresh.{IsFresh}
 use Rattle.lwc_base.specs.World.{empty_world}
+use Rattle.lwc_types.specs.declared.key.Key.TheVariants.{Page, Slot, Cred}
+use Rattle.lwc_types.specs.declared.size.WorldSize.{WorldSize}
 use Rattle.world_face.specs.Calls.{IsSize}
 use Rattle.lazy_world.specs.Registers.{KeptRegisters}
 use Rattle.cow_space.specs.Cells.{all_write}
@@ -16,7 +16,7 @@ use Rattle.lazy_world.specs.States.{Parts, context_at, counters_of, group_at, no
 use Rattle.lazy_world.proofs.AddLemmas.{no_common, no_tag, no_tags}
 use Rattle.lazy_world.proofs.MappedLemmas.{mapped-empty}
 use Rattle.lwc_base.proofs.Facts.{stays_fresh}
-use Rattle.lwc_base.proofs.Small.{at-new}
+use Rattle.lwc_types.proofs.Small.{at-new}
 
 pub nothing_there : IsEmpty no_row
 nothing_there (Page p) = refl

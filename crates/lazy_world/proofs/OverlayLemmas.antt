@@ -5,15 +5,15 @@ use Rattle.lwc_base.specs.declared.cell.Cell.{Cell}
 use Rattle.lwc_base.specs.declared.item.Item.{Item}
 use Rattle.lwc_base.specs.declared.item.Mode.{Mode}
 use Rattle.lwc_base.specs.declared.item.Mode.TheVariants.{Copy}
-use Rattle.lwc_base.specs.declared.key.Key.{Key}
-use Rattle.lwc_base.specs.declared.key.Key.TheVariants.{Page}
-use Rattle.lwc_base.specs.declared.name.Name.{Name}
-use Rattle.lwc_base.specs.declared.right.Right.{Right}
 use Rattle.lwc_base.specs.Keys.{ValueOf}
 use Rattle.lwc_base.specs.Modes.{IsSpec, mode}
 use Rattle.lwc_base.specs.Overlay.{overlaid_cell, overlaid_right, overlay, with_overlay}
 use Rattle.lwc_base.specs.Sharing.{is_moved, share}
 use Rattle.lwc_base.specs.World.{World, context, is_live}
+use Rattle.lwc_types.specs.declared.key.Key.{Key}
+use Rattle.lwc_types.specs.declared.key.Key.TheVariants.{Page}
+use Rattle.lwc_types.specs.declared.name.Name.{Name}
+use Rattle.lwc_types.specs.declared.right.Right.{Right}
 use Rattle.lazy_world.specs.Followed.{followed, with_transferred}
 use Rattle.lazy_world.specs.Transfers.{transferred_cell, transferred_right}
 use Rattle.lazy_world.specs.declared.transfer.Transfer.TheVariants.{Overlay}

@@ -7,14 +7,14 @@ use Rattle.lwc_base.specs.declared.cell.Cell.TheVariants.{Own, Common}
 use Rattle.lwc_base.specs.declared.item.Item.{Item}
 use Rattle.lwc_base.specs.declared.item.Mode.{Mode}
 use Rattle.lwc_base.specs.declared.item.Mode.TheVariants.{Copy, Share, Unmap, CopyRead}
-use Rattle.lwc_base.specs.declared.key.Key.TheVariants.{Page}
-use Rattle.lwc_base.specs.declared.name.Name.{Name}
-use Rattle.lwc_base.specs.declared.page.PageValue.{PageValue}
 use Rattle.lwc_base.specs.Cells.{put_page, with_cell, with_value}
 use Rattle.lwc_base.specs.Fresh.{IsFresh}
 use Rattle.lwc_base.specs.Modes.{mode}
 use Rattle.lwc_base.specs.Sharing.{is_moved}
 use Rattle.lwc_base.specs.World.{World, Context, Group, add_group, change_context, change_group, group, next_group}
+use Rattle.lwc_types.specs.declared.key.Key.TheVariants.{Page}
+use Rattle.lwc_types.specs.declared.name.Name.{Name}
+use Rattle.lwc_types.specs.declared.page.PageValue.{PageValue}
 use Rattle.lazy_world.specs.Cells.{Row, put_row}
 use Rattle.lazy_world.specs.Followed.{HasMoved, IsReady}
 use Rattle.lazy_world.specs.Sound.{HasItsPages}
@@ -25,8 +25,8 @@ use Rattle.lazy_world.specs.declared.transfer.Transfer.TheVariants.{Mark, Move, 
 use Rattle.lazy_world.proofs.PlaceLemmas.{choose, pass}
 use Rattle.lwc_base.proofs.Facts.{changes, stays_fresh}
 use Rattle.lwc_base.proofs.Lookups.{group-cases, group-dead}
-use Rattle.lwc_base.proofs.Orders.{cases_name}
 use Rattle.lwc_base.proofs.Puts.{after_put_at}
+use Rattle.lwc_types.proofs.Orders.{cases_name}
 
 -- a group has a page
 abbrev pub has_group_page : World → Name → ℕ → Bool

@@ -1,8 +1,8 @@
 -- The page run of an origin, if there is one.
 use Rattle.std.proofs.Common.{◌≡◌, ap, refl, ◌∙◌, Option, None, Some}
 use Rattle.std.specs.Option.{option_map}
-use Rattle.lwc_base.specs.declared.range.Range.{Range}
-use Rattle.lwc_base.specs.declared.right.Right.{Right}
+use Rattle.lwc_types.specs.declared.range.Range.{Range}
+use Rattle.lwc_types.specs.declared.right.Right.{Right}
 use Rattle.cow_space.specs.declared.page_runs.Origin.{Origin}
 use Rattle.cow_space.specs.declared.page_runs.PageRun.{PageRun}
 use Rattle.lazy_world.specs.Origins.{gift_of}

@@ -8,15 +8,15 @@ use Rattle.std.proofs.lemmas.List.{get_or-set_same}
 use Rattle.lwc_base.specs.declared.cell.Cell.{Cell}
 use Rattle.lwc_base.specs.declared.cell.Cell.TheVariants.{Own}
 use Rattle.lwc_base.specs.declared.item.Item.{Item}
-use Rattle.lwc_base.specs.declared.key.Key.{Key}
-use Rattle.lwc_base.specs.declared.key.Key.TheVariants.{Page, Slot, Cred}
-use Rattle.lwc_base.specs.declared.key.Kind.{Kind}
-use Rattle.lwc_base.specs.declared.key.Kind.TheVariants as kinds
-use Rattle.lwc_base.specs.declared.limits.TheConstants.{MOST_PAGES}
 use Rattle.lwc_base.specs.Cells.{value_of}
 use Rattle.lwc_base.specs.Keys.{ValueOf, nothing}
 use Rattle.lwc_base.specs.Modes.{IsSpec, kind_of, limit, mode, names, number_of, same_kind}
 use Rattle.lwc_base.specs.World.{World}
+use Rattle.lwc_types.specs.declared.key.Key.{Key}
+use Rattle.lwc_types.specs.declared.key.Key.TheVariants.{Page, Slot, Cred}
+use Rattle.lwc_types.specs.declared.key.Kind.{Kind}
+use Rattle.lwc_types.specs.declared.key.Kind.TheVariants as kinds
+use Rattle.lwc_types.specs.declared.limits.TheConstants.{MOST_PAGES}
 use Rattle.cow_space.specs.declared.page_runs.Origin.{Origin}
 use Rattle.lazy_world.specs.Cells.{Row, is_nothing}
 use Rattle.lazy_world.specs.Transfers.{Gives, given_or, transferred_cell, transferred_row}

@@ -5,17 +5,17 @@ use Rattle.std.proofs.lemmas.Bool.Decides.{nat_tests}
 use Rattle.std.proofs.lemmas.List.{get_or-set_same}
 use Rattle.lwc_base.specs.declared.cell.Cell.{Cell}
 use Rattle.lwc_base.specs.declared.cell.Cell.TheVariants.{Own}
-use Rattle.lwc_base.specs.declared.key.Key.TheVariants.{Page, Slot, Cred}
-use Rattle.lwc_base.specs.declared.key.TheConstants.{NOBODY}
-use Rattle.lwc_base.specs.declared.page.PageValue.{PageValue}
-use Rattle.lwc_base.specs.declared.right.Right.{Right}
 use Rattle.lwc_base.specs.Keys.{with_key}
+use Rattle.lwc_types.specs.declared.key.Key.TheVariants.{Page, Slot, Cred}
+use Rattle.lwc_types.specs.declared.key.TheConstants.{NOBODY}
+use Rattle.lwc_types.specs.declared.page.PageValue.{PageValue}
+use Rattle.lwc_types.specs.declared.right.Right.{Right}
 use Rattle.fd_table.specs.Slots as slots
 use Rattle.cow_space.specs.Maps.{put_page}
 use Rattle.cow_space.specs.Cells.{Place, all_write, no_pages, place_of, rights_of}
 use Rattle.lazy_world.specs.Cells.{Row, no_row, on_place, put_rights, put_row, rows_of}
 use Rattle.lazy_world.specs.Kept.{IsNumbered}
-use Rattle.lwc_base.proofs.Small.{at-new}
+use Rattle.lwc_types.proofs.Small.{at-new}
 
 pub replicate_push : {A : Type 0} (n : ℕ) (x : A) → replicate n x ++ x ∷ [] ≡ replicate (n + 1) x
 replicate_push zero x = refl

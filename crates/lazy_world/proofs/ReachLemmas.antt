@@ -8,14 +8,14 @@ use Rattle.std.proofs.lemmas.Bool.{false≢true}
 use Rattle.std.proofs.lemmas.List.Elements.{All-cons, All-nil}
 use Rattle.lwc_base.specs.declared.descriptor.Descriptor.{Descriptor}
 use Rattle.lwc_base.specs.declared.descriptor.Descriptor.TheVariants.{Empty, Console, File, Request, Reply, Ctx}
-use Rattle.lwc_base.specs.declared.descriptor.TheConstants.{SLOTS}
-use Rattle.lwc_base.specs.declared.limits.TheConstants.{MOST_CONTEXTS}
-use Rattle.lwc_base.specs.declared.name.Name.{Name}
 use Rattle.lwc_base.specs.Cells.{slot_at}
 use Rattle.lwc_base.specs.Life as life
 use Rattle.lwc_base.specs.Life.{is_among, is_of, is_reached}
-use Rattle.lwc_base.specs.Names.{name_cmp}
 use Rattle.lwc_base.specs.World.{is_live}
+use Rattle.lwc_types.specs.declared.key.TheConstants.{SLOTS}
+use Rattle.lwc_types.specs.declared.limits.TheConstants.{MOST_CONTEXTS}
+use Rattle.lwc_types.specs.declared.name.Name.{Name}
+use Rattle.lwc_types.specs.Names.{name_cmp}
 use Rattle.ctx_table.specs.NameTables.{ArePlaced}
 use Rattle.reach.specs.Reach as reach
 use Rattle.reach.specs.Reach.{is_marked}
@@ -24,9 +24,9 @@ use Rattle.lazy_world.specs.Reaping.{link_from, link_of, place_in}
 use Rattle.lazy_world.specs.Worlds.{parts, seen}
 use Rattle.lazy_world.proofs.WorldLemmas.{live-there}
 use Rattle.lwc_base.proofs.Life.{or_cases, or_left, or_right, reached_by_way, way_of_reached}
-use Rattle.lwc_base.proofs.Orders.{name-itself, same_name}
 use Rattle.lwc_base.proofs.Slots.{linked_slot, slot_links}
-use Rattle.lwc_base.proofs.Small.{gathered_either, gathered_later, same_bool, same_some}
+use Rattle.lwc_types.proofs.Orders.{name-itself, same_name}
+use Rattle.lwc_types.proofs.Small.{gathered_either, gathered_later, same_bool, same_some}
 
 module _ (w : PlacedWorld) (placed : ArePlaced w.contexts) where
   abbrev places_by_name : fm.FinMap name_cmp ℕ

@@ -10,16 +10,16 @@ use Rattle.lwc_base.specs.declared.cell.Cell.TheVariants as cells
 use Rattle.lwc_base.specs.declared.item.Item.{Item}
 use Rattle.lwc_base.specs.declared.item.Mode.{Mode}
 use Rattle.lwc_base.specs.declared.item.Mode.TheVariants.{Copy, Share, Unmap, CopyRead}
-use Rattle.lwc_base.specs.declared.key.Key.TheVariants.{Page}
-use Rattle.lwc_base.specs.declared.name.Name.{Name}
-use Rattle.lwc_base.specs.declared.page.PageValue.{PageValue}
-use Rattle.lwc_base.specs.declared.right.Right.{Right}
 use Rattle.lwc_base.specs.Holders.{IsGroup}
 use Rattle.lwc_base.specs.Rights.{same_right}
 use Rattle.lwc_base.specs.Modes.{mode, mode_or_copy}
-use Rattle.lwc_base.specs.Names.{name_cmp}
 use Rattle.lwc_base.specs.Sharing.{is_moved, moved_value, moved_values, needs_group, share, with_shared}
 use Rattle.lwc_base.specs.World.{World, Context, Group, add_group, change_context, change_counters, change_group, changed_context, changed_group, context, group, new_group, next_group}
+use Rattle.lwc_types.specs.declared.key.Key.TheVariants.{Page}
+use Rattle.lwc_types.specs.declared.name.Name.{Name}
+use Rattle.lwc_types.specs.declared.page.PageValue.{PageValue}
+use Rattle.lwc_types.specs.declared.right.Right.{Right}
+use Rattle.lwc_types.specs.Names.{name_cmp}
 use Rattle.range_map.specs.Kinds.{are_alike, begins_range, ranges, same_kind}
 use Rattle.range_map.specs.declared.segment.PageState.{PageState}
 use Rattle.range_map.specs.declared.segment.SegmentKind.{SegmentKind}
@@ -29,7 +29,7 @@ use Rattle.lazy_world.specs.Transfers.{moves}
 use Rattle.lazy_world.specs.declared.transfer.Transfer.TheVariants.{Mark}
 use Rattle.lazy_world.proofs.FollowLemmas.{change-agree}
 use Rattle.lwc_base.proofs.Facts.{changes, orders}
-use Rattle.lwc_base.proofs.Orders.{same_name}
+use Rattle.lwc_types.proofs.Orders.{same_name}
 
 -- a test has one answer
 pub not_both : (b : Bool) → b ≡ true → b ≡ false → ⊥

@@ -6,16 +6,16 @@ use Rattle.std.proofs.lemmas.Bool.{cases_eq, cases_lt}
 use Rattle.std.proofs.lemmas.Bool.Decides.{nat_tests}
 use Rattle.lwc_base.specs.declared.cell.Cell.{Cell}
 use Rattle.lwc_base.specs.declared.cell.Cell.TheVariants.{Own, Common}
-use Rattle.lwc_base.specs.declared.key.Key.{Key}
-use Rattle.lwc_base.specs.declared.key.Key.TheVariants.{Page, Slot, Cred}
-use Rattle.lwc_base.specs.declared.name.Name.{Name}
-use Rattle.lwc_base.specs.declared.name.Tag.{Tag}
-use Rattle.lwc_base.specs.declared.page.PageValue.{PageValue}
-use Rattle.lwc_base.specs.declared.page.PageValue.TheVariants.{Data}
 use Rattle.lwc_base.specs.Cells.{put_page, with_cell, with_value}
 use Rattle.lwc_base.specs.Fresh.{IsFresh}
 use Rattle.lwc_base.specs.Keys.{with_key}
 use Rattle.lwc_base.specs.World.{World, Context, Counters, change_counters, group}
+use Rattle.lwc_types.specs.declared.key.Key.{Key}
+use Rattle.lwc_types.specs.declared.key.Key.TheVariants.{Page, Slot, Cred}
+use Rattle.lwc_types.specs.declared.name.Name.{Name}
+use Rattle.lwc_types.specs.declared.name.Tag.{Tag}
+use Rattle.lwc_types.specs.declared.page.PageValue.{PageValue}
+use Rattle.lwc_types.specs.declared.page.PageValue.TheVariants.{Data}
 use Rattle.ctx_table.specs.NameTables.{ArePlaced}
 use Rattle.lazy_world.specs.declared.counts.Counts.{Counts}
 use Rattle.lazy_world.specs.Cells.{Row, is_nothing, is_own, put_row}

@@ -4,18 +4,18 @@ use Rattle.std.specs.Prelude.{◌&&◌, count_by, is_some, unwrap_or}
 use Rattle.std.specs.List.{list_all, range_with_len}
 use Rattle.std.proofs.lemmas.Bool.{and_parts}
 use Rattle.std.proofs.lemmas.List.FromFn.{get_or-range_with_len, length-range_with_len}
-use Rattle.lwc_base.specs.declared.key.Key.{Key}
-use Rattle.lwc_base.specs.declared.key.Key.TheVariants.{Page}
-use Rattle.lwc_base.specs.declared.name.Name.{Name}
-use Rattle.lwc_base.specs.declared.page.PageValue.TheVariants.{Zero}
 use Rattle.lwc_base.specs.Cells.{page_at, put_page}
 use Rattle.lwc_base.specs.Store.{Piece}
 use Rattle.lwc_base.specs.World.{World, Counters, change_counters, is_live}
+use Rattle.lwc_types.specs.declared.key.Key.{Key}
+use Rattle.lwc_types.specs.declared.key.Key.TheVariants.{Page}
+use Rattle.lwc_types.specs.declared.name.Name.{Name}
+use Rattle.lwc_types.specs.declared.page.PageValue.TheVariants.{Zero}
 use Rattle.lazy_world.specs.Stores.{parts_at, store_pages, taken_at, value_after}
 use Rattle.lazy_world.proofs.StoreLemmas.{count-one, counted-value, next-tags, store-more, store-one}
 use Rattle.lwc_base.proofs.Facts.{changes}
 use Rattle.lwc_base.proofs.Common.{put-other_key}
-use Rattle.lwc_base.proofs.Small.{steps_left}
+use Rattle.lwc_types.proofs.Small.{steps_left}
 
 -- the pages from one on are that one and those that follow
 split : (p end : ℕ) → p < end → range_with_len p (end - p) ≡ p ∷ range_with_len (p + 1) (end - (p + 1))

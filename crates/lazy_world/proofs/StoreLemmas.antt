@@ -7,17 +7,17 @@ use Rattle.std.proofs.lemmas.Bool.{eq-eqb, false≢true, lt-ltb, le-ltb}
 use Rattle.std.proofs.lemmas.List.Sums.{sum_by-cons}
 use Rattle.lwc_base.specs.declared.cell.Cell.{Cell}
 use Rattle.lwc_base.specs.declared.cell.Cell.TheVariants.{Own, Common}
-use Rattle.lwc_base.specs.declared.key.Key.TheVariants.{Page}
-use Rattle.lwc_base.specs.declared.name.Name.{Name}
-use Rattle.lwc_base.specs.declared.page.PageValue.{PageValue}
-use Rattle.lwc_base.specs.declared.page.PageValue.TheVariants.{Zero}
 use Rattle.lwc_base.specs.Cells.{page_at, put_at, put_in, put_page, value_at}
 use Rattle.lwc_base.specs.Frames.{is_parting, used}
 use Rattle.lwc_base.specs.Memory.{is_present, touched}
-use Rattle.lwc_base.specs.Pages.{bytes_of}
 use Rattle.lwc_base.specs.Rights.{is_writable, may_write}
 use Rattle.lwc_base.specs.Store.{Piece, Stored, Absent, ReadOnly, Full, Done, after_store, bytes_after, page_value_at, parting_count, stored_pages, put_pages, store, stored_value}
 use Rattle.lwc_base.specs.World.{World, Context, Counters, Group, change_context, change_counters, change_group, changed_context, changed_group, context, group}
+use Rattle.lwc_types.specs.declared.key.Key.TheVariants.{Page}
+use Rattle.lwc_types.specs.declared.name.Name.{Name}
+use Rattle.lwc_types.specs.declared.page.PageValue.{PageValue}
+use Rattle.lwc_types.specs.declared.page.PageValue.TheVariants.{Zero}
+use Rattle.lwc_types.specs.Pages.{bytes_of}
 use Rattle.lazy_world.specs.Memory.{page_in}
 use Rattle.lazy_world.specs.Stores.{parts_at, store_pages, taken_at, value_after}
 use Rattle.lazy_world.proofs.MemoryLemmas.{page-in}

@@ -5,11 +5,11 @@ use Rattle.std.specs.Option.{option_map}
 use Rattle.std.proofs.lemmas.Bool.{cases_eq}
 use Rattle.std.proofs.lemmas.Bool.Decides.{nat_tests}
 use Rattle.lwc_base.specs.declared.cell.Cell.{Cell}
-use Rattle.lwc_base.specs.declared.key.Key.{Key}
-use Rattle.lwc_base.specs.declared.key.Key.TheVariants.{Page, Slot, Cred}
-use Rattle.lwc_base.specs.declared.right.Right.{Right}
-use Rattle.lwc_base.specs.declared.right.Right.TheVariants.{Read}
 use Rattle.lwc_base.specs.Keys.{ValueOf, with_key}
+use Rattle.lwc_types.specs.declared.key.Key.{Key}
+use Rattle.lwc_types.specs.declared.key.Key.TheVariants.{Page, Slot, Cred}
+use Rattle.lwc_types.specs.declared.right.Right.{Right}
+use Rattle.lwc_types.specs.declared.right.Right.TheVariants.{Read}
 use Rattle.fd_table.specs.Slots as slots
 use Rattle.cow_space.specs.Cells.{Place, place_of, right_in, rights_of}
 use Rattle.cow_space.specs.Changes as page_changes
@@ -17,7 +17,7 @@ use Rattle.cow_space.specs.Changes.{cell_by, changed_place, changed_rights, chan
 use Rattle.range_map.specs.Kinds.{kind_of, state_of}
 use Rattle.cow_space.specs.declared.page_runs.Origin.{Origin}
 use Rattle.cow_space.specs.declared.page_runs.Origin.TheVariants as origins
-use Rattle.lwc_base.specs.declared.range.Range.{Range}
+use Rattle.lwc_types.specs.declared.range.Range.{Range}
 use Rattle.cow_space.specs.declared.page_runs.PageRun.{PageRun}
 use Rattle.lazy_world.specs.Cells.{Row, on_place, put_row, rows_of}
 use Rattle.lazy_world.specs.Transfers.{CanGet, given, given_or}

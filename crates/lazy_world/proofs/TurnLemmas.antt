@@ -3,7 +3,7 @@ use Rattle.std.proofs.Common.{◌≡◌, ◌≢◌, ℕ, ◌+◌, ◌*◌, ◌-�
 use Rattle.std.specs.Prelude.{◌==◌}
 use Rattle.std.specs.List.{list_any}
 use Rattle.lwc_base.specs.declared.item.Item.{Item}
-use Rattle.lwc_base.specs.declared.limits.TheConstants.{MOST_ITEMS, MOST_PAGES, MOST_PAGE_RUNS, MOST_RANGES}
+use Rattle.lwc_types.specs.declared.limits.TheConstants.{MOST_ITEMS, MOST_PAGES, MOST_PAGE_RUNS, MOST_RANGES}
 use Rattle.range_map.specs.Kinds.{ranges}
 use Rattle.range_map.specs.declared.segment.PageState.{PageState}
 use Rattle.range_map.proofs.Ranges.{first_begins, ranges_grow, ranges_more}

@@ -15,13 +15,13 @@ use Rattle.std.proofs.lemmas.List.Elements.{All-append, All-map, Contains-append
 use Rattle.std.proofs.lemmas.List.Kept.{AllPairs-cons}
 use Rattle.lwc_base.specs.declared.cell.Cell.{Cell}
 use Rattle.lwc_base.specs.declared.cell.Cell.TheVariants.{Own, Common}
-use Rattle.lwc_base.specs.declared.key.Key.TheVariants.{Page}
-use Rattle.lwc_base.specs.declared.name.Name.{Name}
-use Rattle.lwc_base.specs.declared.name.Tag.{Tag}
-use Rattle.lwc_base.specs.declared.page.PageValue.{PageValue}
 use Rattle.lwc_base.specs.Frames as frames
-use Rattle.lwc_base.specs.Names.{name_cmp}
 use Rattle.lwc_base.specs.World.{Context, Group}
+use Rattle.lwc_types.specs.declared.key.Key.TheVariants.{Page}
+use Rattle.lwc_types.specs.declared.name.Name.{Name}
+use Rattle.lwc_types.specs.declared.name.Tag.{Tag}
+use Rattle.lwc_types.specs.declared.page.PageValue.{PageValue}
+use Rattle.lwc_types.specs.Names.{name_cmp}
 use Rattle.ctx_table.specs.NameTables.{ArePlaced, NameTable}
 use Rattle.cow_space.specs.Cells.{Place, place_of}
 use Rattle.cow_space.specs.Tags as places

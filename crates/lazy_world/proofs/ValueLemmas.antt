@@ -7,12 +7,12 @@ use Rattle.std.specs.Cmp.{eq_by_cmp_equiv}
 use Rattle.std.specs.FinMap as fm
 use Rattle.std.proofs.lemmas.Bool.{cases_lt, false≢true}
 use Rattle.lwc_base.specs.declared.cell.Cell.TheVariants.{Common}
-use Rattle.lwc_base.specs.declared.descriptor.TheConstants.{SLOTS}
-use Rattle.lwc_base.specs.declared.key.Key.TheVariants.{Page, Slot, Cred}
-use Rattle.lwc_base.specs.declared.name.Name.{Name}
 use Rattle.lwc_base.specs.Life.{is_in, names_group}
 use Rattle.lwc_base.specs.Sharing.{any_key}
 use Rattle.lwc_base.specs.World.{Context}
+use Rattle.lwc_types.specs.declared.key.TheConstants.{SLOTS}
+use Rattle.lwc_types.specs.declared.key.Key.TheVariants.{Page, Slot, Cred}
+use Rattle.lwc_types.specs.declared.name.Name.{Name}
 use Rattle.ctx_table.specs.NameTables.{ArePlaced}
 use Rattle.lazy_world.specs.Cells.{is_own}
 use Rattle.lazy_world.specs.Reaping.{NamesNone, names_at, names_from}
@@ -24,7 +24,7 @@ use Rattle.lwc_base.proofs.Facts.{orders}
 use Rattle.lwc_base.proofs.Life.{or_left}
 use Rattle.lwc_base.proofs.Needs.{some_in_range}
 use Rattle.lwc_base.proofs.Reaped.{any_value, number_in, some_value}
-use Rattle.lwc_base.proofs.Small.{same_bool}
+use Rattle.lwc_types.proofs.Small.{same_bool}
 
 module _ (s : Parts) (sound : IsSound s) (placed : ArePlaced s.contexts) (g : Name) where
   abbrev test : Context → Bool

@@ -5,17 +5,17 @@ use Rattle.std.specs.Prelude.{is_some, unwrap_or}
 use Rattle.std.specs.FinMap as fm
 use Rattle.lwc_base.specs.declared.cell.Cell.{Cell}
 use Rattle.lwc_base.specs.declared.cell.Cell.TheVariants.{Own, Common}
-use Rattle.lwc_base.specs.declared.key.Key.TheVariants.{Page}
-use Rattle.lwc_base.specs.declared.name.Name.{Name}
-use Rattle.lwc_base.specs.declared.name.Tag.{Tag}
-use Rattle.lwc_base.specs.declared.page.PageValue.{PageValue}
-use Rattle.lwc_base.specs.declared.page.PageValue.TheVariants.{Zero, Data}
 use Rattle.lwc_base.specs.Cells.{page_at, put_page}
 use Rattle.lwc_base.specs.Frames as frames
 use Rattle.lwc_base.specs.Frames.{own_value}
-use Rattle.lwc_base.specs.Pages.{bytes_of}
 use Rattle.lwc_base.specs.Store.{Piece, bytes_after, page_value_at, stored_value}
 use Rattle.lwc_base.specs.World.{World, Counters, change_counters}
+use Rattle.lwc_types.specs.declared.key.Key.TheVariants.{Page}
+use Rattle.lwc_types.specs.declared.name.Name.{Name}
+use Rattle.lwc_types.specs.declared.name.Tag.{Tag}
+use Rattle.lwc_types.specs.declared.page.PageValue.{PageValue}
+use Rattle.lwc_types.specs.declared.page.PageValue.TheVariants.{Zero, Data}
+use Rattle.lwc_types.specs.Pages.{bytes_of}
 use Rattle.range_map.specs.declared.segment.SegmentKind.TheVariants as kind
 use Rattle.range_map.specs.Kinds.{kind_of}
 use Rattle.cow_space.specs.Cells.{IsOwnPage, Place, place_of}
@@ -39,7 +39,7 @@ use Rattle.lazy_world.proofs.WorldLemmas.{context-found}
 use Rattle.lwc_base.proofs.Common.{put-other_key}
 use Rattle.cow_space.proofs.Taken.{own-cell, parting-others, write-taken}
 use Rattle.lazy_world.proofs.StepLemmas.{two-pages}
-use Rattle.lwc_base.specs.declared.limits.TheConstants.{MOST_PAGES}
+use Rattle.lwc_types.specs.declared.limits.TheConstants.{MOST_PAGES}
 
 -- a page without bytes of its own parts
 pub parts-none : (tags : List Tag) (cell : Cell (Option PageValue)) → kind_of cell ≡ None → true ≡ parts tags (own_value cell)

@@ -1,9 +1,9 @@
 -- What all live contexts are reached from, and contexts that nothing reaches.
 use Rattle.std.specs.FinMap as fm
 use Rattle.std.specs.Prelude.{ℕ, ◌≡◌, ◌⊎◌, ◌++◌, ◌∷◌, [], List, Option, None, Some, true}
-use Rattle.lwc_base.specs.declared.name.Name.{Name}
 use Rattle.lwc_base.specs.Life.{Reaches, is_among, is_reached, links}
 use Rattle.lwc_base.specs.World.{World, is_live}
+use Rattle.lwc_types.specs.declared.name.Name.{Name}
 use Rattle.lazy_world.specs.States.{Parts}
 
 -- each live context is reached from these names

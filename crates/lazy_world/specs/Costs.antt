@@ -1,10 +1,10 @@
 -- What making a context from another one costs, and taking over from one: frames, tree nodes and node steps.
 use Rattle.std.specs.Prelude.{◌≡◌, ◌≤◌, ℕ, ◌+◌, List, false, length, min}
 use Rattle.lwc_base.specs.declared.item.Item.{Item}
-use Rattle.lwc_base.specs.declared.name.Name.{Name}
 use Rattle.lwc_base.specs.Ranges.{ranges_of}
 use Rattle.lwc_base.specs.Sharing.{needs_group, share}
 use Rattle.lwc_base.specs.World.{World, context}
+use Rattle.lwc_types.specs.declared.name.Name.{Name}
 use Rattle.lazy_world.specs.declared.world.PlacedWorld.{PlacedWorld}
 use Rattle.lazy_world.specs.Cells.{HasOwnPages}
 use Rattle.lazy_world.specs.Clones.{CopiesPages, change_nodes, change_steps, copy_nodes, copy_steps}

@@ -1,9 +1,9 @@
 -- A world in which a context has got cells and rights by a transfer.
 use Rattle.std.specs.Prelude.{◌≡◌, ℕ, List, ⊤, is_some, true}
 use Rattle.lwc_base.specs.declared.item.Item.{Item}
-use Rattle.lwc_base.specs.declared.name.Name.{Name}
-use Rattle.lwc_base.specs.declared.key.Key.TheVariants.{Page}
 use Rattle.lwc_base.specs.World.{World, Context, change_context, context, group}
+use Rattle.lwc_types.specs.declared.name.Name.{Name}
+use Rattle.lwc_types.specs.declared.key.Key.TheVariants.{Page}
 use Rattle.lazy_world.specs.Transfers.{moves, transferred_rights, transferred_row}
 use Rattle.lazy_world.specs.declared.transfer.Transfer.{Transfer}
 use Rattle.lazy_world.specs.declared.transfer.Transfer.TheVariants.{Mark, Move, Clone, Overlay}

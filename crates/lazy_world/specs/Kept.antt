@@ -3,7 +3,7 @@ use Rattle.std.specs.Prelude.{◌≡◌, ℕ, ◌+◌, ◌*◌, ◌%◌, List, O
 use Rattle.std.specs.Option.{option_map}
 use Rattle.lwc_base.specs.declared.cell.Cell.{Cell}
 use Rattle.lwc_base.specs.declared.descriptor.Descriptor.{Descriptor}
-use Rattle.lwc_base.specs.declared.name.Name.{Name}
+use Rattle.lwc_types.specs.declared.name.Name.{Name}
 use Rattle.fd_table.specs.declared.slots.TheConstants.{NUMBERS}
 use Rattle.fd_table.specs.Slots.{Slot, context_in, row_of}
 use Rattle.cow_space.specs.Cells.{Place}

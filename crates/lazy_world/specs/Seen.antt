@@ -1,7 +1,7 @@
 -- What places are seen as.
 use Rattle.std.specs.Prelude.{◌≡◌, ℕ, List, length}
-use Rattle.lwc_base.specs.declared.name.Tag.{Tag}
-use Rattle.lwc_base.specs.declared.right.Right.{Right}
+use Rattle.lwc_types.specs.declared.name.Tag.{Tag}
+use Rattle.lwc_types.specs.declared.right.Right.{Right}
 use Rattle.fd_table.specs.Seen as slots_seen
 use Rattle.cow_space.specs.Cells.{Place, rights_of}
 use Rattle.cow_space.specs.Seen as pages_seen

@@ -1,11 +1,11 @@
 -- The store of a piece, page by page.
 use Rattle.std.specs.Prelude.{ℕ, ◌+◌, if◌then◌else◌, Bool, List, count_by}
-use Rattle.lwc_base.specs.declared.name.Name.{Name}
-use Rattle.lwc_base.specs.declared.page.PageValue.{PageValue}
 use Rattle.lwc_base.specs.Frames.{is_parting}
-use Rattle.lwc_base.specs.Pages.{bytes_of}
 use Rattle.lwc_base.specs.Store.{Piece, bytes_after, page_value_at, stored_pages, put_pages, stored_value}
 use Rattle.lwc_base.specs.World.{World, change_counters}
+use Rattle.lwc_types.specs.declared.name.Name.{Name}
+use Rattle.lwc_types.specs.declared.page.PageValue.{PageValue}
+use Rattle.lwc_types.specs.Pages.{bytes_of}
 
 -- whether a page of a context parts when it is stored to
 abbrev pub parts_at : World → Name → ℕ → Bool

@@ -1,8 +1,8 @@
 -- The world that shared pages stand for.
 use Rattle.std.specs.Prelude.{ℕ, List}
 use Rattle.lwc_base.specs.declared.item.Item.{Item}
-use Rattle.lwc_base.specs.declared.right.Right.{Right}
 use Rattle.lwc_base.specs.World.{World}
+use Rattle.lwc_types.specs.declared.right.Right.{Right}
 use Rattle.lazy_world.specs.declared.transfer.Transfer.{Transfer}
 use Rattle.lazy_world.specs.declared.world.PlacedWorld.{PlacedWorld}
 use Rattle.lazy_world.specs.Cells.{Row}

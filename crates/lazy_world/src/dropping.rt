@@ -2,7 +2,7 @@ ghost use Rattle.std.specs.Prelude.{◌≡◌, ◌<◌, ◌≤◌, None, Some, f
 ghost use Rattle.std.specs.FinMap as fm;
 ghost use Rattle.world_face.specs.Calls.{IsLive};
 ghost use Rattle.cow_space.specs.Cells.{all_write};
-ghost use Rattle.lwc_base.specs.declared.name.Name.{Name};
+ghost use Rattle.lwc_types.specs.declared.name.Name.{Name};
 ghost use Rattle.lazy_world.specs.Cells.{no_row, put_rights, put_row};
 ghost use Rattle.lazy_world.specs.Reaping.{NamesMarked, NamesNone, keeps, left_by, passes};
 ghost use Rattle.lazy_world.specs.Seen.{count, frame_count, rights, rows};

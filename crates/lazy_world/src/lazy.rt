@@ -1,5 +1,5 @@
 ghost use Rattle.std.specs.Prelude.{◌≡◌, ◌≤◌, length, true};
-ghost use Rattle.lwc_base.specs.declared.limits.TheConstants.{MOST_ROOTS};
+ghost use Rattle.lwc_types.specs.declared.limits.TheConstants.{MOST_ROOTS};
 ghost use Rattle.lazy_world.specs.CachedRoots.{AreReached};
 ghost use Rattle.lazy_world.specs.Worlds as placed;
 

@@ -1,13 +1,13 @@
 ghost use Rattle.std.specs.Prelude.{◌≡◌, ◌<◌, ◌≤◌, ℕ, length, All, IfSome, None, Some, true, false};
 ghost use Rattle.std.specs.FinMap as fm;
 ghost use Rattle.fd_table.specs.Slots.{context_of};
-ghost use Rattle.lwc_base.specs.declared.descriptor.TheConstants.{SLOTS};
-ghost use Rattle.lwc_base.specs.declared.limits.TheConstants.{MOST_ROOTS};
-ghost use Rattle.lwc_base.specs.declared.key.Key.TheVariants.{Slot};
-ghost use Rattle.lwc_base.specs.declared.name.Name.{Name};
 ghost use Rattle.lwc_base.specs.Cells.{value_of};
 ghost use Rattle.lwc_base.specs.Life.{Reaches, is_among, is_reached, links, reap};
 ghost use Rattle.lwc_base.specs.World.{is_live};
+ghost use Rattle.lwc_types.specs.declared.key.TheConstants.{SLOTS};
+ghost use Rattle.lwc_types.specs.declared.limits.TheConstants.{MOST_ROOTS};
+ghost use Rattle.lwc_types.specs.declared.key.Key.TheVariants.{Slot};
+ghost use Rattle.lwc_types.specs.declared.name.Name.{Name};
 ghost use Rattle.world_face.specs.Calls.{IsLive};
 ghost use Rattle.lazy_world.specs.CachedRoots.{AreReached, HasLoose, HasRoot, IsLoose};
 ghost use Rattle.lazy_world.specs.declared.loosening.Garbage.TheVariants as garbage;

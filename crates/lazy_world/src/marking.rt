@@ -1,10 +1,10 @@
 ghost use Rattle.std.specs.Prelude.{◌≡◌, ◌<◌, ◌≤◌, [], ℕ, Some, slice_get, true};
 ghost use Rattle.std.specs.FinMap as fm;
 ghost use Rattle.std.specs.List.{list_any, range_with_len};
-ghost use Rattle.lwc_base.specs.declared.descriptor.TheConstants.{SLOTS};
-ghost use Rattle.lwc_base.specs.declared.key.Key.TheVariants.{Page, Slot, Cred};
-ghost use Rattle.lwc_base.specs.declared.name.Name.{Name};
 ghost use Rattle.lwc_base.specs.Life.{is_in};
+ghost use Rattle.lwc_types.specs.declared.key.TheConstants.{SLOTS};
+ghost use Rattle.lwc_types.specs.declared.key.Key.TheVariants.{Page, Slot, Cred};
+ghost use Rattle.lwc_types.specs.declared.name.Name.{Name};
 ghost use Rattle.reach.specs.Reach.{is_marked};
 ghost use Rattle.lazy_world.specs.KeyValues.{group_in};
 ghost use Rattle.lazy_world.specs.Reaping.{AddsMarks, is_name, is_of, names_at};

@@ -1,10 +1,10 @@
 ghost use Rattle.std.specs.Prelude.{◌≡◌, ◌+◌, ◌-◌, ◌*◌, ◌<◌, ◌≤◌, IfNone, IfSome, Option, false, is_some, length};
 ghost use Rattle.std.specs.Prelude.{map, slice_index, true};
 ghost use Rattle.std.specs.Option.{option_copied, option_map_or};
-ghost use Rattle.lwc_base.specs.declared.limits.TheConstants.{MOST_PAGES};
-ghost use Rattle.lwc_base.specs.declared.page.PageValue.{PageValue};
-ghost use Rattle.lwc_base.specs.declared.page.TheConstants.{PAGE_BYTES};
-ghost use Rattle.lwc_base.specs.Pages.{bytes_of};
+ghost use Rattle.lwc_types.specs.declared.limits.TheConstants.{MOST_PAGES};
+ghost use Rattle.lwc_types.specs.declared.page.PageValue.{PageValue};
+ghost use Rattle.lwc_types.specs.declared.page.TheConstants.{PAGE_BYTES};
+ghost use Rattle.lwc_types.specs.Pages.{bytes_of};
 ghost use Rattle.cow_space.specs.Maps.{data_of};
 ghost use Rattle.lazy_world.specs.Memory.{byte_in, holder, page_in};
 ghost use Rattle.lazy_world.specs.Seen.{count, rows};

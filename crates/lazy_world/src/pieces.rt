@@ -23,10 +23,10 @@ pub struct Origins {
 impl Places {
     ghost use Rattle.std.specs.Prelude.{◌≡◌, ◌≢◌, ◌<◌, ◌≤◌, ◌+◌, ◌*◌, ℕ, All, Some, length, min};
     ghost use Rattle.lwc_base.specs.declared.cell.Cell.{Cell};
-    ghost use Rattle.lwc_base.specs.declared.descriptor.TheConstants.{SLOTS};
-    ghost use Rattle.lwc_base.specs.declared.key.Key.TheVariants.{Slot, Cred};
-    ghost use Rattle.lwc_base.specs.declared.limits.TheConstants.{MOST_PAGES, MOST_RANGES};
     ghost use Rattle.lwc_base.specs.Keys.{with_key};
+    ghost use Rattle.lwc_types.specs.declared.key.TheConstants.{SLOTS};
+    ghost use Rattle.lwc_types.specs.declared.key.Key.TheVariants.{Slot, Cred};
+    ghost use Rattle.lwc_types.specs.declared.limits.TheConstants.{MOST_PAGES, MOST_RANGES};
     ghost use Rattle.range_map.specs.Kinds.{ranges};
     ghost use Rattle.cow_space.specs.Changes.{IsPageRun};
     ghost use Rattle.cow_space.specs.declared.page_runs.Origin.TheVariants.{CopyOf};

@@ -2,7 +2,7 @@
 
 ghost use Rattle.std.specs.Prelude.{◌≡◌, ◌<◌, IfOk, replicate};
 ghost use Rattle.lwc_base.specs.declared.cell.Cell.TheVariants.{Own};
-ghost use Rattle.lwc_base.specs.declared.key.TheConstants.{NOBODY};
+ghost use Rattle.lwc_types.specs.declared.key.TheConstants.{NOBODY};
 ghost use Rattle.fd_table.specs.Seen as slots_seen;
 ghost use Rattle.cow_space.specs.Seen as pages_seen;
 ghost use Rattle.fd_table.specs.declared.slots.TheConstants.{NUMBERS};
@@ -47,13 +47,13 @@ fn number_of(name: Name) -> TargetNumber
 impl Places {
     ghost use Rattle.std.specs.Prelude.{◌≤◌, ◌≢◌, ℕ, All, IfSome, Some, false, length, true};
     ghost use Rattle.std.specs.Option.{option_copied};
-    ghost use Rattle.lwc_base.specs.declared.descriptor.TheConstants.{SLOTS};
-    ghost use Rattle.lwc_base.specs.declared.key.Key.TheVariants.{Page, Slot, Cred};
-    ghost use Rattle.lwc_base.specs.declared.limits.TheConstants.{MOST_PAGES, MOST_RANGES};
-    ghost use Rattle.lwc_base.specs.declared.page.TheConstants.{PAGE_BYTES};
     ghost use Rattle.lwc_base.specs.Frames.{own_value};
     ghost use Rattle.lwc_base.specs.Keys.{with_key};
     ghost use Rattle.lwc_base.specs.declared.cell.Cell.{Cell};
+    ghost use Rattle.lwc_types.specs.declared.key.TheConstants.{SLOTS};
+    ghost use Rattle.lwc_types.specs.declared.key.Key.TheVariants.{Page, Slot, Cred};
+    ghost use Rattle.lwc_types.specs.declared.limits.TheConstants.{MOST_PAGES, MOST_RANGES};
+    ghost use Rattle.lwc_types.specs.declared.page.TheConstants.{PAGE_BYTES};
     ghost use Rattle.cow_space.specs.Maps.{data_of};
     ghost use Rattle.range_map.specs.Kinds.{IsCanonical, IsSegment, kind_of, ranges, state_at};
     ghost use Rattle.cow_space.specs.Cells.{all_write};
@@ -62,7 +62,7 @@ impl Places {
     ghost use Rattle.fd_table.specs.Slots.{cell_of, context_in, is_common, is_filled};
     ghost use Rattle.lazy_world.specs.Cells.{no_row, put_row, states_of};
     ghost use Rattle.lazy_world.specs.Kept.{target_of};
-    ghost use Rattle.lwc_base.specs.declared.limits.TheConstants.{MOST_PAGE_PLACES};
+    ghost use Rattle.lwc_types.specs.declared.limits.TheConstants.{MOST_PAGE_PLACES};
     ghost use Rattle.lazy_world.specs.KeyValues.{HasSlot, group_in, key_in, value_in};
     ghost use Rattle.lazy_world.specs.Seen.{KeepsStore, count, frame_count, rights, rows};
 

@@ -2,15 +2,15 @@ ghost use Rattle.std.specs.Prelude.{◌≡◌, ◌≢◌, ◌==◌, ◌||◌, �
 ghost use Rattle.std.specs.Prelude.{if◌then◌else◌, All, IfSome, List, None, length, unwrap_or};
 ghost use Rattle.std.specs.List.{list_any};
 ghost use Rattle.std.specs.Option.{option_map};
-ghost use Rattle.lwc_base.specs.declared.descriptor.TheConstants.{SLOTS};
-ghost use Rattle.lwc_base.specs.declared.key.Key.TheVariants.{Page, Slot, Cred};
-ghost use Rattle.lwc_base.specs.declared.limits.TheConstants.{MOST_PAGES, MOST_RANGES};
 ghost use Rattle.lwc_base.specs.Modes.{IsItem, IsSpec, mode, names, same_kind};
 ghost use Rattle.lwc_base.specs.declared.cell.Cell.{Cell};
-ghost use Rattle.lwc_base.specs.declared.key.Key.{Key};
-ghost use Rattle.lwc_base.specs.declared.key.Kind.TheVariants as kind;
 ghost use Rattle.lwc_base.specs.Keys.{ValueOf};
 ghost use Rattle.lwc_base.specs.declared.item.Item.{Item};
+ghost use Rattle.lwc_types.specs.declared.key.TheConstants.{SLOTS};
+ghost use Rattle.lwc_types.specs.declared.key.Key.TheVariants.{Page, Slot, Cred};
+ghost use Rattle.lwc_types.specs.declared.limits.TheConstants.{MOST_PAGES, MOST_RANGES};
+ghost use Rattle.lwc_types.specs.declared.key.Key.{Key};
+ghost use Rattle.lwc_types.specs.declared.key.Kind.TheVariants as kind;
 ghost use Rattle.lazy_world.specs.Transfers.{IsModeRun, kind_in, owner};
 ghost use Rattle.lazy_world.specs.declared.transfer.Transfer.{Transfer};
 
@@ -149,8 +149,8 @@ pub(crate) struct Stretch {
 }
 
 impl Stretch {
-    ghost use Rattle.lwc_base.specs.declared.right.Right.{Right};
-    ghost use Rattle.lwc_base.specs.declared.right.Right.TheVariants.{Read};
+    ghost use Rattle.lwc_types.specs.declared.right.Right.{Right};
+    ghost use Rattle.lwc_types.specs.declared.right.Right.TheVariants.{Read};
     ghost use Rattle.cow_space.specs.declared.page_runs.Origin.TheVariants.{CopyOf};
     ghost use Rattle.lazy_world.specs.Cells.{Row};
     ghost use Rattle.lazy_world.specs.Origins.{gift_of, gift_right, origin_right};
@@ -185,7 +185,7 @@ impl Stretch {
 impl PlacedWorld {
     ghost use Rattle.cow_space.specs.Changes.{IsPageRun};
     ghost use Rattle.lwc_base.specs.Capabilities.{has_bit};
-    ghost use Rattle.lwc_base.specs.declared.right.Right.{Right};
+    ghost use Rattle.lwc_types.specs.declared.right.Right.{Right};
     ghost use Rattle.range_map.specs.Kinds.{kind_of, ranges, state_of};
     ghost use Rattle.lazy_world.specs.Cells.{states_of};
     ghost use Rattle.lazy_world.specs.Transfers.{CanGet, Gives, IsFor, IsFound, given_or, reads};

@@ -1,8 +1,8 @@
 #![tactic(auto, unfolding(crate::specs::Seen::rows, crate::specs::Seen::rights, crate::specs::Cells::rows_of))]
 
 ghost use Rattle.std.specs.Prelude.{◌≡◌, ◌<◌, ◌≤◌, ◌+◌, ℕ, suc, None, Option};
-ghost use Rattle.lwc_base.specs.declared.limits.TheConstants.{MOST_PAGES};
 ghost use Rattle.lwc_base.specs.Modes.{IsSpec};
+ghost use Rattle.lwc_types.specs.declared.limits.TheConstants.{MOST_PAGES};
 ghost use Rattle.range_map.specs.Kinds.{ranges};
 ghost use Rattle.range_map.specs.declared.segment.PageState.{PageState};
 ghost use Rattle.cow_space.specs.declared.page_runs.Origin.TheVariants.{CopyOf};

@@ -1,9 +1,9 @@
 ghost use Rattle.std.specs.Prelude.{◌≡◌, ◌<◌, ◌≤◌, ◌^◌, ℕ, IfNone, IfSome, Some};
 ghost use Rattle.std.specs.Prelude.{count_by, false, is_some, not, slice_get};
 ghost use Rattle.std.specs.FinMap as fm;
-ghost use Rattle.lwc_base.specs.declared.descriptor.TheConstants.{SLOTS};
-ghost use Rattle.lwc_base.specs.declared.key.Key.TheVariants.{Page, Slot, Cred};
-ghost use Rattle.lwc_base.specs.declared.limits.TheConstants.{MOST_PAGES, MOST_THREADS};
+ghost use Rattle.lwc_types.specs.declared.key.TheConstants.{SLOTS};
+ghost use Rattle.lwc_types.specs.declared.key.Key.TheVariants.{Page, Slot, Cred};
+ghost use Rattle.lwc_types.specs.declared.limits.TheConstants.{MOST_PAGES, MOST_THREADS};
 
 use crate::world::PlacedWorld;
 use fd_table::lowest_bit;
@@ -195,7 +195,7 @@ impl PlacedWorld {
     }
 
     /// The number of pages of the context at a place that are present.
-    #[tactic(auto, using(lwc_base::proofs::Small::count_of_range))]
+    #[tactic(auto, using(lwc_types::proofs::Small::count_of_range))]
     fn present_count(&self, i: usize) -> usize
         requires { i < count self.now.places }
         ensures present { result
@@ -207,7 +207,7 @@ impl PlacedWorld {
     }
 
     /// The number of slots of the context at a place that are not empty.
-    #[tactic(auto, using(lwc_base::proofs::Small::count_of_range))]
+    #[tactic(auto, using(lwc_types::proofs::Small::count_of_range))]
     fn filled_count(&self, i: usize) -> usize
         requires { i < count self.now.places }
         ensures filled { result

@@ -1,8 +1,8 @@
 ghost use Rattle.std.specs.Prelude.{◌≡◌, ◌≤◌, All, length};
 ghost use Rattle.std.specs.FinMap as fm;
 ghost use Rattle.std.specs.List.{filter_map, list_any};
-ghost use Rattle.lwc_base.specs.declared.limits.TheConstants.{MOST_ROOTS};
 ghost use Rattle.lwc_base.specs.Life.{is_reached, names_group, reap};
+ghost use Rattle.lwc_types.specs.declared.limits.TheConstants.{MOST_ROOTS};
 ghost use Rattle.world_face.specs.Calls.{IsLive};
 ghost use Rattle.lazy_world.specs.Worlds.{seen};
 
@@ -34,7 +34,7 @@ impl Links for PlacedWorld {
 
 impl PlacedWorld {
     ghost use Rattle.std.specs.Prelude.{◌<◌, IfSome};
-    ghost use Rattle.lwc_base.specs.declared.limits.TheConstants.{MOST_CONTEXTS};
+    ghost use Rattle.lwc_types.specs.declared.limits.TheConstants.{MOST_CONTEXTS};
     ghost use Rattle.lazy_world.specs.Reaping.{place_by};
 
     /// Drops the contexts that are not reached from the roots, and then the groups that no cell names.

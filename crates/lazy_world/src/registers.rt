@@ -20,7 +20,7 @@ impl Model for Registers {
 
     ghost use Rattle.std.specs.Prelude.{None, Some, false, if◌then◌else◌, map, slice_index_or};
     ghost use Rattle.std.specs.List.{range_with_len};
-    ghost use Rattle.lwc_base.specs.Registers.{fresh_registers};
+    ghost use Rattle.lwc_types.specs.Registers.{fresh_registers};
 
     ghost view = { λ r. record {
       entry = r.entry;
@@ -34,7 +34,7 @@ impl Model for Registers {
 }
 
 impl Fresh for Registers {
-    ghost use Rattle.lwc_base.specs.Registers.{fresh_registers};
+    ghost use Rattle.lwc_types.specs.Registers.{fresh_registers};
 
     ghost fresh = { record { entry = fresh_registers 0; saved = replicate 16 None } };
 

@@ -1,10 +1,10 @@
 ghost use Rattle.std.specs.Prelude.{◌≡◌, ◌≢◌, ◌<◌, ◌≤◌, ◌+◌, ◌*◌, ◌^◌, ℕ, Some, false, true};
-ghost use Rattle.lwc_base.specs.declared.descriptor.TheConstants.{SLOTS};
 ghost use Rattle.lwc_base.specs.declared.item.Mode.TheVariants.{Share};
-ghost use Rattle.lwc_base.specs.declared.key.Key.{Key};
-ghost use Rattle.lwc_base.specs.declared.key.Key.TheVariants.{Page, Slot, Cred};
-ghost use Rattle.lwc_base.specs.declared.limits.TheConstants.{MOST_PAGES, MOST_RANGES};
 ghost use Rattle.lwc_base.specs.Modes.{IsSpec, mode};
+ghost use Rattle.lwc_types.specs.declared.key.TheConstants.{SLOTS};
+ghost use Rattle.lwc_types.specs.declared.key.Key.{Key};
+ghost use Rattle.lwc_types.specs.declared.key.Key.TheVariants.{Page, Slot, Cred};
+ghost use Rattle.lwc_types.specs.declared.limits.TheConstants.{MOST_PAGES, MOST_RANGES};
 ghost use Rattle.lazy_world.specs.Transfers.{moves};
 
 use crate::counts::Counts;

@@ -2,12 +2,12 @@ ghost use Rattle.std.specs.Prelude.{◌≡◌, ◌≢◌, ◌↔◌, ◌*◌, �
 ghost use Rattle.std.specs.Prelude.{OnErr, OnOk, Some, count_by, false, is_some, length, true, unwrap_or};
 ghost use Rattle.lwc_base.specs.declared.cell.Cell.{Cell};
 ghost use Rattle.lwc_base.specs.declared.cell.Cell.TheVariants.{Own};
-ghost use Rattle.lwc_base.specs.declared.key.Key.TheVariants.{Page};
-ghost use Rattle.lwc_base.specs.declared.name.Tag.{Tag};
-ghost use Rattle.lwc_base.specs.declared.page.PageValue.TheVariants.{Zero};
-ghost use Rattle.lwc_base.specs.declared.page.TheConstants.{PAGE_BYTES};
-ghost use Rattle.lwc_base.specs.declared.right.Right.TheVariants.{Write};
 ghost use Rattle.lwc_base.specs.Keys.{with_key};
+ghost use Rattle.lwc_types.specs.declared.key.Key.TheVariants.{Page};
+ghost use Rattle.lwc_types.specs.declared.name.Tag.{Tag};
+ghost use Rattle.lwc_types.specs.declared.page.PageValue.TheVariants.{Zero};
+ghost use Rattle.lwc_types.specs.declared.page.TheConstants.{PAGE_BYTES};
+ghost use Rattle.lwc_types.specs.declared.right.Right.TheVariants.{Write};
 ghost use Rattle.cow_space.specs.Cells.{IsOwnPage, place_of};
 ghost use Rattle.cow_space.specs.Tags as places;
 ghost use Rattle.cow_space.specs.Writes.{write_page, written_value};
@@ -126,7 +126,7 @@ impl PlacedWorld {
     }
 
     /// The number of pages that a store to some pages of the context at a place parts.
-    #[tactic(auto, using(lwc_base::proofs::Small::count_of_range))]
+    #[tactic(auto, using(lwc_types::proofs::Small::count_of_range))]
     fn parting_count(&self, i: usize, pages: Range) -> usize
         requires { i < count self.now.places }
         ensures parting { result ≡ count_by (λ p. is_parting (seen self.now)
@@ -141,7 +141,7 @@ impl PlacedWorld {
 
     /// Whether the frames in use and the pages that a store to some pages of the context at a place parts
     /// are more than the frames. These pages are looked at only where all of them could not part.
-    #[tactic(auto, using(lwc_base::proofs::Small::count_of_range))]
+    #[tactic(auto, using(lwc_types::proofs::Small::count_of_range))]
     fn lacks_frames(&self, i: usize, pages: Range) -> bool
         requires place { i < count self.now.places }
         requires order { pages.from ≤ pages.to }

@@ -1,8 +1,8 @@
 ghost use Rattle.std.specs.Prelude.{◌≡◌, ℕ, IfNone, IfSome, Some, false, true};
 ghost use Rattle.cow_space.specs.Changes.{have_page};
-ghost use Rattle.lwc_base.specs.declared.key.Key.TheVariants.{Page};
-ghost use Rattle.lwc_base.specs.declared.limits.TheConstants.{MOST_PAGES};
 ghost use Rattle.lwc_base.specs.Modes.{IsItem, mode, names};
+ghost use Rattle.lwc_types.specs.declared.key.Key.TheVariants.{Page};
+ghost use Rattle.lwc_types.specs.declared.limits.TheConstants.{MOST_PAGES};
 ghost use Rattle.range_map.specs.Kinds.{is_between};
 ghost use Rattle.lazy_world.specs.Transfers.{copied_origin, is_read, moved_origin, other_origin, reads};
 ghost use Rattle.lazy_world.specs.Transfers.{taken_origin, origin_of};

@@ -10,24 +10,24 @@ use Rattle.lwc_base.specs.Frames.{is_parting, own_value, tag_of, tags, tags_of_c
 use Rattle.lwc_base.specs.Keys.{ValueOf}
 use Rattle.lwc_base.specs.Life.{is_in, is_reached, names_group, reached_in, reap}
 use Rattle.lwc_base.specs.Modes.{mode_or_copy}
-use Rattle.lwc_base.specs.Names.{name_cmp, tag_cmp}
 use Rattle.lwc_base.specs.Ranges.{begins_range, continues_range, is_page, ranges, ranges_of}
 use Rattle.lwc_base.specs.Sharing.{any_key, is_moved, needs_group}
 use Rattle.lwc_base.specs.Summaries.{is_empty, summary_of}
 use Rattle.lwc_base.specs.World.{World, Context, Group, context, group, new_context, new_group}
-use Rattle.lwc_base.specs.Registers.{fresh_registers}
 use Rattle.lwc_base.specs.declared.cell.Cell.{Cell}
 use Rattle.lwc_base.specs.declared.cell.Cell.TheVariants.{Own, Common}
-use Rattle.lwc_base.specs.declared.descriptor.TheConstants.{SLOTS}
 use Rattle.lwc_base.specs.declared.item.Item.{Item}
 use Rattle.lwc_base.specs.declared.item.Mode.{Mode}
 use Rattle.lwc_base.specs.declared.item.Mode.TheVariants.{Copy, Share, Unmap, CopyRead}
-use Rattle.lwc_base.specs.declared.key.Key.{Key}
-use Rattle.lwc_base.specs.declared.key.Key.TheVariants.{Page}
-use Rattle.lwc_base.specs.declared.limits.TheConstants.{MOST_PAGES}
-use Rattle.lwc_base.specs.declared.name.Name.{Name}
-use Rattle.lwc_base.specs.declared.page.PageValue.{PageValue}
-use Rattle.lwc_base.specs.declared.page.PageValue.TheVariants.{Zero, Data}
+use Rattle.lwc_types.specs.Names.{name_cmp, tag_cmp}
+use Rattle.lwc_types.specs.Registers.{fresh_registers}
+use Rattle.lwc_types.specs.declared.key.TheConstants.{SLOTS}
+use Rattle.lwc_types.specs.declared.key.Key.{Key}
+use Rattle.lwc_types.specs.declared.key.Key.TheVariants.{Page}
+use Rattle.lwc_types.specs.declared.limits.TheConstants.{MOST_PAGES}
+use Rattle.lwc_types.specs.declared.name.Name.{Name}
+use Rattle.lwc_types.specs.declared.page.PageValue.{PageValue}
+use Rattle.lwc_types.specs.declared.page.PageValue.TheVariants.{Zero, Data}
 use Rattle.world_views.proofs.Entries.{each_entry}
 use Rattle.lift_law.proofs.Pages.{HasNoMore, any_key-most, count-most, rows-most}
 use Rattle.lift_law.proofs.Tables.{any-entries, any-map, entries-with, flat_map-entries, flat_map-map, keys-with, len-with, get-kept, retain-with, values-with, with_values}

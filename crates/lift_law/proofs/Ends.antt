@@ -10,7 +10,6 @@ use Rattle.lwc_base.specs.Mapping.{mapped_or_not}
 use Rattle.lwc_base.specs.Store.{Absent, Done, Full, Piece, ReadOnly, after_store, parting_count, store}
 use Rattle.lwc_base.specs.Frames.{used}
 use Rattle.lwc_base.specs.Rights.{is_writable}
-use Rattle.lwc_base.specs.declared.page.PageValue.TheVariants.{Zero}
 use Rattle.lwc_base.specs.Memory.{bytes_for, is_present, load, touched}
 use Rattle.lwc_base.specs.Modes.{mode, mode_or_copy}
 use Rattle.lwc_base.specs.Overlay.{overlaid_cell, overlay}
@@ -21,17 +20,18 @@ use Rattle.lwc_base.specs.declared.cell.Cell.TheVariants.{Own}
 use Rattle.lwc_base.specs.declared.item.Item.{Item}
 use Rattle.lwc_base.specs.declared.item.Mode.{Mode}
 use Rattle.lwc_base.specs.declared.item.Mode.TheVariants.{Copy, Share, Unmap, CopyRead}
-use Rattle.lwc_base.specs.declared.key.Key.TheVariants.{Page}
-use Rattle.lwc_base.specs.declared.limits.TheConstants.{MOST_PAGES}
-use Rattle.lwc_base.specs.declared.name.Name.{Name}
-use Rattle.lwc_base.specs.declared.page.PageValue.{PageValue}
-use Rattle.lwc_base.specs.declared.page.TheConstants.{PAGE_BYTES}
-use Rattle.lwc_base.specs.declared.regs.Regs.{Regs}
-use Rattle.lwc_base.specs.declared.size.WorldSize.{WorldSize}
+use Rattle.lwc_types.specs.declared.page.PageValue.TheVariants.{Zero}
+use Rattle.lwc_types.specs.declared.key.Key.TheVariants.{Page}
+use Rattle.lwc_types.specs.declared.limits.TheConstants.{MOST_PAGES}
+use Rattle.lwc_types.specs.declared.name.Name.{Name}
+use Rattle.lwc_types.specs.declared.page.PageValue.{PageValue}
+use Rattle.lwc_types.specs.declared.page.TheConstants.{PAGE_BYTES}
+use Rattle.lwc_types.specs.declared.regs.Regs.{Regs}
+use Rattle.lwc_types.specs.declared.size.WorldSize.{WorldSize}
 use Rattle.snapshot_host.specs.Begin.{begin, begun_context}
 use Rattle.lwc_base.proofs.Facts.{changes}
-use Rattle.lwc_base.proofs.Orders.{cases_name}
-use Rattle.lwc_base.proofs.Small.{load-absent}
+use Rattle.lwc_base.proofs.Loads.{load-absent}
+use Rattle.lwc_types.proofs.Orders.{cases_name}
 use Rattle.lift_law.proofs.Pages.{HasNoMore}
 use Rattle.lift_law.proofs.Wide.{load-wide, wide}
 

@@ -1,8 +1,8 @@
 -- Tables of refusals that differ from one row on, and in which that row does not decide.
 use Rattle.std.proofs.Common.{◌≡◌, ◌≢◌, ◌∙◌, refl, ap, Bool, true, false, cond, Some, None, List, [], ◌∷◌, ◌++◌}
 use Rattle.lwc_base.specs.Refusals.{first_refusal}
-use Rattle.lwc_base.specs.declared.refusal.Refusal.{Refusal}
-use Rattle.lwc_base.specs.declared.refusal.Refusal.TheVariants.{BadRange}
+use Rattle.lwc_types.specs.declared.refusal.Refusal.{Refusal}
+use Rattle.lwc_types.specs.declared.refusal.Refusal.TheVariants.{BadRange}
 
 -- a row of a range: in the wider world it holds at most where it holds here, and where it does not, what follows is the same
 pub first-past : (front : List (Bool × Refusal)) (here wider : Bool) (rows others : List (Bool × Refusal)) → (here ≡ false → wider ≡ false) → (here ≡ false → first_refusal others ≡ first_refusal rows) →

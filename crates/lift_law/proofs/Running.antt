@@ -30,15 +30,15 @@ use Rattle.lwc_base.specs.Store.{Piece, Stored, after_store, store}
 use Rattle.lwc_base.specs.Store as stores
 use Rattle.lwc_base.specs.World.{World, is_live}
 use Rattle.lwc_base.specs.declared.descriptor.Descriptor.TheVariants.{Request, Reply}
-use Rattle.lwc_base.specs.declared.fault.ThreadStatus.{ThreadStatus}
-use Rattle.lwc_base.specs.declared.fault.ThreadStatus.TheVariants as status
-use Rattle.lwc_base.specs.declared.key.Key.TheVariants.{Page, Slot, Cred}
-use Rattle.lwc_base.specs.declared.limits.TheConstants.{MOST_PAGES}
-use Rattle.lwc_base.specs.declared.name.Name.{Name}
-use Rattle.lwc_base.specs.declared.page.TheConstants.{PAGE_BYTES}
-use Rattle.lwc_base.specs.declared.size.WorldSize.{WorldSize}
-use Rattle.lwc_base.proofs.Small.{same_some}
 use Rattle.lwc_base.proofs.Holders.{keeps-add_context}
+use Rattle.lwc_types.specs.declared.fault.ThreadStatus.{ThreadStatus}
+use Rattle.lwc_types.specs.declared.fault.ThreadStatus.TheVariants as status
+use Rattle.lwc_types.specs.declared.key.Key.TheVariants.{Page, Slot, Cred}
+use Rattle.lwc_types.specs.declared.limits.TheConstants.{MOST_PAGES}
+use Rattle.lwc_types.specs.declared.name.Name.{Name}
+use Rattle.lwc_types.specs.declared.page.TheConstants.{PAGE_BYTES}
+use Rattle.lwc_types.specs.declared.size.WorldSize.{WorldSize}
+use Rattle.lwc_types.proofs.Small.{same_some}
 use Rattle.lwc_overlay.specs.RestrictCall.{restrict}
 use Rattle.lwc_syscall.specs.Plain.{world_after, plain_call}
 use Rattle.snapshot_host.specs.Begin.{begin, begun_context}

@@ -18,12 +18,12 @@ use Rattle.lwc_base.specs.World.{World, is_live, next_context}
 use Rattle.lwc_base.specs.declared.descriptor.Cap.{Cap}
 use Rattle.lwc_base.specs.declared.descriptor.Descriptor.{Descriptor}
 use Rattle.lwc_base.specs.declared.descriptor.Descriptor.TheVariants.{Empty, Console, File, Request, Reply, Ctx}
-use Rattle.lwc_base.specs.declared.descriptor.TheConstants.{SLOTS}
-use Rattle.lwc_base.specs.declared.key.Kind.TheVariants as kinds
-use Rattle.lwc_base.specs.declared.name.Name.{Name}
-use Rattle.lwc_base.specs.declared.page.TheConstants.{PAGE_BYTES}
-use Rattle.lwc_base.specs.declared.refusal.Refusal.{Refusal}
-use Rattle.lwc_base.specs.declared.regs.Regs.{Regs}
+use Rattle.lwc_types.specs.declared.key.TheConstants.{SLOTS}
+use Rattle.lwc_types.specs.declared.key.Kind.TheVariants as kinds
+use Rattle.lwc_types.specs.declared.name.Name.{Name}
+use Rattle.lwc_types.specs.declared.page.TheConstants.{PAGE_BYTES}
+use Rattle.lwc_types.specs.declared.refusal.Refusal.{Refusal}
+use Rattle.lwc_types.specs.declared.regs.Regs.{Regs}
 use Rattle.lwc_create.specs.Create as creating
 use Rattle.lwc_overlay.specs.Named as named
 use Rattle.lwc_overlay.specs.Named.{link}

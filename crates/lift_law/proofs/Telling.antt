@@ -12,8 +12,8 @@ use Rattle.kernel_core.specs.Runs.{frames_of, kept, peak, run}
 use Rattle.kernel_core.specs.Start.{Inputs}
 use Rattle.kernel_core.specs.Step.{step}
 use Rattle.lwc_base.specs.World.{World}
-use Rattle.lwc_base.specs.declared.limits.TheConstants.{MOST_PAGES}
-use Rattle.lwc_base.specs.declared.size.WorldSize.{WorldSize}
+use Rattle.lwc_types.specs.declared.limits.TheConstants.{MOST_PAGES}
+use Rattle.lwc_types.specs.declared.size.WorldSize.{WorldSize}
 use Rattle.lwc_text.specs.Lines.{context_line, groups_line, tail_lines}
 use Rattle.lwc_text.specs.Report.{contexts_text, replies_text, report_of, threads_text}
 use Rattle.lift_law.proofs.Counts.{summary-wide, used-wide}

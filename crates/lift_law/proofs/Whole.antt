@@ -14,14 +14,14 @@ use Rattle.lwc_base.specs.World.{World, is_live}
 use Rattle.lwc_base.specs.declared.descriptor.Descriptor.{Descriptor}
 use Rattle.lwc_base.specs.declared.descriptor.Descriptor.TheVariants.{Ctx}
 use Rattle.lwc_base.specs.declared.item.Item.{Item}
-use Rattle.lwc_base.specs.declared.key.Key.{Key}
-use Rattle.lwc_base.specs.declared.key.Key.TheVariants.{Page, Slot, Cred}
-use Rattle.lwc_base.specs.declared.limits.TheConstants.{MOST_PAGES}
-use Rattle.lwc_base.specs.declared.name.Name.{Name}
-use Rattle.lwc_base.specs.declared.regs.Regs.{Regs}
 use Rattle.lwc_base.proofs.Holders.{in_clone, keeps-add_context, keeps-after_store, keeps-change_context, keeps-on_pages, keeps-put_at, keeps-share, keeps-with_overlay, lets-everywhere, may_have-free, value_at-keeps}
 use Rattle.lwc_base.proofs.Reaps.{keeps-reap}
 use Rattle.lwc_base.proofs.Sharing.{shares-share}
+use Rattle.lwc_types.specs.declared.key.Key.{Key}
+use Rattle.lwc_types.specs.declared.key.Key.TheVariants.{Page, Slot, Cred}
+use Rattle.lwc_types.specs.declared.limits.TheConstants.{MOST_PAGES}
+use Rattle.lwc_types.specs.declared.name.Name.{Name}
+use Rattle.lwc_types.specs.declared.regs.Regs.{Regs}
 use Rattle.lift_law.proofs.Wide.{wide_cap}
 
 -- a descriptor's capability is full, with this number of pages, or empty

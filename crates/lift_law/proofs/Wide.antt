@@ -9,9 +9,7 @@ use Rattle.lwc_base.specs.Cells.{page_at, slot_at, uid_at, value_at, value_of}
 use Rattle.lwc_base.specs.Keys.{ValueOf, is_there}
 use Rattle.lwc_base.specs.Life.{is_of, links}
 use Rattle.lwc_base.specs.Memory.{byte_at, is_present, load, touched}
-use Rattle.lwc_base.specs.Pages.{bytes_of}
 use Rattle.lwc_base.specs.Ranges.{are_of_one_kind, begins_range, has_page, is_page}
-use Rattle.lwc_base.specs.Registers.{fresh_registers}
 use Rattle.lwc_base.specs.Rights.{is_writable, may_write, right_at, same_right}
 use Rattle.lwc_base.specs.Saved.{entered}
 use Rattle.lwc_base.specs.Sharing.{is_moved}
@@ -23,15 +21,17 @@ use Rattle.lwc_base.specs.declared.cell.Cell.TheVariants.{Own, Common}
 use Rattle.lwc_base.specs.declared.descriptor.Cap.{Cap}
 use Rattle.lwc_base.specs.declared.descriptor.Descriptor.{Descriptor}
 use Rattle.lwc_base.specs.declared.descriptor.Descriptor.TheVariants.{Empty, Console, File, Request, Reply, Ctx}
-use Rattle.lwc_base.specs.declared.descriptor.TheConstants.{SLOTS}
 use Rattle.lwc_base.specs.declared.item.Mode.{Mode}
 use Rattle.lwc_base.specs.declared.item.Mode.TheVariants.{Copy, Share, Unmap, CopyRead}
-use Rattle.lwc_base.specs.declared.key.Key.{Key}
-use Rattle.lwc_base.specs.declared.key.Key.TheVariants.{Page, Slot, Cred}
-use Rattle.lwc_base.specs.declared.limits.TheConstants.{MOST_PAGES}
-use Rattle.lwc_base.specs.declared.name.Name.{Name}
-use Rattle.lwc_base.specs.declared.page.PageValue.{PageValue}
-use Rattle.lwc_base.specs.declared.page.TheConstants.{PAGE_BYTES}
+use Rattle.lwc_types.specs.Pages.{bytes_of}
+use Rattle.lwc_types.specs.Registers.{fresh_registers}
+use Rattle.lwc_types.specs.declared.key.TheConstants.{SLOTS}
+use Rattle.lwc_types.specs.declared.key.Key.{Key}
+use Rattle.lwc_types.specs.declared.key.Key.TheVariants.{Page, Slot, Cred}
+use Rattle.lwc_types.specs.declared.limits.TheConstants.{MOST_PAGES}
+use Rattle.lwc_types.specs.declared.name.Name.{Name}
+use Rattle.lwc_types.specs.declared.page.PageValue.{PageValue}
+use Rattle.lwc_types.specs.declared.page.TheConstants.{PAGE_BYTES}
 use Rattle.lift_law.proofs.Tables.{get-with, has-with, keys-with, with_values}
 
 -- a capability with the credential's key is a full one, and has all pages

@@ -13,11 +13,11 @@ use Rattle.std.proofs.lemmas.Nat.Bits.{bit_at_cat_low, bit_at_cat_high, bit_at-l
 use Rattle.lwc_base.specs.Capabilities.{IsCap, bits_of, cap_of, covers, has_bit, has_key, is_named, restricted}
 use Rattle.lwc_base.specs.declared.descriptor.Cap.{Cap}
 use Rattle.lwc_base.specs.declared.item.Item.{Item}
-use Rattle.lwc_base.specs.declared.key.Key.{Key}
-use Rattle.lwc_base.specs.declared.key.Key.TheVariants.{Page, Slot, Cred}
-use Rattle.lwc_base.specs.declared.limits.TheConstants.{MOST_PAGES}
 use Rattle.lwc_base.specs.Modes.{IsKey}
 use Rattle.lwc_base.proofs.Needs.{any_key-none, any_key-some}
+use Rattle.lwc_types.specs.declared.key.Key.{Key}
+use Rattle.lwc_types.specs.declared.key.Key.TheVariants.{Page, Slot, Cred}
+use Rattle.lwc_types.specs.declared.limits.TheConstants.{MOST_PAGES}
 
 -- one bit more goes above the bits that there are
 bits_of-more : (n : ℕ) (test : ℕ → Bool) → bits_of (suc n) test ≡ (if test n then 1 else 0) * 2 ^ n + bits_of n test

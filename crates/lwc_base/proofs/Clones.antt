@@ -5,8 +5,6 @@ use Rattle.lwc_base.specs.declared.cell.Cell.TheVariants.{Own, Common}
 use Rattle.lwc_base.specs.declared.item.Item.{Item}
 use Rattle.lwc_base.specs.declared.item.Mode.{Mode}
 use Rattle.lwc_base.specs.declared.item.Mode.TheVariants.{Copy, Share, Unmap, CopyRead}
-use Rattle.lwc_base.specs.declared.key.Key.{Key}
-use Rattle.lwc_base.specs.declared.name.Name.{Name}
 use Rattle.lwc_base.specs.Cells.{value_at}
 use Rattle.lwc_base.specs.Clones.{IsClone, AreApart, HaveInCommon}
 use Rattle.lwc_base.specs.Facts.{AddsContext, SharesValues}
@@ -19,9 +17,11 @@ use Rattle.lwc_base.proofs.Common.{value_at-same, value_at-cell}
 use Rattle.lwc_base.proofs.Fresh.{next_context-new, next_group-new}
 use Rattle.lwc_base.proofs.Lookups.{adds-add_context}
 use Rattle.lwc_base.proofs.Needs.{needed-key, needed-own}
-use Rattle.lwc_base.proofs.Orders.{cases_name}
 use Rattle.lwc_base.proofs.Puts.{live_of_common}
 use Rattle.lwc_base.proofs.Sharing.{group-same, shares-share, named-not-next, value_at-share}
+use Rattle.lwc_types.specs.declared.key.Key.{Key}
+use Rattle.lwc_types.specs.declared.name.Name.{Name}
+use Rattle.lwc_types.proofs.Orders.{cases_name}
 
 module _ (w : World) (c : Name) (job : ℕ) (items : List Item) where
   abbrev shared : World

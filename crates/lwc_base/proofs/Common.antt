@@ -4,11 +4,6 @@ use Rattle.std.proofs.lemmas.Bool.Decides.{nat_tests}
 use Rattle.std.specs.FinMap as fm
 use Rattle.lwc_base.specs.declared.cell.Cell.{Cell}
 use Rattle.lwc_base.specs.declared.cell.Cell.TheVariants.{Own, Common}
-use Rattle.lwc_base.specs.declared.key.Key.{Key}
-use Rattle.lwc_base.specs.declared.key.Key.TheVariants.{Page, Slot, Cred}
-use Rattle.lwc_base.specs.declared.name.Name.{Name}
-use Rattle.lwc_base.specs.declared.page.PageValue.{PageValue}
-use Rattle.lwc_base.specs.declared.page.PageValue.TheVariants.{Zero}
 use Rattle.lwc_base.specs.Cells.{value_of, value_at, put_at, put_page, with_cell, with_value}
 use Rattle.lwc_base.specs.Clones.{AreApart, HaveInCommon, IsOutside}
 use Rattle.lwc_base.specs.Facts.{ChangesContext, ChangesGroup}
@@ -22,8 +17,13 @@ use Rattle.lwc_base.specs.World.{World, Context, context, group, is_live, change
 use Rattle.lwc_base.proofs.Keys.{with_key-cases, with_key-itself, with_key-other, on_pages-cases}
 use Rattle.lwc_base.proofs.Lookups.{changes-change_context, changes-change_group}
 use Rattle.lwc_base.proofs.Sharing.{value_of-same}
-use Rattle.lwc_base.proofs.Orders.{cases_name}
 use Rattle.lwc_base.proofs.Puts.{after_put_at, live_of_common, names-put_at, takes-after_store}
+use Rattle.lwc_types.specs.declared.key.Key.{Key}
+use Rattle.lwc_types.specs.declared.key.Key.TheVariants.{Page, Slot, Cred}
+use Rattle.lwc_types.specs.declared.name.Name.{Name}
+use Rattle.lwc_types.specs.declared.page.PageValue.{PageValue}
+use Rattle.lwc_types.specs.declared.page.PageValue.TheVariants.{Zero}
+use Rattle.lwc_types.proofs.Orders.{cases_name}
 
 -- a context reads the same under a key in two worlds where its cell is the same, and so is the value of the group that it names
 pub value_at-same : (v w : World) (a : Name) (k : Key) → (context v a).cell k ≡ (context w a).cell k →

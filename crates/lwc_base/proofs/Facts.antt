@@ -4,9 +4,6 @@ use Rattle.std.specs.Prelude.{if◌then◌else◌}
 use Rattle.std.specs.FinMap as fm
 use Rattle.lwc_base.specs.declared.cell.Cell.TheVariants.{Own, Common}
 use Rattle.lwc_base.specs.declared.item.Item.{Item}
-use Rattle.lwc_base.specs.declared.regs.Regs.{Regs}
-use Rattle.lwc_base.specs.declared.key.Key.{Key}
-use Rattle.lwc_base.specs.declared.name.Name.{Name}
 use Rattle.lwc_base.specs.Cells.{put_at, with_cell, with_value}
 use Rattle.lwc_base.specs.Facts.{AddsContext, ChangeFacts, CountFacts, FreshFacts, OrderFacts, SharesValues}
 use Rattle.lwc_base.specs.Fresh.{IsFresh, IsNamedGroup, named_groups}
@@ -22,10 +19,13 @@ use Rattle.lwc_base.proofs.Counted.{count_by-same, count_by-more, len-alike, len
 use Rattle.lwc_base.proofs.Fresh.{fresh-add_context, fresh-add_group, fresh-after_store, fresh-change_context, fresh-change_counters, fresh-change_group, fresh-clone_context, fresh-empty_world, fresh-insert_context, fresh-insert_group, fresh-map_pages, fresh-overlay, fresh-put_at, fresh-put_pages, fresh-save, fresh-share, fresh-unmap_pages, next_context-new, next_group-new}
 use Rattle.lwc_base.proofs.Holders.{in_clone, lets-everywhere}
 use Rattle.lwc_base.proofs.Lookups.{adds-add_context, adds-add_group, changes-change_context, changes-change_group}
-use Rattle.lwc_base.proofs.Orders.{name_cmp-total, name_cmp-IsAntisymmetric, tag_cmp-total, tag_cmp-IsAntisymmetric}
 use Rattle.lwc_base.proofs.Puts.{live_of_common, names-put_at, names-put_pages, takes-after_store}
 use Rattle.lwc_base.proofs.Reaps.{fewer-reap, fresh-reap}
 use Rattle.lwc_base.proofs.Sharing.{context-same, group-same, shares-share}
+use Rattle.lwc_types.specs.declared.regs.Regs.{Regs}
+use Rattle.lwc_types.specs.declared.key.Key.{Key}
+use Rattle.lwc_types.specs.declared.name.Name.{Name}
+use Rattle.lwc_types.proofs.Orders.{name_cmp-total, name_cmp-IsAntisymmetric, tag_cmp-total, tag_cmp-IsAntisymmetric}
 
 pub orders : OrderFacts
 orders = record { names = name_cmp-total; one_name = name_cmp-IsAntisymmetric; tags = tag_cmp-total; one_tag = tag_cmp-IsAntisymmetric }

@@ -5,12 +5,6 @@ use Rattle.std.proofs.lemmas.Bool.{cases_Bool, cond_both, eqb-true}
 use Rattle.std.specs.FinMap as fm
 use Rattle.lwc_base.specs.declared.cell.Cell.{Cell}
 use Rattle.lwc_base.specs.declared.item.Item.{Item}
-use Rattle.lwc_base.specs.declared.key.Key.{Key}
-use Rattle.lwc_base.specs.declared.name.Name.{Name}
-use Rattle.lwc_base.specs.declared.page.PageValue.{PageValue}
-use Rattle.lwc_base.specs.declared.page.PageValue.TheVariants.{Zero}
-use Rattle.lwc_base.specs.declared.regs.Regs.{Regs}
-use Rattle.lwc_base.specs.declared.size.WorldSize.{WorldSize}
 use Rattle.lwc_base.specs.Cells.{put_at}
 use Rattle.lwc_base.specs.Facts.{KeepsNames, with_context, with_group}
 use Rattle.lwc_base.specs.Fresh.{IsFresh, IsNamedContext, IsNamedGroup, Rises, named_groups}
@@ -25,10 +19,16 @@ use Rattle.lwc_base.specs.Store.{Piece, after_store, parting_count, stored_pages
 use Rattle.lwc_base.specs.World.{World, Context, Group, Counters, is_live, context, change_context, change_group, change_counters, empty_world, add_context, next_context, add_group, next_group}
 use Rattle.lwc_base.proofs.Holders.{keeps-weaker, in_cell-weaker, keeps-empty_world, keeps-insert_context, keeps-insert_group, keeps-change_context, keeps-change_group, keeps-change_counters, keeps-put_at, keeps-put_pages, keeps-on_pages, keeps-share, may_have-free, in_clone, keeps-with_overlay, lets-everywhere}
 use Rattle.lwc_base.proofs.Lookups.{changes-change_context, changes-change_group}
-use Rattle.lwc_base.proofs.Orders.{cases_name}
 use Rattle.lwc_base.proofs.Puts.{names-put_at, names-put_pages}
 use Rattle.lwc_base.proofs.Sharing.{shares-share}
 use Rattle.lwc_base.proofs.Tables.{each-insert}
+use Rattle.lwc_types.specs.declared.key.Key.{Key}
+use Rattle.lwc_types.specs.declared.name.Name.{Name}
+use Rattle.lwc_types.specs.declared.page.PageValue.{PageValue}
+use Rattle.lwc_types.specs.declared.page.PageValue.TheVariants.{Zero}
+use Rattle.lwc_types.specs.declared.regs.Regs.{Regs}
+use Rattle.lwc_types.specs.declared.size.WorldSize.{WorldSize}
+use Rattle.lwc_types.proofs.Orders.{cases_name}
 
 pub rises-itself : (n : Counters) → Rises n n
 rises-itself n = search rules

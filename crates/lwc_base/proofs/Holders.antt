@@ -8,12 +8,6 @@ use Rattle.lwc_base.specs.declared.cell.Cell.TheVariants.{Own, Common}
 use Rattle.lwc_base.specs.declared.item.Item.{Item}
 use Rattle.lwc_base.specs.declared.item.Mode.{Mode}
 use Rattle.lwc_base.specs.declared.item.Mode.TheVariants.{Copy, Share, Unmap, CopyRead}
-use Rattle.lwc_base.specs.declared.key.Key.{Key}
-use Rattle.lwc_base.specs.declared.key.Key.TheVariants.{Page}
-use Rattle.lwc_base.specs.declared.name.Name.{Name}
-use Rattle.lwc_base.specs.declared.page.PageValue.{PageValue}
-use Rattle.lwc_base.specs.declared.regs.Regs.{Regs}
-use Rattle.lwc_base.specs.declared.size.WorldSize.{WorldSize}
 use Rattle.lwc_base.specs.Cells.{value_of, value_at, put_at, put_page, with_cell, with_value}
 use Rattle.lwc_base.specs.Holders.{Rules, everywhere, InCell, InContext, InGroup, IsGroup, Keeps}
 use Rattle.lwc_base.specs.Keys.{ValueOf, nothing}
@@ -28,6 +22,12 @@ use Rattle.lwc_base.proofs.Keys.{with_key-cases, on_pages-cases}
 use Rattle.lwc_base.proofs.Lookups.{group-dead, after_change_context, after_change_group}
 use Rattle.lwc_base.proofs.Puts.{live_of_common, after_put_at}
 use Rattle.lwc_base.proofs.Tables.{each-insert}
+use Rattle.lwc_types.specs.declared.key.Key.{Key}
+use Rattle.lwc_types.specs.declared.key.Key.TheVariants.{Page}
+use Rattle.lwc_types.specs.declared.name.Name.{Name}
+use Rattle.lwc_types.specs.declared.page.PageValue.{PageValue}
+use Rattle.lwc_types.specs.declared.regs.Regs.{Regs}
+use Rattle.lwc_types.specs.declared.size.WorldSize.{WorldSize}
 
 module _ (rules weaker : Rules) (groups : (job : ℕ) (k : Key) (g : Name) → rules.group job k g → weaker.group job k g)
     (values : (job : ℕ) (k : Key) (value : ValueOf k) → rules.value job k value → weaker.value job k value) where

@@ -2,11 +2,6 @@
 use Rattle.std.proofs.Common.{◌≡◌, ◌∙◌, ℕ, true, List, rules}
 use Rattle.lwc_base.specs.declared.descriptor.Descriptor.{Descriptor}
 use Rattle.lwc_base.specs.declared.item.Item.{Item}
-use Rattle.lwc_base.specs.declared.key.Key.{Key}
-use Rattle.lwc_base.specs.declared.key.Key.TheVariants.{Slot, Cred}
-use Rattle.lwc_base.specs.declared.name.Name.{Name}
-use Rattle.lwc_base.specs.declared.regs.Regs.{Regs}
-use Rattle.lwc_base.specs.declared.size.WorldSize.{WorldSize}
 use Rattle.lwc_base.specs.Cells.{put_slot, put_uid, slot_at}
 use Rattle.lwc_base.specs.Channels.{Channels, HasItsFiles, IsInRange, IsInRangeAt, in_range}
 use Rattle.lwc_base.specs.Holders.{Rules}
@@ -21,6 +16,11 @@ use Rattle.lwc_base.specs.World.{World, add_context, empty_world, is_live, new_c
 use Rattle.lwc_base.proofs.Holders.{in_clone, keeps-add_context, keeps-after_store, keeps-change_context, keeps-empty_world, keeps-on_pages, keeps-put_at, keeps-share, keeps-with_overlay, lets-everywhere, may_have-free, value_at-keeps}
 use Rattle.lwc_base.proofs.Reaps.{keeps-reap}
 use Rattle.lwc_base.proofs.Sharing.{shares-share}
+use Rattle.lwc_types.specs.declared.key.Key.{Key}
+use Rattle.lwc_types.specs.declared.key.Key.TheVariants.{Slot, Cred}
+use Rattle.lwc_types.specs.declared.name.Name.{Name}
+use Rattle.lwc_types.specs.declared.regs.Regs.{Regs}
+use Rattle.lwc_types.specs.declared.size.WorldSize.{WorldSize}
 
 module _ (io : Channels) where
   abbrev rule : Rules

@@ -6,9 +6,9 @@ use Rattle.std.specs.Option.{option_map}
 use Rattle.std.proofs.lemmas.Bool.Decides.{nat_tests}
 use Rattle.lwc_base.specs.declared.item.Item.{Item}
 use Rattle.lwc_base.specs.declared.item.Mode.TheVariants.{Share}
-use Rattle.lwc_base.specs.declared.key.Key.{Key}
-use Rattle.lwc_base.specs.declared.key.Kind.{Kind}
 use Rattle.lwc_base.specs.Modes.{names, mode, mode_or_copy, overlaps, AreApart, IsItem, IsKey, IsSpec, limit, same_kind}
+use Rattle.lwc_types.specs.declared.key.Key.{Key}
+use Rattle.lwc_types.specs.declared.key.Kind.{Kind}
 
 -- two items that name one key overlap
 overlap_at : (a b : Item) (key : Key) → names a key ≡ true → names b key ≡ true → overlaps a b ≡ true

@@ -3,10 +3,6 @@ use Rattle.std.proofs.Common.{◌≡◌, ◌∙◌, refl, sym, ap, subst, ℕ, t
 use Rattle.lwc_base.specs.declared.descriptor.Descriptor.{Descriptor}
 use Rattle.lwc_base.specs.declared.descriptor.Descriptor.TheVariants.{Ctx}
 use Rattle.lwc_base.specs.declared.item.Item.{Item}
-use Rattle.lwc_base.specs.declared.key.Key.{Key}
-use Rattle.lwc_base.specs.declared.key.Key.TheVariants.{Slot, Cred}
-use Rattle.lwc_base.specs.declared.name.Name.{Name}
-use Rattle.lwc_base.specs.declared.regs.Regs.{Regs}
 use Rattle.lwc_base.specs.Cells.{put_slot, put_uid, slot_at}
 use Rattle.lwc_base.specs.Jobs.{IsOwnName, IsOwnNameAt, NamesKeepToJobs, own_names}
 use Rattle.lwc_base.specs.Keys.{ValueOf, nothing}
@@ -18,9 +14,13 @@ use Rattle.lwc_base.specs.Sharing.{clone_context, share}
 use Rattle.lwc_base.specs.Store.{Piece, after_store}
 use Rattle.lwc_base.specs.World.{World, add_context, is_live, new_context, new_value}
 use Rattle.lwc_base.proofs.Holders.{Lets, in_clone, keeps-add_context, keeps-after_store, keeps-change_context, keeps-on_pages, keeps-put_at, keeps-share, keeps-with_overlay, may_have-free, value_at-keeps}
-use Rattle.lwc_base.proofs.Orders.{same_name}
 use Rattle.lwc_base.proofs.Sharing.{shares-share}
 use Rattle.lwc_base.proofs.Slots.{linked_slot}
+use Rattle.lwc_types.specs.declared.key.Key.{Key}
+use Rattle.lwc_types.specs.declared.key.Key.TheVariants.{Slot, Cred}
+use Rattle.lwc_types.specs.declared.name.Name.{Name}
+use Rattle.lwc_types.specs.declared.regs.Regs.{Regs}
+use Rattle.lwc_types.proofs.Orders.{same_name}
 use Rattle.std.proofs.lemmas.Bool.{false≢true}
 
 nothing_own : (job : ℕ) (k : Key) → IsOwnNameAt job k (nothing k)

@@ -10,10 +10,10 @@ pub mod ItemModes
 pub mod Jobs
 pub mod Keys
 pub mod Life
+pub mod Loads
 pub mod Lookups
 pub mod NamedContexts
 pub mod Needs
-pub mod Orders
 pub mod Overlays
 pub mod Puts
 pub mod Reaped
@@ -30,4 +30,3 @@ pub mod StoredBytes
 pub mod Tags
 pub mod Rights
 pub mod Room
-pub mod Small

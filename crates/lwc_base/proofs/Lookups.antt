@@ -1,13 +1,13 @@
 -- The context and the group of a name after each small change of a world.
 use Rattle.std.proofs.Common.{◌≡◌, ℕ, true, false, arith, rules}
 use Rattle.std.specs.FinMap as fm
-use Rattle.lwc_base.specs.declared.name.Name.{Name}
 use Rattle.lwc_base.specs.Facts.{KeepsNames, ChangesContext, ChangesGroup, AddsContext, AddsGroup}
 use Rattle.lwc_base.specs.Holders.{IsGroup}
-use Rattle.lwc_base.specs.Registers.{fresh_registers}
 use Rattle.lwc_base.specs.World.{World, Context, Group, is_live, context, group, new_context, new_group, change_context, change_group, change_counters, add_context, add_group}
-use Rattle.lwc_base.proofs.Orders.{cases_name, name-itself, other_name}
 use Rattle.lwc_base.proofs.Tables.{entry-insert, contains_key-insert, contains_key-again}
+use Rattle.lwc_types.specs.declared.name.Name.{Name}
+use Rattle.lwc_types.specs.Registers.{fresh_registers}
+use Rattle.lwc_types.proofs.Orders.{cases_name, name-itself, other_name}
 
 -- a name that no context has stands for an empty context
 pub context-dead : (w : World) (c : Name) → is_live w c ≡ false → context w c ≡ new_context 0 (fresh_registers 0)

@@ -2,13 +2,7 @@
 use Rattle.std.proofs.Common.{rules, ◌≡◌, ◌⊎◌, ℕ, ◌<◌, ap, sym, ◌∙◌, true, List, Option, None, Some, arith}
 use Rattle.lwc_base.specs.declared.descriptor.Descriptor.{Descriptor}
 use Rattle.lwc_base.specs.declared.descriptor.Descriptor.TheVariants.{Empty}
-use Rattle.lwc_base.specs.declared.descriptor.TheConstants.{SLOTS}
 use Rattle.lwc_base.specs.declared.item.Item.{Item}
-use Rattle.lwc_base.specs.declared.key.Key.TheVariants.{Slot, Cred}
-use Rattle.lwc_base.specs.declared.name.Name.{Name}
-use Rattle.lwc_base.specs.declared.page.PageValue.{PageValue}
-use Rattle.lwc_base.specs.declared.page.PageValue.TheVariants.{Zero}
-use Rattle.lwc_base.specs.declared.regs.Regs.{Regs}
 use Rattle.lwc_base.specs.Cells.{put_slot, put_uid, slot_at}
 use Rattle.lwc_base.specs.Facts.{KeepsNames}
 use Rattle.lwc_base.specs.Fresh.{IsFresh}
@@ -21,12 +15,18 @@ use Rattle.lwc_base.specs.Store.{Piece, after_store}
 use Rattle.lwc_base.specs.World.{World, Group, change_context, is_live, next_context}
 use Rattle.lwc_base.proofs.Common.{put-other_key, value_at-same}
 use Rattle.lwc_base.proofs.Lookups.{changes-change_context}
-use Rattle.lwc_base.proofs.Orders.{cases_name}
 use Rattle.lwc_base.proofs.Puts.{names-put_at, takes-after_store}
 use Rattle.lwc_base.proofs.Reaped.{kept-by_way, links-were, live-was_live, way-of_kept}
 use Rattle.lwc_base.proofs.Saving.{save-value, saves}
 use Rattle.lwc_base.proofs.Sharing.{shares-share}
 use Rattle.lwc_base.proofs.Slots.{adds-clone, linked_slot, put_slot-reads, slot_at-after_store, slot_at-clone, slot_at-new, slot_at-overlay, slot_links}
+use Rattle.lwc_types.specs.declared.key.TheConstants.{SLOTS}
+use Rattle.lwc_types.specs.declared.key.Key.TheVariants.{Slot, Cred}
+use Rattle.lwc_types.specs.declared.name.Name.{Name}
+use Rattle.lwc_types.specs.declared.page.PageValue.{PageValue}
+use Rattle.lwc_types.specs.declared.page.PageValue.TheVariants.{Zero}
+use Rattle.lwc_types.specs.declared.regs.Regs.{Regs}
+use Rattle.lwc_types.proofs.Orders.{cases_name}
 
 -- each context that a descriptor is of is live
 abbrev pub IsOfLive : World → Descriptor → Type 0

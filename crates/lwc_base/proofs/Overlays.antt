@@ -5,8 +5,6 @@ use Rattle.lwc_base.specs.declared.cell.Cell.TheVariants.{Own, Common}
 use Rattle.lwc_base.specs.declared.item.Item.{Item}
 use Rattle.lwc_base.specs.declared.item.Mode.{Mode}
 use Rattle.lwc_base.specs.declared.item.Mode.TheVariants.{Copy, CopyRead, Share, Unmap}
-use Rattle.lwc_base.specs.declared.key.Key.{Key}
-use Rattle.lwc_base.specs.declared.name.Name.{Name}
 use Rattle.lwc_base.specs.Cells.{value_at, value_of}
 use Rattle.lwc_base.specs.Clones.{AreApart, HaveInCommon}
 use Rattle.lwc_base.specs.Facts.{ChangesContext, SharesValues}
@@ -20,8 +18,10 @@ use Rattle.lwc_base.proofs.Clones.{cell-moves, cloned-copied, named-after, named
 use Rattle.lwc_base.proofs.Common.{group_of_cell, value_at-cell, value_at-same}
 use Rattle.lwc_base.proofs.Lookups.{changes-change_context}
 use Rattle.lwc_base.proofs.Needs.{needed-key}
-use Rattle.lwc_base.proofs.Orders.{cases_name}
 use Rattle.lwc_base.proofs.Sharing.{named-not-next, shares-share, value_at-share}
+use Rattle.lwc_types.specs.declared.key.Key.{Key}
+use Rattle.lwc_types.specs.declared.name.Name.{Name}
+use Rattle.lwc_types.proofs.Orders.{cases_name}
 
 module _ (w v : World) (c d : Name) (items : List Item) (made : IsOverlay w v c d items) where
   abbrev between : World

@@ -1,16 +1,16 @@
 -- What a put, a mapping and a store leave as it was: no name is new or gone.
 use Rattle.std.proofs.Common.{◌≡◌, ℕ, true, false, List, [], ◌∷◌, arith, rules}
 use Rattle.lwc_base.specs.declared.cell.Cell.TheVariants.{Own, Common}
-use Rattle.lwc_base.specs.declared.key.Key.{Key}
-use Rattle.lwc_base.specs.declared.key.Key.TheVariants.{Page}
-use Rattle.lwc_base.specs.declared.name.Name.{Name}
-use Rattle.lwc_base.specs.declared.page.PageValue.{PageValue}
 use Rattle.lwc_base.specs.Cells.{put_at, put_page, with_cell, with_value}
 use Rattle.lwc_base.specs.Facts.{KeepsNames, TakesTags}
 use Rattle.lwc_base.specs.Keys.{ValueOf, is_there}
 use Rattle.lwc_base.specs.Store.{Piece, after_store, parting_count, put_pages}
 use Rattle.lwc_base.specs.World.{World, context, is_live, change_context, change_counters, change_group}
 use Rattle.lwc_base.proofs.Lookups.{context-dead, keeps_names-itself, keeps_names-then, changes-change_context, changes-change_group}
+use Rattle.lwc_types.specs.declared.key.Key.{Key}
+use Rattle.lwc_types.specs.declared.key.Key.TheVariants.{Page}
+use Rattle.lwc_types.specs.declared.name.Name.{Name}
+use Rattle.lwc_types.specs.declared.page.PageValue.{PageValue}
 
 -- a context that names a group is live
 pub live_of_common : (w : World) (c : Name) (k : Key) (g : Name) → (context w c).cell k ≡ Common g → is_live w c ≡ true

@@ -8,22 +8,22 @@ use Rattle.std.specs.FinMap as fm
 use Rattle.std.specs.FinMap.Entries.{below_all, find, is_sorted}
 use Rattle.lwc_base.specs.declared.cell.Cell.{Cell}
 use Rattle.lwc_base.specs.declared.cell.Cell.TheVariants.{Own, Common}
-use Rattle.lwc_base.specs.declared.descriptor.TheConstants.{SLOTS}
-use Rattle.lwc_base.specs.declared.key.Key.{Key}
-use Rattle.lwc_base.specs.declared.key.Key.TheVariants.{Page, Slot, Cred}
-use Rattle.lwc_base.specs.declared.name.Name.{Name}
 use Rattle.lwc_base.specs.Cells.{slot_at, value_at, value_of}
 use Rattle.lwc_base.specs.Clones.{AreApart, HaveInCommon}
 use Rattle.lwc_base.specs.Keys.{ValueOf}
 use Rattle.lwc_base.specs.Life.{IsReaped, is_of, links, is_reached, is_in, names_group, reap, Reaches, Root, Link}
 use Rattle.lwc_base.specs.Modes.{IsKey}
-use Rattle.lwc_base.specs.Names.{name_cmp}
-use Rattle.lwc_base.specs.Registers.{fresh_registers}
 use Rattle.lwc_base.specs.Sharing.{any_key}
 use Rattle.lwc_base.specs.World.{World, Context, Group, is_live, context, group, new_context, new_group}
 use Rattle.lwc_base.proofs.Life.{or_cases, or_left, or_right, reached_by_way, way_of_reached}
 use Rattle.lwc_base.proofs.Needs.{any_key-some, some_in_range}
-use Rattle.lwc_base.proofs.Orders.{name_cmp-total, name_cmp-IsAntisymmetric, name-itself, same_name}
+use Rattle.lwc_types.specs.declared.key.TheConstants.{SLOTS}
+use Rattle.lwc_types.specs.declared.key.Key.{Key}
+use Rattle.lwc_types.specs.declared.key.Key.TheVariants.{Page, Slot, Cred}
+use Rattle.lwc_types.specs.declared.name.Name.{Name}
+use Rattle.lwc_types.specs.Names.{name_cmp}
+use Rattle.lwc_types.specs.Registers.{fresh_registers}
+use Rattle.lwc_types.proofs.Orders.{name_cmp-total, name_cmp-IsAntisymmetric, name-itself, same_name}
 use Rattle.std.proofs.lemmas.Cmp.{tied_itself}
 use Rattle.std.specs.Ordering.{is_eq, is_lt}
 use Rattle.std.specs.declared.cmp.Ordering.{Ordering}

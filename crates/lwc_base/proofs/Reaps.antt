@@ -1,6 +1,5 @@
 -- A reaped world keeps what was so of each holder, is fresh if the world was, and has no more names.
 use Rattle.std.proofs.Common.{sym, subst, List, rules}
-use Rattle.lwc_base.specs.declared.name.Name.{Name}
 use Rattle.lwc_base.specs.Facts.{HasFewer}
 use Rattle.lwc_base.specs.Fresh.{IsFresh, named_groups}
 use Rattle.lwc_base.specs.Holders.{InContext, InGroup, Keeps, Rules}
@@ -8,6 +7,7 @@ use Rattle.lwc_base.specs.Life.{reap}
 use Rattle.lwc_base.specs.World.{World, groups_of, live_of}
 use Rattle.lwc_base.proofs.Counted.{count_by-retain_keys, len-retain_keys}
 use Rattle.lwc_base.proofs.Reaped.{context-kept, group-kept, live-was_live, was_group-reap}
+use Rattle.lwc_types.specs.declared.name.Name.{Name}
 
 module _ (w : World) (roots : List Name) where
   pub keeps-reap : (rules : Rules) → Keeps rules w → Keeps rules (reap w roots)

@@ -7,15 +7,6 @@ use Rattle.lwc_base.specs.declared.cell.Cell.TheVariants.{Own}
 use Rattle.lwc_base.specs.declared.item.Item.{Item}
 use Rattle.lwc_base.specs.declared.item.Mode.{Mode}
 use Rattle.lwc_base.specs.declared.item.Mode.TheVariants.{Copy, Share, CopyRead}
-use Rattle.lwc_base.specs.declared.key.Key.{Key}
-use Rattle.lwc_base.specs.declared.key.Key.TheVariants.{Page}
-use Rattle.lwc_base.specs.declared.name.Name.{Name}
-use Rattle.lwc_base.specs.declared.page.PageValue.{PageValue}
-use Rattle.lwc_base.specs.declared.page.PageValue.TheVariants.{Zero}
-use Rattle.lwc_base.specs.declared.page.TheConstants.{PAGE_BYTES}
-use Rattle.lwc_base.specs.declared.regs.Regs.{Regs}
-use Rattle.lwc_base.specs.declared.right.Right.{Right}
-use Rattle.lwc_base.specs.declared.right.Right.TheVariants.{Write, Read}
 use Rattle.lwc_base.specs.Cells.{page_at, put_at, put_page, value_at, with_cell, with_value}
 use Rattle.lwc_base.specs.Clones.{IsClone}
 use Rattle.lwc_base.specs.Facts.{AddsContext, ChangesContext}
@@ -34,12 +25,21 @@ use Rattle.lwc_base.proofs.Clones.{next_context-share}
 use Rattle.lwc_base.proofs.Fresh.{next_context-new}
 use Rattle.lwc_base.proofs.Keys.{with_key-other}
 use Rattle.lwc_base.proofs.Lookups.{adds-add_context, changes-change_context, changes-change_group}
-use Rattle.lwc_base.proofs.Orders.{cases_name}
 use Rattle.lwc_base.proofs.Puts.{after_put_at}
 use Rattle.lwc_base.proofs.Saving.{saves}
-use Rattle.lwc_base.proofs.Small.{zeros_at}
 use Rattle.lwc_base.proofs.Sharing.{shares-share}
 use Rattle.lwc_base.proofs.Stored.{first_touched, is_done, touched-covers, touched-range, touched_count}
+use Rattle.lwc_types.specs.declared.key.Key.{Key}
+use Rattle.lwc_types.specs.declared.key.Key.TheVariants.{Page}
+use Rattle.lwc_types.specs.declared.name.Name.{Name}
+use Rattle.lwc_types.specs.declared.page.PageValue.{PageValue}
+use Rattle.lwc_types.specs.declared.page.PageValue.TheVariants.{Zero}
+use Rattle.lwc_types.specs.declared.page.TheConstants.{PAGE_BYTES}
+use Rattle.lwc_types.specs.declared.regs.Regs.{Regs}
+use Rattle.lwc_types.specs.declared.right.Right.{Right}
+use Rattle.lwc_types.specs.declared.right.Right.TheVariants.{Write, Read}
+use Rattle.lwc_types.proofs.Orders.{cases_name}
+use Rattle.lwc_types.proofs.Small.{zeros_at}
 
 -- ---- what changes no right
 

@@ -9,31 +9,31 @@ use Rattle.std.proofs.lemmas.Bool.Decides.{nat_tests}
 use Rattle.std.proofs.lemmas.List.Sums.{sum_by-cons}
 use Rattle.lwc_base.specs.declared.cell.Cell.{Cell}
 use Rattle.lwc_base.specs.declared.cell.Cell.TheVariants.{Own, Common}
-use Rattle.lwc_base.specs.declared.key.Key.TheVariants.{Page}
-use Rattle.lwc_base.specs.declared.name.Name.{Name}
-use Rattle.lwc_base.specs.declared.name.Tag.{Tag}
-use Rattle.lwc_base.specs.declared.page.PageValue.{PageValue}
-use Rattle.lwc_base.specs.declared.page.PageValue.TheVariants.{Zero, Data}
-use Rattle.lwc_base.specs.declared.page.TheConstants.{PAGE_BYTES}
-use Rattle.lwc_base.specs.declared.size.WorldSize.{WorldSize}
 use Rattle.lwc_base.specs.Cells.{page_at, put_page, value_at}
 use Rattle.lwc_base.specs.Frames.{is_parting, own_value, tag_of, tags, used}
 use Rattle.lwc_base.specs.Holders.{InCell, Keeps, everywhere}
 use Rattle.lwc_base.specs.Memory.{byte_at, is_present, touched}
 use Rattle.lwc_base.specs.Modes.{IsKey, number_of}
-use Rattle.lwc_base.specs.Names.{tag_cmp}
-use Rattle.lwc_base.specs.Pages.{bytes_of}
 use Rattle.lwc_base.specs.Sound.{HasItsGroups, IsSound, IsSoundPage, common_keys, sound_pages}
 use Rattle.lwc_base.specs.Store.{Piece, Done, after_store, byte_after, bytes_after, page_value_at, parting_count, stored_pages, put_pages, store, stored_value}
 use Rattle.lwc_base.specs.World.{World, Counters, context, group, is_live, change_counters}
 use Rattle.lwc_base.proofs.Common.{put-itself, put-other_key}
 use Rattle.lwc_base.proofs.Fresh.{fresh-after_store}
 use Rattle.lwc_base.proofs.Holders.{keeps-change_counters, keeps-put_at, keeps-put_pages, may_have-free}
-use Rattle.lwc_base.proofs.Orders.{same_tag, tag-itself}
 use Rattle.lwc_base.proofs.Puts.{names-put_at, takes-after_store}
 use Rattle.lwc_base.proofs.Sound.{groups-change_counters, groups-put_at, page_at-sound, pages-extends}
 use Rattle.lwc_base.proofs.Stored.{IsDone, first_touched, is_done, length-bytes_after, length-zero_page, present_value, touched_count, touched-covers, touched-range}
 use Rattle.lwc_base.proofs.Tags.{times, times-itself, times-nothing, times-other, times-put_page, used-more, used-same}
+use Rattle.lwc_types.specs.declared.key.Key.TheVariants.{Page}
+use Rattle.lwc_types.specs.declared.name.Name.{Name}
+use Rattle.lwc_types.specs.declared.name.Tag.{Tag}
+use Rattle.lwc_types.specs.declared.page.PageValue.{PageValue}
+use Rattle.lwc_types.specs.declared.page.PageValue.TheVariants.{Zero, Data}
+use Rattle.lwc_types.specs.declared.page.TheConstants.{PAGE_BYTES}
+use Rattle.lwc_types.specs.declared.size.WorldSize.{WorldSize}
+use Rattle.lwc_types.specs.Names.{tag_cmp}
+use Rattle.lwc_types.specs.Pages.{bytes_of}
+use Rattle.lwc_types.proofs.Orders.{same_tag, tag-itself}
 
 -- a tag that has not been taken, or is at home elsewhere, is not that of a sound page
 times-page : (w : World) (home : Tag → ℕ) (t : Tag) (p : ℕ) (value : Option PageValue) → IsSoundPage w home p value → ((w.next t.job).tags ≤ t.k) ⊎ (home t ≢ p) →

@@ -4,10 +4,10 @@ use Rattle.std.specs.Prelude.{[], if◌then◌else◌, count_by}
 use Rattle.std.specs.List.{range_with_len}
 use Rattle.std.proofs.lemmas.List.Sums.{sum_by-cons}
 use Rattle.lwc_base.specs.declared.cell.Cell.TheVariants.{Own}
-use Rattle.lwc_base.specs.declared.key.Key.TheVariants.{Page}
 use Rattle.lwc_base.specs.Ranges.{continues_range, begins_range, ranges}
 use Rattle.lwc_base.specs.Runs.{IsOneRun}
 use Rattle.lwc_base.specs.World.{Context}
+use Rattle.lwc_types.specs.declared.key.Key.TheVariants.{Page}
 
 -- no number of a range passes
 count_none : (test : ℕ → Bool) (a n : ℕ) → ((p : ℕ) → a ≤ p → p < a + n → test p ≡ false) → count_by test (range_with_len a n) ≡ 0

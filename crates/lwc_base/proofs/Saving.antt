@@ -1,9 +1,6 @@
 -- A context keeps registers for a thread, and all else stays as it was.
 use Rattle.std.proofs.Common.{◌≡◌, ◌≢◌, ℕ, sym, ap, ◌∙◌, true, Some, arith}
 use Rattle.std.proofs.lemmas.Bool.Decides.{nat_tests}
-use Rattle.lwc_base.specs.declared.key.Key.{Key}
-use Rattle.lwc_base.specs.declared.name.Name.{Name}
-use Rattle.lwc_base.specs.declared.regs.Regs.{Regs}
 use Rattle.lwc_base.specs.Cells.{value_at}
 use Rattle.lwc_base.specs.Clones.{AreApart, HaveInCommon}
 use Rattle.lwc_base.specs.Facts.{ChangesContext}
@@ -11,7 +8,10 @@ use Rattle.lwc_base.specs.Saved.{save, with_saved}
 use Rattle.lwc_base.specs.World.{World, Group, context, is_live}
 use Rattle.lwc_base.proofs.Common.{value_at-same}
 use Rattle.lwc_base.proofs.Lookups.{changes-change_context}
-use Rattle.lwc_base.proofs.Orders.{cases_name}
+use Rattle.lwc_types.specs.declared.key.Key.{Key}
+use Rattle.lwc_types.specs.declared.name.Name.{Name}
+use Rattle.lwc_types.specs.declared.regs.Regs.{Regs}
+use Rattle.lwc_types.proofs.Orders.{cases_name}
 
 module _ (w : World) (c : Name) (t : ℕ) (regs : Regs) where
   pub saves : ChangesContext w c (with_saved t regs) (save w c t regs)

@@ -4,12 +4,7 @@ use Rattle.std.proofs.lemmas.Bool.Decides.{nat_tests}
 use Rattle.std.specs.List.{find, range_with_len}
 use Rattle.lwc_base.specs.declared.descriptor.Descriptor.{Descriptor}
 use Rattle.lwc_base.specs.declared.descriptor.Descriptor.TheVariants.{Empty}
-use Rattle.lwc_base.specs.declared.descriptor.TheConstants.{SLOTS}
 use Rattle.lwc_base.specs.declared.item.Item.{Item}
-use Rattle.lwc_base.specs.declared.key.Key.{Key}
-use Rattle.lwc_base.specs.declared.key.Key.TheVariants.{Slot}
-use Rattle.lwc_base.specs.declared.name.Name.{Name}
-use Rattle.lwc_base.specs.declared.regs.Regs.{Regs}
 use Rattle.lwc_base.specs.Cells.{put_at, put_slot, slot_at, value_at}
 use Rattle.lwc_base.specs.Facts.{AddsContext, ChangesContext}
 use Rattle.lwc_base.specs.Fresh.{IsFresh}
@@ -25,11 +20,16 @@ use Rattle.lwc_base.specs.World.{World, change_counters, context, group, is_live
 use Rattle.lwc_base.proofs.Common.{put-other_key, value_at-same}
 use Rattle.lwc_base.proofs.Keys.{with_key-itself}
 use Rattle.lwc_base.proofs.Lookups.{adds-add_context, changes-change_context, changes-change_group}
-use Rattle.lwc_base.proofs.Orders.{cases_name}
 use Rattle.lwc_base.proofs.Needs.{some_in_range}
 use Rattle.lwc_base.proofs.Reaped.{number_in}
 use Rattle.lwc_base.proofs.Sharing.{group-same, shares-share, value_at-share, value_of-same}
 use Rattle.lwc_base.proofs.StoredBytes.{put_pages-other_keys}
+use Rattle.lwc_types.specs.declared.key.TheConstants.{SLOTS}
+use Rattle.lwc_types.specs.declared.key.Key.{Key}
+use Rattle.lwc_types.specs.declared.key.Key.TheVariants.{Slot}
+use Rattle.lwc_types.specs.declared.name.Name.{Name}
+use Rattle.lwc_types.specs.declared.regs.Regs.{Regs}
+use Rattle.lwc_types.proofs.Orders.{cases_name}
 
 -- a search of consecutive numbers finds one of them that passes the test
 number_found : (test : ℕ → Bool) (from count n : ℕ) → find test (range_with_len from count) ≡ Some n → (n < from + count) × (test n ≡ true)

@@ -7,13 +7,6 @@ use Rattle.lwc_base.specs.declared.cell.Cell.TheVariants.{Own, Common}
 use Rattle.lwc_base.specs.declared.descriptor.Descriptor.{Descriptor}
 use Rattle.lwc_base.specs.declared.item.Item.{Item}
 use Rattle.lwc_base.specs.declared.item.Mode.{Mode}
-use Rattle.lwc_base.specs.declared.key.Key.{Key}
-use Rattle.lwc_base.specs.declared.key.Key.TheVariants.{Page, Slot, Cred}
-use Rattle.lwc_base.specs.declared.name.Name.{Name}
-use Rattle.lwc_base.specs.declared.name.Tag.{Tag}
-use Rattle.lwc_base.specs.declared.page.PageValue.TheVariants.{Zero, Data}
-use Rattle.lwc_base.specs.declared.regs.Regs.{Regs}
-use Rattle.lwc_base.specs.declared.size.WorldSize.{WorldSize}
 use Rattle.lwc_base.specs.Cells.{page_at, put_at, put_slot, put_uid, with_value}
 use Rattle.lwc_base.specs.Facts.{ChangesGroup, SharesValues}
 use Rattle.lwc_base.specs.Fresh.{IsFresh, Rises, named_groups}
@@ -36,6 +29,13 @@ use Rattle.lwc_base.proofs.Puts.{after_put_at}
 use Rattle.lwc_base.proofs.Reaped.{context-kept, group-kept, group-left, live-was_live}
 use Rattle.lwc_base.proofs.Reaps.{fresh-reap, keeps-reap}
 use Rattle.lwc_base.proofs.Sharing.{shares-share}
+use Rattle.lwc_types.specs.declared.key.Key.{Key}
+use Rattle.lwc_types.specs.declared.key.Key.TheVariants.{Page, Slot, Cred}
+use Rattle.lwc_types.specs.declared.name.Name.{Name}
+use Rattle.lwc_types.specs.declared.name.Tag.{Tag}
+use Rattle.lwc_types.specs.declared.page.PageValue.TheVariants.{Zero, Data}
+use Rattle.lwc_types.specs.declared.regs.Regs.{Regs}
+use Rattle.lwc_types.specs.declared.size.WorldSize.{WorldSize}
 
 -- a world has at least what another has: its size, its names and tags, and something wherever a group has something
 pub record Extends (w v : World) : Type 0 where

@@ -6,20 +6,13 @@ use Rattle.lwc_base.specs.declared.cell.Cell.TheVariants.{Common}
 use Rattle.lwc_base.specs.declared.descriptor.Cap.{Cap}
 use Rattle.lwc_base.specs.declared.descriptor.Descriptor.{Descriptor}
 use Rattle.lwc_base.specs.declared.descriptor.Descriptor.TheVariants.{Ctx}
-use Rattle.lwc_base.specs.declared.descriptor.TheConstants.{SLOTS}
 use Rattle.lwc_base.specs.declared.item.Item.{Item}
-use Rattle.lwc_base.specs.declared.key.Key.{Key}
-use Rattle.lwc_base.specs.declared.key.Key.TheVariants.{Slot}
-use Rattle.lwc_base.specs.declared.name.Name.{Name}
-use Rattle.lwc_base.specs.declared.regs.Regs.{Regs}
-use Rattle.lwc_base.specs.declared.size.WorldSize.{WorldSize}
 use Rattle.lwc_base.specs.Cells.{put_slot, slot_at}
 use Rattle.lwc_base.specs.Facts.{KeepsNames, SharesValues}
 use Rattle.lwc_base.specs.Fresh.{IsFresh}
 use Rattle.lwc_base.specs.Holders.{IsGroup}
 use Rattle.lwc_base.specs.Life.{IsReaped, Link, Reaches, Root, is_among, is_of}
 use Rattle.lwc_base.specs.Modes.{IsKey, mode_or_copy}
-use Rattle.lwc_base.specs.Names.{name_cmp}
 use Rattle.lwc_base.specs.Saved.{save}
 use Rattle.lwc_base.specs.Sharing.{clone_context, is_moved, needs_group, share}
 use Rattle.lwc_base.specs.Sound.{HasItsGroups}
@@ -29,12 +22,19 @@ use Rattle.lwc_base.specs.World.{World, Context, Group, context, is_live, next_c
 use Rattle.lwc_base.proofs.Clones.{cell-moves, named-after, named-before, next_context-share}
 use Rattle.lwc_base.proofs.Common.{group_of_cell, names_same-after_store, names_same-put_at, put-there}
 use Rattle.lwc_base.proofs.Fresh.{next_context-new}
-use Rattle.lwc_base.proofs.Orders.{cases_name, name-itself}
 use Rattle.lwc_base.proofs.Puts.{live_of_common, names-put_at, takes-after_store}
 use Rattle.lwc_base.proofs.Reaped.{some_key}
 use Rattle.lwc_base.proofs.Saving.{save-cell, save-value, saves}
 use Rattle.lwc_base.proofs.Sharing.{shares-share}
 use Rattle.lwc_base.proofs.Slots.{adds-clone, linked_slot, put_slot-reads, slot_at-after_store, slot_at-clone, slot_links}
+use Rattle.lwc_types.specs.declared.key.TheConstants.{SLOTS}
+use Rattle.lwc_types.specs.declared.key.Key.{Key}
+use Rattle.lwc_types.specs.declared.key.Key.TheVariants.{Slot}
+use Rattle.lwc_types.specs.declared.name.Name.{Name}
+use Rattle.lwc_types.specs.declared.regs.Regs.{Regs}
+use Rattle.lwc_types.specs.declared.size.WorldSize.{WorldSize}
+use Rattle.lwc_types.specs.Names.{name_cmp}
+use Rattle.lwc_types.proofs.Orders.{cases_name, name-itself}
 
 -- no context is gone, no slot has lost a descriptor of a context, and no cell the group that it named
 record KeepsLinks (w v : World) : Type 0 where

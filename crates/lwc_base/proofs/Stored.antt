@@ -5,16 +5,16 @@ use Rattle.std.specs.List.{range_with_len}
 use Rattle.std.proofs.lemmas.Bool.Decides.{nat_tests}
 use Rattle.std.proofs.lemmas.List.{length-replicate}
 use Rattle.std.proofs.lemmas.List.FromFn.{length-map-range_with_len}
-use Rattle.lwc_base.specs.declared.name.Name.{Name}
-use Rattle.lwc_base.specs.declared.page.PageValue.{PageValue}
-use Rattle.lwc_base.specs.declared.page.PageValue.TheVariants.{Zero}
-use Rattle.lwc_base.specs.declared.page.TheConstants.{PAGE_BYTES}
 use Rattle.lwc_base.specs.Frames.{used}
 use Rattle.lwc_base.specs.Memory.{touched, is_present}
 use Rattle.lwc_base.specs.Rights.{is_writable}
-use Rattle.lwc_base.specs.Pages.{zero_bytes, zero_page}
 use Rattle.lwc_base.specs.Store.{Piece, Done, after_store, byte_after, bytes_after, parting_count, store}
 use Rattle.lwc_base.specs.World.{World}
+use Rattle.lwc_types.specs.declared.name.Name.{Name}
+use Rattle.lwc_types.specs.declared.page.PageValue.{PageValue}
+use Rattle.lwc_types.specs.declared.page.PageValue.TheVariants.{Zero}
+use Rattle.lwc_types.specs.declared.page.TheConstants.{PAGE_BYTES}
+use Rattle.lwc_types.specs.Pages.{zero_bytes, zero_page}
 
 -- what a store that is done has found, and what it leaves
 pub record IsDone (w : World) (c : Name) (job : ℕ) (piece : Piece) (v : World) : Type 0 where

@@ -1,10 +1,5 @@
 -- What each context reads once a piece is stored.
 use Rattle.std.proofs.Common.{◌≡◌, ◌≢◌, ℕ, ◌/◌, refl, ap, ◌∙◌, Some, List, [], ◌∷◌, length, arith, rules}
-use Rattle.lwc_base.specs.declared.key.Key.{Key}
-use Rattle.lwc_base.specs.declared.key.Key.TheVariants.{Page}
-use Rattle.lwc_base.specs.declared.name.Name.{Name}
-use Rattle.lwc_base.specs.declared.page.PageValue.{PageValue}
-use Rattle.lwc_base.specs.declared.page.TheConstants.{PAGE_BYTES}
 use Rattle.lwc_base.specs.Cells.{page_at, put_page, value_at}
 use Rattle.lwc_base.specs.Clones.{AreApart, HaveInCommon}
 use Rattle.lwc_base.specs.Memory.{byte_at, touched}
@@ -13,6 +8,11 @@ use Rattle.lwc_base.specs.Store.{Piece, Done, after_store, stored_pages, put_pag
 use Rattle.lwc_base.specs.World.{World, context, group, change_counters}
 use Rattle.lwc_base.proofs.Common.{put-other_key, put-apart, apart-put_at, common-after_store, value_at-common}
 use Rattle.lwc_base.proofs.Stored.{IsDone, is_done}
+use Rattle.lwc_types.specs.declared.key.Key.{Key}
+use Rattle.lwc_types.specs.declared.key.Key.TheVariants.{Page}
+use Rattle.lwc_types.specs.declared.name.Name.{Name}
+use Rattle.lwc_types.specs.declared.page.PageValue.{PageValue}
+use Rattle.lwc_types.specs.declared.page.TheConstants.{PAGE_BYTES}
 
 -- what is put under pages is read under no other key
 pub put_pages-other_keys : (w : World) (c : Name) (values : List (ℕ × PageValue)) (d : Name) (k : Key) → ((p : ℕ) → k ≢ Page p) → value_at (put_pages w c values) d k ≡ value_at w d k

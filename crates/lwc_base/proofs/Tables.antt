@@ -3,9 +3,9 @@ use Rattle.std.proofs.Common.{◌≡◌, true, cond, arith}
 use Rattle.std.specs.Prelude.{unwrap_or}
 use Rattle.std.specs.Ordering.{eq_by_cmp}
 use Rattle.std.specs.FinMap as fm
-use Rattle.lwc_base.specs.declared.name.Name.{Name}
-use Rattle.lwc_base.specs.Names.{name_cmp}
-use Rattle.lwc_base.proofs.Orders.{name_cmp-total, same_name}
+use Rattle.lwc_types.specs.declared.name.Name.{Name}
+use Rattle.lwc_types.specs.Names.{name_cmp}
+use Rattle.lwc_types.proofs.Orders.{name_cmp-total, same_name}
 
 module _ {X : Type 0} (m : fm.FinMap name_cmp X) (c : Name) (y : X) where
   pub entry-insert : (d : X) (q : Name) → unwrap_or (fm.get (fm.insert m c y) q) d ≡ cond (eq_by_cmp name_cmp q c) y (unwrap_or (fm.get m q) d)

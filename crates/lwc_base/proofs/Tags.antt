@@ -1,5 +1,5 @@
 -- How often a tag is at holders: one holder gives up its tag for another when a value is put under a page.
-use Rattle.std.proofs.Common.{◌≡◌, ◌≢◌, ℕ, zero, suc, ◌+◌, ◌≤◌, ◌<◌, refl, sym, ap, ◌∙◌, true, cond, ltb, ◌||◌, Option, Some, None, List, [], ◌∷◌, arith}
+use Rattle.std.proofs.Common.{◌≡◌, ◌≢◌, ℕ, zero, suc, ◌+◌, ◌≤◌, ◌<◌, refl, sym, ap, ◌∙◌, true, cond, ltb, ◌||◌, Option, Some, None, List, [], ◌∷◌, length, arith}
 use Rattle.std.proofs.lemmas.Bool.Decides.{nat_tests}
 use Rattle.std.proofs.lemmas.List.Sums.{sum_by-append, sum_by-cons}
 use Rattle.std.specs.Prelude.{T, count_by, unwrap_or, ◌++◌}
@@ -9,19 +9,26 @@ use Rattle.std.specs.FinMap as fm
 use Rattle.std.specs.FinMap.Entries.{below_all, find, is_sorted, length-put, put}
 use Rattle.std.specs.FinSet as set
 use Rattle.lwc_base.specs.declared.cell.Cell.TheVariants.{Own, Common}
-use Rattle.lwc_base.specs.declared.key.Key.TheVariants.{Page}
-use Rattle.lwc_base.specs.declared.name.Name.{Name}
-use Rattle.lwc_base.specs.declared.name.Tag.{Tag}
-use Rattle.lwc_base.specs.declared.page.PageValue.{PageValue}
 use Rattle.lwc_base.specs.Cells.{page_at, put_page, with_cell, with_value}
 use Rattle.lwc_base.specs.Frames.{own_value, tag_of, tags, tags_of_context, tags_of_group, used}
-use Rattle.lwc_base.specs.Names.{name_cmp, tag_cmp}
-use Rattle.lwc_base.specs.Registers.{fresh_registers}
 use Rattle.lwc_base.specs.World.{World, Context, Group, context, group, is_live, new_context, new_group, change_context, change_group}
 use Rattle.lwc_base.proofs.Common.{value_at-cell}
 use Rattle.lwc_base.proofs.Lookups.{after_change_context, after_change_group, context-dead, group-dead}
-use Rattle.lwc_base.proofs.Orders.{name-itself, name_cmp-total, same_name, same_tag, tag-itself, tag_cmp-IsAntisymmetric, tag_cmp-total}
 use Rattle.lwc_base.proofs.Puts.{after_put_at}
+use Rattle.lwc_types.specs.declared.key.Key.TheVariants.{Page}
+use Rattle.lwc_types.specs.declared.name.Name.{Name}
+use Rattle.lwc_types.specs.declared.name.Tag.{Tag}
+use Rattle.lwc_types.specs.declared.page.PageValue.{PageValue}
+use Rattle.lwc_types.specs.declared.page.PageValue.TheVariants.{Zero, Data}
+use Rattle.lwc_types.specs.Names.{name_cmp, tag_cmp}
+use Rattle.lwc_types.specs.Registers.{fresh_registers}
+use Rattle.lwc_types.proofs.Orders.{name-itself, name_cmp-total, same_name, same_tag, tag-itself, tag_cmp-IsAntisymmetric, tag_cmp-total}
+
+-- a page has one tag at most
+pub one_tag : (value : Option PageValue) → length (tag_of value) ≤ 1
+one_tag None = omega arith
+one_tag (Some Zero) = omega arith
+one_tag (Some (Data tag bytes)) = omega arith
 
 -- how often a tag is in a list
 abbrev pub times : Tag → List Tag → ℕ

@@ -4,10 +4,10 @@ use Rattle.std.specs.Prelude.{true, false, not, List, All, is_some, length, map,
 use Rattle.std.specs.List.{range_with_len}
 use Rattle.lwc_base.specs.declared.descriptor.Cap.{Cap}
 use Rattle.lwc_base.specs.declared.item.Item.{Item}
-use Rattle.lwc_base.specs.declared.key.Key.{Key}
-use Rattle.lwc_base.specs.declared.key.Key.TheVariants.{Page, Slot, Cred}
 use Rattle.lwc_base.specs.Modes.{mode}
 use Rattle.lwc_base.specs.Sharing.{any_key}
+use Rattle.lwc_types.specs.declared.key.Key.{Key}
+use Rattle.lwc_types.specs.declared.key.Key.TheVariants.{Page, Slot, Cred}
 
 -- whether a number has a bit
 abbrev pub has_bit : ℕ → ℕ → Bool

@@ -1,15 +1,15 @@
 -- What calls of guests read and write beside the world, and the descriptors of it.
 use Rattle.std.specs.Prelude.{ℕ, ◌==◌, ◌<◌, ◌≤◌, ◌||◌, Bool, List, [], All, length, map, replicate, slice_index_or}
 use Rattle.std.specs.List.{sum_by}
-use Rattle.lwc_base.specs.declared.channels.FileImage.{FileImage}
 use Rattle.lwc_base.specs.declared.descriptor.Descriptor.{Descriptor}
 use Rattle.lwc_base.specs.declared.descriptor.Descriptor.TheVariants.{File, Request, Reply}
-use Rattle.lwc_base.specs.declared.key.Key.{Key}
-use Rattle.lwc_base.specs.declared.key.Key.TheVariants.{Page, Slot, Cred}
-use Rattle.lwc_base.specs.declared.limits.TheConstants.{MOST_FILES, MOST_FILE_BYTES, MOST_REQUESTS, MOST_REQUEST_BYTES}
 use Rattle.lwc_base.specs.Holders.{Rules, everywhere, Keeps}
 use Rattle.lwc_base.specs.Keys.{ValueOf}
 use Rattle.lwc_base.specs.World.{World}
+use Rattle.lwc_types.specs.declared.file_image.FileImage.{FileImage}
+use Rattle.lwc_types.specs.declared.key.Key.{Key}
+use Rattle.lwc_types.specs.declared.key.Key.TheVariants.{Page, Slot, Cred}
+use Rattle.lwc_types.specs.declared.limits.TheConstants.{MOST_FILES, MOST_FILE_BYTES, MOST_REQUESTS, MOST_REQUEST_BYTES}
 
 -- the files of the image, the requests, and the bytes written to the console and to the reply of each request
 pub record Channels : Type 0 where

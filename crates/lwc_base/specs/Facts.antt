@@ -4,18 +4,12 @@ use Rattle.std.specs.Cmp.{IsTotalOrder}
 use Rattle.std.specs.FinMap as fm
 use Rattle.lwc_base.specs.declared.cell.Cell.TheVariants.{Own, Common}
 use Rattle.lwc_base.specs.declared.item.Item.{Item}
-use Rattle.lwc_base.specs.declared.key.Key.{Key}
-use Rattle.lwc_base.specs.declared.name.Name.{Name}
-use Rattle.lwc_base.specs.declared.page.PageValue.{PageValue}
-use Rattle.lwc_base.specs.declared.regs.Regs.{Regs}
-use Rattle.lwc_base.specs.declared.size.WorldSize.{WorldSize}
 use Rattle.lwc_base.specs.Cells.{put_at, with_cell, with_value}
 use Rattle.lwc_base.specs.Fresh.{IsFresh, IsNamedContext, IsNamedGroup, Rises, named_groups}
 use Rattle.lwc_base.specs.Holders.{InContext, IsGroup}
 use Rattle.lwc_base.specs.Keys.{ValueOf, is_there}
 use Rattle.lwc_base.specs.Mapping.{map_pages, unmap_pages, with_zeros, without_pages}
 use Rattle.lwc_base.specs.Life.{reap}
-use Rattle.lwc_base.specs.Names.{name_cmp, tag_cmp}
 use Rattle.lwc_base.specs.Overlay.{overlay, with_overlay}
 use Rattle.lwc_base.specs.Saved.{save, with_saved}
 use Rattle.lwc_base.specs.Sharing.{clone_context, cloned_context, moved_values, needs_group, share, with_shared}
@@ -23,6 +17,12 @@ use Rattle.lwc_base.specs.Store.{Piece, after_store, parting_count, put_pages}
 use Rattle.lwc_base.specs.World.{World, Context, Counters, Group, add_context, add_group, change_context}
 use Rattle.lwc_base.specs.World.{change_counters, change_group, context, empty_world, group, groups_of, is_live}
 use Rattle.lwc_base.specs.World.{live_of, next_context, next_group}
+use Rattle.lwc_types.specs.declared.key.Key.{Key}
+use Rattle.lwc_types.specs.declared.name.Name.{Name}
+use Rattle.lwc_types.specs.declared.page.PageValue.{PageValue}
+use Rattle.lwc_types.specs.declared.regs.Regs.{Regs}
+use Rattle.lwc_types.specs.declared.size.WorldSize.{WorldSize}
+use Rattle.lwc_types.specs.Names.{name_cmp, tag_cmp}
 
 -- the same names live, nothing more is counted, and the size is the same
 pub record KeepsNames (w v : World) : Type 0 where

@@ -2,10 +2,10 @@
 use Rattle.std.specs.Prelude.{ℕ, ◌==◌, if◌then◌else◌, Bool, true, Option, None, is_some}
 use Rattle.lwc_base.specs.declared.descriptor.Descriptor.{Descriptor}
 use Rattle.lwc_base.specs.declared.descriptor.Descriptor.TheVariants.{Empty}
-use Rattle.lwc_base.specs.declared.key.Key.{Key}
-use Rattle.lwc_base.specs.declared.key.Key.TheVariants.{Page, Slot, Cred}
-use Rattle.lwc_base.specs.declared.key.TheConstants.{NOBODY}
-use Rattle.lwc_base.specs.declared.page.PageValue.{PageValue}
+use Rattle.lwc_types.specs.declared.key.Key.{Key}
+use Rattle.lwc_types.specs.declared.key.Key.TheVariants.{Page, Slot, Cred}
+use Rattle.lwc_types.specs.declared.key.TheConstants.{NOBODY}
+use Rattle.lwc_types.specs.declared.page.PageValue.{PageValue}
 
 -- what may be under a key: a page's value or nothing, a slot's descriptor, or a uid
 abbrev pub ValueOf : Key → Type 0

@@ -3,7 +3,6 @@ pub mod Cells
 pub mod Channels
 pub mod Clones
 pub mod Facts
-pub mod Faults
 pub mod Frames
 pub mod Fresh
 pub mod Holders
@@ -14,13 +13,9 @@ pub mod Life
 pub mod Mapping
 pub mod Memory
 pub mod Modes
-pub mod Names
-pub mod Outcomes
 pub mod Overlay
-pub mod Pages
 pub mod Ranges
 pub mod Refusals
-pub mod Registers
 pub mod Rights
 pub mod Runs
 pub mod Saved

@@ -5,12 +5,12 @@ use Rattle.std.specs.List.{range_with_len}
 use Rattle.std.specs.Ordering.{is_eq}
 use Rattle.lwc_base.specs.declared.cell.Cell.{Cell}
 use Rattle.lwc_base.specs.declared.cell.Cell.TheVariants.{Own, Common}
-use Rattle.lwc_base.specs.declared.key.Key.TheVariants.{Page}
-use Rattle.lwc_base.specs.declared.page.PageValue.{PageValue}
-use Rattle.lwc_base.specs.declared.name.Name.{Name}
-use Rattle.lwc_base.specs.Names.{name_cmp}
 use Rattle.lwc_base.specs.Rights.{same_right}
 use Rattle.lwc_base.specs.World.{World, Context, context}
+use Rattle.lwc_types.specs.declared.key.Key.TheVariants.{Page}
+use Rattle.lwc_types.specs.declared.page.PageValue.{PageValue}
+use Rattle.lwc_types.specs.declared.name.Name.{Name}
+use Rattle.lwc_types.specs.Names.{name_cmp}
 
 -- whether two cells of pages are of one kind: present and the context's own, or common of one group
 abbrev pub are_of_one_kind : Cell (Option PageValue) → Cell (Option PageValue) → Bool

@@ -1,11 +1,11 @@
 -- The rights of pages.
 use Rattle.std.specs.Prelude.{ℕ, if◌then◌else◌, Bool, true, false}
 use Rattle.std.specs.List.{list_all}
-use Rattle.lwc_base.specs.declared.name.Name.{Name}
-use Rattle.lwc_base.specs.declared.right.Right.{Right}
-use Rattle.lwc_base.specs.declared.right.Right.TheVariants.{Write, Read}
 use Rattle.lwc_base.specs.Memory.{touched}
 use Rattle.lwc_base.specs.World.{World, context}
+use Rattle.lwc_types.specs.declared.name.Name.{Name}
+use Rattle.lwc_types.specs.declared.right.Right.{Right}
+use Rattle.lwc_types.specs.declared.right.Right.TheVariants.{Write, Read}
 
 -- whether two rights are the same
 abbrev pub same_right : Right → Right → Bool

@@ -1,8 +1,8 @@
 -- The registers that contexts keep for threads.
 use Rattle.std.specs.Prelude.{ℕ, ◌==◌, if◌then◌else◌, Some, unwrap_or}
-use Rattle.lwc_base.specs.declared.name.Name.{Name}
-use Rattle.lwc_base.specs.declared.regs.Regs.{Regs}
 use Rattle.lwc_base.specs.World.{World, Context, change_context}
+use Rattle.lwc_types.specs.declared.name.Name.{Name}
+use Rattle.lwc_types.specs.declared.regs.Regs.{Regs}
 
 -- a context that keeps these registers for a thread, in place of those that it kept for it
 abbrev pub with_saved : ℕ → Regs → Context → Context

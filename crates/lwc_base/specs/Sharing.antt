@@ -3,22 +3,22 @@ use Rattle.std.specs.Prelude.{ℕ, ◌||◌, if◌then◌else◌, Bool, false, L
 use Rattle.std.specs.List.{list_any, range_with_len}
 use Rattle.lwc_base.specs.declared.cell.Cell.{Cell}
 use Rattle.lwc_base.specs.declared.cell.Cell.TheVariants.{Own, Common}
-use Rattle.lwc_base.specs.declared.descriptor.TheConstants.{SLOTS}
 use Rattle.lwc_base.specs.declared.item.Item.{Item}
 use Rattle.lwc_base.specs.declared.item.Mode.{Mode}
 use Rattle.lwc_base.specs.declared.item.Mode.TheVariants.{Copy, Share, Unmap, CopyRead}
-use Rattle.lwc_base.specs.declared.key.Key.{Key}
-use Rattle.lwc_base.specs.declared.key.Key.TheVariants.{Page, Slot, Cred}
-use Rattle.lwc_base.specs.declared.name.Name.{Name}
-use Rattle.lwc_base.specs.declared.regs.Regs.{Regs}
-use Rattle.lwc_base.specs.declared.right.Right.{Right}
-use Rattle.lwc_base.specs.declared.right.Right.TheVariants.{Write}
 use Rattle.lwc_base.specs.Cells.{value_at}
 use Rattle.lwc_base.specs.Keys.{ValueOf, nothing, is_there}
 use Rattle.lwc_base.specs.Modes.{mode_or_copy}
 use Rattle.lwc_base.specs.Ranges.{has_page, ranges, ranges_of}
 use Rattle.lwc_base.specs.Rights.{read_right, right_at}
 use Rattle.lwc_base.specs.World.{World, Context, Group, context, change_context, add_context, add_group, next_group}
+use Rattle.lwc_types.specs.declared.key.TheConstants.{SLOTS}
+use Rattle.lwc_types.specs.declared.key.Key.{Key}
+use Rattle.lwc_types.specs.declared.key.Key.TheVariants.{Page, Slot, Cred}
+use Rattle.lwc_types.specs.declared.name.Name.{Name}
+use Rattle.lwc_types.specs.declared.regs.Regs.{Regs}
+use Rattle.lwc_types.specs.declared.right.Right.{Right}
+use Rattle.lwc_types.specs.declared.right.Right.TheVariants.{Write}
 
 -- whether a cell is the context's own and a value is there
 abbrev pub has_own : (k : Key) → Cell (ValueOf k) → Bool

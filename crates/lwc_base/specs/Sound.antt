@@ -1,17 +1,17 @@
 -- The worlds that runs reach.
 use Rattle.std.specs.Prelude.{◌≡◌, ℕ, ◌<◌, List, Option, None, Some, length, true}
-use Rattle.lwc_base.specs.declared.key.Key.{Key}
-use Rattle.lwc_base.specs.declared.key.Key.TheVariants.{Page, Slot, Cred}
-use Rattle.lwc_base.specs.declared.name.Name.{Name}
-use Rattle.lwc_base.specs.declared.name.Tag.{Tag}
-use Rattle.lwc_base.specs.declared.page.PageValue.{PageValue}
-use Rattle.lwc_base.specs.declared.page.PageValue.TheVariants.{Zero, Data}
-use Rattle.lwc_base.specs.declared.page.TheConstants.{PAGE_BYTES}
 use Rattle.lwc_base.specs.Fresh.{IsFresh}
 use Rattle.lwc_base.specs.Holders.{Rules, everywhere, IsGroup, Keeps}
 use Rattle.lwc_base.specs.Keys.{ValueOf, is_there}
 use Rattle.lwc_base.specs.Modes.{IsKey}
 use Rattle.lwc_base.specs.World.{World, group}
+use Rattle.lwc_types.specs.declared.key.Key.{Key}
+use Rattle.lwc_types.specs.declared.key.Key.TheVariants.{Page, Slot, Cred}
+use Rattle.lwc_types.specs.declared.name.Name.{Name}
+use Rattle.lwc_types.specs.declared.name.Tag.{Tag}
+use Rattle.lwc_types.specs.declared.page.PageValue.{PageValue}
+use Rattle.lwc_types.specs.declared.page.PageValue.TheVariants.{Zero, Data}
+use Rattle.lwc_types.specs.declared.page.TheConstants.{PAGE_BYTES}
 
 -- a live group has something under a key
 pub record HasValue (w : World) (k : Key) (g : Name) : Type 0 where

@@ -3,11 +3,11 @@ use Rattle.std.specs.Prelude.{Bool, true, false, count_by, is_some, not}
 use Rattle.std.specs.List.{range_with_len}
 use Rattle.lwc_base.specs.declared.descriptor.Descriptor.{Descriptor}
 use Rattle.lwc_base.specs.declared.descriptor.Descriptor.TheVariants.{Empty}
-use Rattle.lwc_base.specs.declared.descriptor.TheConstants.{SLOTS}
-use Rattle.lwc_base.specs.declared.name.Name.{Name}
-use Rattle.lwc_base.specs.declared.size.Summary.{Summary}
 use Rattle.lwc_base.specs.Cells.{page_at, slot_at, uid_at}
 use Rattle.lwc_base.specs.World.{World}
+use Rattle.lwc_types.specs.declared.key.TheConstants.{SLOTS}
+use Rattle.lwc_types.specs.declared.name.Name.{Name}
+use Rattle.lwc_types.specs.declared.size.Summary.{Summary}
 
 -- whether a slot is empty
 abbrev pub is_empty : Descriptor → Bool

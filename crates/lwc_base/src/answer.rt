@@ -1,6 +1,4 @@
-use crate::name::Name;
-use crate::refusal::Refusal;
-use crate::regs::Regs;
+use lwc_types::{Name, Refusal, Regs};
 
 /// What a call of a guest answers: the registers that its thread continues with, or why the call was refused.
 #[derive(Clone, Copy, PartialEq, Eq)]

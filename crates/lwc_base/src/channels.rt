@@ -1,21 +1,11 @@
 ghost use Rattle.std.specs.Prelude.{◌≡◌, ◌<◌, ◌≤◌, ◌+◌, ◌++◌, [], IfOk, length, replicate, slice_set};
 ghost use Rattle.lwc_base.specs.Channels.{AreSmall, bytes_in};
 ghost use Rattle.lwc_base.specs.Channels as spec;
-ghost use Rattle.lwc_base.specs.declared.limits.TheConstants.{MOST_CONSOLE_BYTES, MOST_REPLY_BYTES};
+ghost use Rattle.lwc_types.specs.declared.limits.TheConstants.{MOST_CONSOLE_BYTES, MOST_REPLY_BYTES};
 
-use crate::limits::{MOST_CONSOLE_BYTES, MOST_REPLY_BYTES};
-use crate::memory::OutOfMemory;
-use crate::sequence::Sequence;
+use lwc_types::{FileImage, MOST_CONSOLE_BYTES, MOST_REPLY_BYTES, OutOfMemory, Sequence};
 use std::alloc::Global;
 use std::marker::Model;
-
-/// A file of an image: the uid of its owner, whether others may open it, and its bytes.
-#[derive(Drop)]
-pub struct FileImage {
-    pub owner: u32,
-    pub public: bool,
-    pub bytes: Sequence<u8>,
-}
 
 /// Requests, each a list of bytes.
 pub type Requests = Sequence<Sequence<u8>>;
@@ -34,7 +24,7 @@ impl Model for Channels {
     ghost use Rattle.std.specs.Prelude.{◌≡◌, ◌≤◌, length, vec_len, vec_capacity};
     ghost use Rattle.lwc_base.specs.Channels.{AreSmall};
     ghost use Rattle.lwc_base.specs.Channels as spec;
-    ghost use Rattle.lwc_base.specs.declared.limits.TheConstants.{MOST_CONSOLE_BYTES};
+    ghost use Rattle.lwc_types.specs.declared.limits.TheConstants.{MOST_CONSOLE_BYTES};
 
     ghost Value = { spec.Channels };
 
@@ -149,7 +139,7 @@ struct Reply {
 
 impl Model for Reply {
     ghost use Rattle.std.specs.Prelude.{◌≤◌, ℕ, List, vec_len, vec_capacity};
-    ghost use Rattle.lwc_base.specs.declared.limits.TheConstants.{MOST_REPLY_BYTES};
+    ghost use Rattle.lwc_types.specs.declared.limits.TheConstants.{MOST_REPLY_BYTES};
 
     ghost Value = { List ℕ };
 

@@ -1,11 +1,7 @@
 ghost use Rattle.std.specs.Prelude.{◌≡◌};
 ghost use Rattle.lwc_base.specs.Lending.{descriptor_of};
 
-use crate::key::{PageNumber, SlotNumber};
-use crate::name::Name;
-
-/// The number of slots of a context.
-pub const SLOTS: SlotNumber = 64;
+use lwc_types::{Name, PageNumber};
 
 /// An access capability: the set of keys that may be taken from a context. Page p is bit p mod 64 of
 /// `pages[p / 64]`, slot n is bit n of `slots`, and the credential is `cred`.

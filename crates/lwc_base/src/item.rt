@@ -1,10 +1,9 @@
 ghost use Rattle.std.specs.Prelude.{◌≡◌, ◌≢◌, IfNone, IfSome};
 ghost use Rattle.lwc_base.specs.Modes.{IsItem};
-ghost use Rattle.lwc_base.specs.declared.key.Kind.TheVariants.{Page};
-ghost use Rattle.lwc_base.specs.declared.limits.TheConstants.{MOST_PAGES};
+ghost use Rattle.lwc_types.specs.declared.key.Kind.TheVariants.{Page};
+ghost use Rattle.lwc_types.specs.declared.limits.TheConstants.{MOST_PAGES};
 
-use crate::key::{Kind, PageNumber};
-use crate::range::Range;
+use lwc_types::{Kind, PageNumber, Range};
 
 /// What a new context or an overlay gets under a key.
 #[derive(Clone, Copy, Debug, Default, PartialEq, Eq)]

@@ -1,10 +1,10 @@
 ghost use Rattle.std.specs.Prelude.{◌≡◌, ◌<◌, ◌≤◌, ◌++◌, ◌∷◌, [], All, length};
 ghost use Rattle.lwc_base.specs.Modes.{AreApart, IsItem, IsSpec};
-ghost use Rattle.lwc_base.specs.declared.limits.TheConstants.{MOST_ITEMS, MOST_PAGES};
+ghost use Rattle.lwc_types.specs.declared.limits.TheConstants.{MOST_ITEMS, MOST_PAGES};
 
 use crate::item::Item;
-use crate::limits::{MOST_ITEMS, MOST_PAGES};
 use arrayvec::ArrayVec;
+use lwc_types::{MOST_ITEMS, MOST_PAGES};
 use std::marker::Model;
 
 /// A resource specifier: at most 32 items, each within the limit of its kind, no two with a key in common. It
@@ -18,7 +18,7 @@ impl Model for Items {
     ghost use Rattle.std.specs.Prelude.{List};
     ghost use Rattle.lwc_base.specs.Modes.{IsSpec};
     ghost use Rattle.lwc_base.specs.declared.item.Item.{Item};
-    ghost use Rattle.lwc_base.specs.declared.limits.TheConstants.{MOST_PAGES};
+    ghost use Rattle.lwc_types.specs.declared.limits.TheConstants.{MOST_PAGES};
 
     ghost Value = { List Item };
 

@@ -1,52 +1,31 @@
-//! Plain types of the kernel, the definitions of its world (contexts, groups, values under keys, frames, and the
-//! store of bytes), and what a reader of bytes answers.
+//! The definitions of the kernel's world (contexts, groups, values under keys, frames, and the store of bytes), its
+//! changes and their laws, with the types that they speak of. The plain types of `lwc_types` are offered here, too.
 #![tactic(auto)]
 
 pub mod answer;
 pub mod cell;
 pub mod channels;
 pub mod descriptor;
-pub mod fault;
 pub mod item;
 pub mod items;
-pub mod key;
 pub mod laws;
-pub mod limits;
-pub mod memory;
-pub mod name;
-pub mod page;
-pub mod range;
-pub mod reading;
-pub mod refusal;
-pub mod regs;
-pub mod right;
-pub mod sequence;
-pub mod size;
+pub mod touched;
 
 pub use answer::{Answer, Moved};
 pub use cell::Cell;
-pub use channels::{Channels, FileImage, Requests, may_open, may_set};
-pub use descriptor::{Cap, Descriptor, Grant, Lent, SLOTS};
-pub use fault::{Fault, ThreadStatus};
+pub use channels::{Channels, Requests, may_open, may_set};
+pub use descriptor::{Cap, Descriptor, Grant, Lent};
 pub use item::{Item, Mode};
 pub use items::Items;
-pub use key::{Key, Kind, NOBODY, PageNumber, SlotNumber};
-pub use limits::{
-    MOST_BUDGET, MOST_BYTES_OF_CALL, MOST_BYTES_OF_FORM_ONE, MOST_CONSOLE_BYTES, MOST_CONTEXTS,
-    MOST_CONTEXTS_OF_JOB, MOST_FILE_BYTES, MOST_FILES, MOST_FRAMES, MOST_GROUPS,
-    MOST_GROUPS_OF_JOB, MOST_IMAGE_BYTES, MOST_IMAGE_SLOTS, MOST_INSTRUCTIONS, MOST_ITEMS,
-    MOST_JOBS, MOST_KEPT_ROOTS, MOST_PAGE_PLACES, MOST_PAGE_RUNS, MOST_PAGES, MOST_RANGES,
-    MOST_REPLY_BYTES, MOST_REQUEST_BYTES, MOST_REQUEST_FILE_BYTES, MOST_REQUESTS, MOST_ROOTS,
-    MOST_SCHEDULE_BYTES, MOST_SLOT_PLACES, MOST_SOURCE_BYTES, MOST_STEPS, MOST_THREADS,
-    PAGES_OF_FORM_ONE,
+pub use lwc_types::{
+    Fault, FileImage, Key, Kind, MOST_BUDGET, MOST_BYTES_OF_CALL, MOST_BYTES_OF_FORM_ONE,
+    MOST_CONSOLE_BYTES, MOST_CONTEXTS, MOST_CONTEXTS_OF_JOB, MOST_FILE_BYTES, MOST_FILES,
+    MOST_FRAMES, MOST_GROUPS, MOST_GROUPS_OF_JOB, MOST_IMAGE_BYTES, MOST_IMAGE_SLOTS,
+    MOST_INSTRUCTIONS, MOST_ITEMS, MOST_JOBS, MOST_KEPT_ROOTS, MOST_PAGE_PLACES, MOST_PAGE_RUNS,
+    MOST_PAGES, MOST_RANGES, MOST_REPLY_BYTES, MOST_REQUEST_BYTES, MOST_REQUEST_FILE_BYTES,
+    MOST_REQUESTS, MOST_ROOTS, MOST_SCHEDULE_BYTES, MOST_SLOT_PLACES, MOST_SOURCE_BYTES,
+    MOST_STEPS, MOST_THREADS, NOBODY, Name, OutOfMemory, PAGE_BYTES, PAGES_OF_FORM_ONE, PageBytes,
+    PageNumber, PageValue, Range, ReadError, Refusal, Regs, Right, SLOTS, Sequence, SlotNumber,
+    StoreFault, Summary, Tag, ThreadStatus, WorldSize,
 };
-pub use memory::OutOfMemory;
-pub use name::{Name, Tag};
-pub use page::{PAGE_BYTES, PageBytes, PageValue};
-pub use range::{Range, touched_pages};
-pub use reading::ReadError;
-pub use refusal::Refusal;
-pub use regs::Regs;
-pub use right::Right;
-pub use sequence::Sequence;
-pub use size::{StoreFault, Summary, WorldSize};
+pub use touched::touched_pages;

@@ -18,19 +18,19 @@ use Rattle.kernel_core.specs.Step.{AfterStep, after_outcome, step}
 use Rattle.kernel_core.specs.declared.settings.Job.TheVariants as jobs
 use Rattle.kernel_core.specs.declared.thread.Thread.{Thread}
 use Rattle.lwc_base.proofs.Common.{group_of_cell}
-use Rattle.lwc_base.proofs.Orders.{same_name}
 use Rattle.lwc_base.proofs.Puts.{live_of_common}
 use Rattle.lwc_base.specs.Cells.{slot_at}
 use Rattle.lwc_base.specs.Clones.{HaveInCommon}
 use Rattle.lwc_base.specs.Holders.{InCell}
 use Rattle.lwc_base.specs.Modes.{IsKey}
-use Rattle.lwc_base.specs.Names.{name_cmp}
 use Rattle.lwc_base.specs.World.{World, context}
 use Rattle.lwc_base.specs.declared.cell.Cell.TheVariants.{Common}
-use Rattle.lwc_base.specs.declared.fault.ThreadStatus.TheVariants.{Running}
-use Rattle.lwc_base.specs.declared.key.Key.{Key}
-use Rattle.lwc_base.specs.declared.key.Key.TheVariants.{Slot}
-use Rattle.lwc_base.specs.declared.name.Name.{Name}
+use Rattle.lwc_types.proofs.Orders.{same_name}
+use Rattle.lwc_types.specs.Names.{name_cmp}
+use Rattle.lwc_types.specs.declared.fault.ThreadStatus.TheVariants.{Running}
+use Rattle.lwc_types.specs.declared.key.Key.{Key}
+use Rattle.lwc_types.specs.declared.key.Key.TheVariants.{Slot}
+use Rattle.lwc_types.specs.declared.name.Name.{Name}
 use Rattle.lwc_closed.specs.Requests.{IsOfAnother, IsOver, StayInsideOrServeOthers}
 use Rattle.request_isolation.proofs.Holds.{Holds, Leaves, holds_after, serving_now, unseen_served}
 use Rattle.request_isolation.proofs.Homes.{home_for}

@@ -5,7 +5,7 @@ use Rattle.blank_steps.specs.Blanks.{blank_in}
 use Rattle.kernel_core.specs.Machine.{Machine}
 use Rattle.kernel_core.specs.Runs.{peak, run}
 use Rattle.lwc_base.specs.World.{World}
-use Rattle.lwc_base.specs.declared.name.Name.{Name}
+use Rattle.lwc_types.specs.declared.name.Name.{Name}
 use Rattle.lwc_text.proofs.Told.{TellAlike, report_alike}
 use Rattle.lwc_text.specs.Report.{report_of, text_of}
 use Rattle.world_views.proofs.BlankChanges.{blanks-alike}

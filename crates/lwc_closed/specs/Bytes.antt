@@ -5,8 +5,8 @@ use Rattle.confinement.specs.Fences.{Fence}
 use Rattle.kernel_core.specs.Machine.{Machine}
 use Rattle.kernel_core.specs.Runs.{kept, run}
 use Rattle.lwc_base.specs.World.{is_live}
-use Rattle.lwc_base.specs.declared.key.Key.{Key}
-use Rattle.lwc_base.specs.declared.name.Name.{Name}
+use Rattle.lwc_types.specs.declared.key.Key.{Key}
+use Rattle.lwc_types.specs.declared.name.Name.{Name}
 use Rattle.lwc_text.specs.Report.{text_of}
 
 -- the machine with zero bytes in the own pages of these contexts

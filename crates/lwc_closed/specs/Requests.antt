@@ -4,8 +4,8 @@ use Rattle.confinement.specs.Fences.{Fence, StaysInside}
 use Rattle.kernel_core.specs.Machine.{Machine}
 use Rattle.kernel_core.specs.Step.{step}
 use Rattle.kernel_core.specs.declared.thread.Thread.{Thread}
-use Rattle.lwc_base.specs.declared.key.Key.{Key}
-use Rattle.lwc_base.specs.declared.name.Name.{Name}
+use Rattle.lwc_types.specs.declared.key.Key.{Key}
+use Rattle.lwc_types.specs.declared.name.Name.{Name}
 use Rattle.request_isolation.specs.Restored.{IsServed}
 
 -- a fence is over names of one job: so is what is inside, what is opened, and what may be seen to change

@@ -9,7 +9,7 @@ ghost use Rattle.kernel_core.specs.Runs.{run};
 ghost use Rattle.kernel_core.specs.Start.{Inputs, start};
 ghost use Rattle.kernel_core.specs.Step.{step};
 ghost use Rattle.kernel_core.specs.declared.settings.Job.TheVariants as jobs;
-ghost use Rattle.lwc_base.specs.declared.name.Name.{Name};
+ghost use Rattle.lwc_types.specs.declared.name.Name.{Name};
 ghost use Rattle.lwc_closed.specs.Bytes.{IsAnother, IsShutOff, LearnNothing};
 ghost use Rattle.lwc_closed.specs.Requests.{IsOver, StayInsideOrServeOthers};
 

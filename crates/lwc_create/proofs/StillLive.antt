@@ -1,12 +1,12 @@
 -- A context that lives still does once another has been made.
 use Rattle.std.proofs.Common.{◌≡◌, ◌∙◌, ℕ, true, List, ap}
 use Rattle.lwc_base.specs.declared.item.Item.{Item}
-use Rattle.lwc_base.specs.declared.name.Name.{Name}
-use Rattle.lwc_base.specs.declared.regs.Regs.{Regs}
 use Rattle.lwc_base.specs.Sharing.{clone_context, share}
 use Rattle.lwc_base.specs.World.{World, is_live, next_context}
 use Rattle.lwc_base.proofs.Facts.{changes}
-use Rattle.lwc_base.proofs.Orders.{cases_name}
+use Rattle.lwc_types.specs.declared.name.Name.{Name}
+use Rattle.lwc_types.specs.declared.regs.Regs.{Regs}
+use Rattle.lwc_types.proofs.Orders.{cases_name}
 
 module _ (w : World) (c : Name) (job : ℕ) (items : List Item) (entry : Regs) (q : Name) where
   -- a context still lives once another is made of one

@@ -8,11 +8,6 @@ use Rattle.lwc_base.specs.declared.answer.Answer.{Answer}
 use Rattle.lwc_base.specs.declared.answer.Answer.TheVariants.{Done, Refused}
 use Rattle.lwc_base.specs.declared.descriptor.Descriptor.TheVariants.{Ctx}
 use Rattle.lwc_base.specs.declared.item.Item.{Item}
-use Rattle.lwc_base.specs.declared.name.Name.{Name}
-use Rattle.lwc_base.specs.declared.limits.TheConstants.{MOST_CONTEXTS_OF_JOB, MOST_GROUPS_OF_JOB}
-use Rattle.lwc_base.specs.declared.refusal.Refusal.{Refusal}
-use Rattle.lwc_base.specs.declared.refusal.Refusal.TheVariants.{TooManyContexts, NoSlot, TooManyGroups, TooManyRanges}
-use Rattle.lwc_base.specs.declared.regs.Regs.{Regs}
 use Rattle.lwc_base.specs.Capabilities.{full_cap}
 use Rattle.lwc_base.specs.Cells.{put_slot}
 use Rattle.lwc_base.specs.Modes.{IsSpec}
@@ -20,6 +15,11 @@ use Rattle.lwc_base.specs.Refusals.{first_refusal}
 use Rattle.lwc_base.specs.Sharing.{clone_context, needs_group, ranges_after_clone}
 use Rattle.lwc_base.specs.Slots.{lowest_empty}
 use Rattle.lwc_base.specs.World.{World, groups_of, live_of, next_context}
+use Rattle.lwc_types.specs.declared.name.Name.{Name}
+use Rattle.lwc_types.specs.declared.limits.TheConstants.{MOST_CONTEXTS_OF_JOB, MOST_GROUPS_OF_JOB}
+use Rattle.lwc_types.specs.declared.refusal.Refusal.{Refusal}
+use Rattle.lwc_types.specs.declared.refusal.Refusal.TheVariants.{TooManyContexts, NoSlot, TooManyGroups, TooManyRanges}
+use Rattle.lwc_types.specs.declared.regs.Regs.{Regs}
 use Rattle.res_spec.specs.declared.items.SpecCall.TheVariants.{Create}
 use Rattle.world_face.specs.Calls.{AreFew, HasGroupPlace, HasPlace}
 

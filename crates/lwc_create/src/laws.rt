@@ -4,9 +4,9 @@ ghost use Rattle.lwc_base.specs.Refusals.{first_refusal};
 ghost use Rattle.lwc_base.specs.Sharing.{needs_group};
 ghost use Rattle.lwc_base.specs.Slots.{lowest_empty};
 ghost use Rattle.lwc_base.specs.World.{World, groups_of, live_of};
-ghost use Rattle.lwc_base.specs.declared.limits.TheConstants.{MOST_CONTEXTS_OF_JOB, MOST_GROUPS_OF_JOB};
-ghost use Rattle.lwc_base.specs.declared.name.Name.{Name};
-ghost use Rattle.lwc_base.specs.declared.regs.Regs.{Regs};
+ghost use Rattle.lwc_types.specs.declared.limits.TheConstants.{MOST_CONTEXTS_OF_JOB, MOST_GROUPS_OF_JOB};
+ghost use Rattle.lwc_types.specs.declared.name.Name.{Name};
+ghost use Rattle.lwc_types.specs.declared.regs.Regs.{Regs};
 ghost use Rattle.lwc_create.specs.Create.{items_of, refusals};
 
 /// Where no refusal holds, the items that the caller asks for are a specifier, the job may have one more

@@ -12,10 +12,10 @@ use Rattle.std.proofs.lemmas.Option.{get_or_from_slice_get, slice_get_past, slic
 use Rattle.kernel_core.specs.Kernel.{view_of}
 use Rattle.kernel_core.specs.Machine.{Machine}
 use Rattle.kernel_core.specs.declared.thread.Thread.{Thread}
-use Rattle.lwc_base.proofs.Orders.{other_name}
-use Rattle.lwc_base.specs.Names.{name_cmp}
 use Rattle.lwc_base.specs.World.{World, is_live}
-use Rattle.lwc_base.specs.declared.name.Name.{Name}
+use Rattle.lwc_types.proofs.Orders.{other_name}
+use Rattle.lwc_types.specs.Names.{name_cmp}
+use Rattle.lwc_types.specs.declared.name.Name.{Name}
 use Rattle.lwc_text.proofs.Machines.{is_named, lives}
 
 -- names are one where their parts are, and else they differ

@@ -8,9 +8,9 @@ use Rattle.std.specs.List.{after_first, cons_option, filter_map, range_with_len}
 use Rattle.std.specs.Option.{option_map}
 use Rattle.std.specs.Prelude.{is_some}
 use Rattle.std.specs.Str.Lines.{lines}
-use Rattle.lwc_base.specs.Outcomes.{Fails, IsFound, unless_refused}
-use Rattle.lwc_base.specs.declared.reading.ReadError.{ReadError}
-use Rattle.lwc_base.specs.declared.reading.ReadError.TheVariants as errors
+use Rattle.lwc_types.specs.Outcomes.{Fails, IsFound, unless_refused}
+use Rattle.lwc_types.specs.declared.reading.ReadError.{ReadError}
+use Rattle.lwc_types.specs.declared.reading.ReadError.TheVariants as errors
 use Rattle.lwc_debug.specs.declared.command.Command.{Command}
 use Rattle.lwc_debug.specs.declared.command.TheConstants.{MOST_COMMANDS}
 use Rattle.lwc_debug.specs.declared.script.TheConstants.{MOST_SCRIPT_BYTES}

@@ -3,7 +3,7 @@ pub use Rattle.kernel_core.specs.Kernel
 pub use Rattle.kernel_core.specs.Machine
 pub use Rattle.kernel_core.specs.Runs
 pub use Rattle.kernel_core.specs.Start
-pub use Rattle.lwc_base.specs.Outcomes
+pub use Rattle.lwc_types.specs.Outcomes
 pub use Rattle.lwc_base.specs.World
 pub mod Scripts
 pub mod Telling

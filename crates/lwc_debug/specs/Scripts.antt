@@ -5,8 +5,8 @@ use Rattle.std.specs.Prelude.{Result, Ok, Err}
 use Rattle.std.specs.List.{after_first, before_first, filter_map, range_with_len}
 use Rattle.std.specs.Option.{option_and_then, option_map}
 use Rattle.std.specs.Str.Lines.{lines}
-use Rattle.lwc_base.specs.Outcomes.{Refusal, unless_refused}
-use Rattle.lwc_base.specs.declared.name.Name.{Name}
+use Rattle.lwc_types.specs.Outcomes.{Refusal, unless_refused}
+use Rattle.lwc_types.specs.declared.name.Name.{Name}
 use Rattle.lwc_text.specs.Numbers.{number_of}
 use Rattle.lwc_text.specs.Requests.{after_lines}
 use Rattle.lwc_text.specs.Schedules.{refusal_of}

@@ -3,13 +3,13 @@
 ghost use Rattle.std.specs.Prelude.{◌≡◌, ◌++◌, ◌*◌, ◌≤◌, if◌then◌else◌, IfOk, OnErr, OnOk, codes};
 ghost use Rattle.std.specs.Prelude.{nat_lt, string_bytes};
 ghost use Rattle.std.specs.Option.{option_map_or};
-ghost use Rattle.lwc_base.specs.declared.descriptor.TheConstants.{SLOTS};
-ghost use Rattle.lwc_base.specs.declared.page.TheConstants.{PAGE_BYTES};
 ghost use Rattle.lwc_base.specs.Cells.{slot_at};
 ghost use Rattle.lwc_base.specs.Lending.{descriptor_of};
 ghost use Rattle.lwc_base.specs.Memory.{load};
 ghost use Rattle.lwc_base.specs.Summaries.{summary_of};
 ghost use Rattle.lwc_base.specs.World.{is_live};
+ghost use Rattle.lwc_types.specs.declared.key.TheConstants.{SLOTS};
+ghost use Rattle.lwc_types.specs.declared.page.TheConstants.{PAGE_BYTES};
 ghost use Rattle.kernel_core.specs.Kernel.{machine_of, view_of};
 ghost use Rattle.lwc_text.specs.Lines as lines;
 ghost use Rattle.lwc_debug.specs.Transcript as spec;

@@ -13,7 +13,7 @@ ghost use Rattle.kernel_core.specs.Runs.{kept};
 ghost use Rattle.kernel_core.specs.Settings.{IsSettings};
 ghost use Rattle.kernel_core.specs.Start.{start, thread_count};
 ghost use Rattle.kernel_core.specs.declared.settings.Job.TheVariants as jobs;
-ghost use Rattle.lwc_base.specs.declared.limits.TheConstants.{MOST_STEPS};
+ghost use Rattle.lwc_types.specs.declared.limits.TheConstants.{MOST_STEPS};
 ghost use Rattle.lwc_debug.specs.Telling as telling;
 ghost use Rattle.lwc_debug.specs.Telling.{told_by, told_here};
 ghost use Rattle.lwc_debug.specs.Transcript.{inputs_of, transcript, transcript_of_schedule};

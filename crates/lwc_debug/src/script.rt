@@ -4,8 +4,8 @@ ghost use Rattle.std.specs.Prelude.{◌≡◌, ◌≤◌, ◌∷◌, ◌++◌, �
 ghost use Rattle.std.specs.Prelude.{length};
 ghost use Rattle.std.specs.List.{after_first, before_first, filter_map, position_or_len};
 ghost use Rattle.std.specs.Option.{option_map};
-ghost use Rattle.lwc_base.specs.Outcomes.{Answers, Fails, IsFound, unless_refused};
-ghost use Rattle.lwc_base.specs.declared.reading.ReadError.TheVariants.{OutOfMemory};
+ghost use Rattle.lwc_types.specs.Outcomes.{Answers, Fails, IsFound, unless_refused};
+ghost use Rattle.lwc_types.specs.declared.reading.ReadError.TheVariants.{OutOfMemory};
 ghost use Rattle.lwc_text.specs.Schedules.{refusal_of};
 ghost use Rattle.lwc_debug.specs.declared.command.Command as commands;
 ghost use Rattle.lwc_debug.specs.declared.command.TheConstants.{MOST_COMMANDS};

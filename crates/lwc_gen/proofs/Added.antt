@@ -3,7 +3,7 @@ use Rattle.std.proofs.Common.{◌≡◌, ◌+◌, ◌*◌, ◌/◌, ◌%◌, ◌
 use Rattle.std.specs.List.{sum_by}
 use Rattle.std.proofs.Math.Nat.{add-mul-mod_self_right, mod-add-div'}
 use Rattle.std.proofs.lemmas.List.Sums.{sum_by_push}
-use Rattle.lwc_base.specs.declared.fault.ThreadStatus.{ThreadStatus}
+use Rattle.lwc_types.specs.declared.fault.ThreadStatus.{ThreadStatus}
 use Rattle.lwc_gen.specs.Summary.{Reply, first_word, is_done, second_word, totals_of}
 use Rattle.lwc_gen.specs.declared.totals.Totals.{Totals}
 

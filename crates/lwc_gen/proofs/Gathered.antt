@@ -5,7 +5,7 @@ use Rattle.std.proofs.lemmas.List.FromFn.{map-range_with_len_more}
 use Rattle.kernel_core.specs.Machine.{Machine, reply_of}
 use Rattle.lwc_gen.specs.Summary.{Reply, recorded_reply, totals_of}
 use Rattle.lwc_gen.specs.declared.totals.Totals.{Totals}
-use Rattle.lwc_base.specs.declared.fault.ThreadStatus.{ThreadStatus}
+use Rattle.lwc_types.specs.declared.fault.ThreadStatus.{ThreadStatus}
 use Rattle.snapshot_host.specs.declared.finishing.Finished.{Finished}
 
 -- the replies to the requests before one

@@ -9,12 +9,12 @@ use Rattle.guest_image.specs.Numbers.{ranges, ranges_after, rising_after}
 use Rattle.guest_image.specs.declared.image.Form.TheVariants.{One}
 use Rattle.guest_image.specs.declared.image.PageImage.{PageImage}
 use Rattle.guest_isa.specs.Instructions.{IsText, is_instruction}
-use Rattle.lwc_base.specs.Pages.{zero_bytes}
-use Rattle.lwc_base.specs.declared.limits.TheConstants.{PAGES_OF_FORM_ONE}
-use Rattle.lwc_base.specs.declared.page.TheConstants.{PAGE_BYTES}
+use Rattle.lwc_types.specs.Pages.{zero_bytes}
+use Rattle.lwc_types.specs.declared.limits.TheConstants.{PAGES_OF_FORM_ONE}
+use Rattle.lwc_types.specs.declared.page.TheConstants.{PAGE_BYTES}
 use Rattle.lwc_gen.specs.Generated.{handler, numbered_page, server}
 use Rattle.lwc_gen.specs.declared.generating.TheConstants.{PAGES}
-use Rattle.lwc_base.proofs.Small.{both-true}
+use Rattle.lwc_types.proofs.Small.{both-true}
 
 -- whether each element passes a test
 each : {A : Type 0} → (A → Bool) → List A → Bool

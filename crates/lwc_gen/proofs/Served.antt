@@ -6,7 +6,7 @@ use Rattle.std.proofs.lemmas.List.FromFn.{get_or-map-range_with_len, length-map-
 use Rattle.kernel_core.specs.Kernel.{CanOpen}
 use Rattle.kernel_core.specs.Machine.{work}
 use Rattle.kernel_core.specs.Start.{start}
-use Rattle.lwc_base.specs.declared.limits.TheConstants.{MOST_REQUEST_BYTES, MOST_STEPS}
+use Rattle.lwc_types.specs.declared.limits.TheConstants.{MOST_REQUEST_BYTES, MOST_STEPS}
 use Rattle.lwc_gen.proofs.Images.{server_is_image}
 use Rattle.lwc_gen.specs.Generated.{generated, numbered_page, requests_of}
 use Rattle.lwc_gen.specs.declared.generating.TheConstants.{PAGES, REQUESTS_FOR_EACH, SETTINGS}

@@ -9,8 +9,8 @@ use Rattle.guest_isa.specs.declared.instr.Instr.{Instr}
 use Rattle.guest_isa.specs.declared.op.Op.{Op}
 use Rattle.guest_isa.specs.declared.op.Op.TheVariants.{Add, Addi, Halt, Ldw, Li, Mov, Mul, Remu, Stw, Sys}
 use Rattle.kernel_core.specs.Start.{Inputs}
-use Rattle.lwc_base.specs.Pages.{zero_bytes}
-use Rattle.lwc_base.specs.declared.page.TheConstants.{PAGE_BYTES}
+use Rattle.lwc_types.specs.Pages.{zero_bytes}
+use Rattle.lwc_types.specs.declared.page.TheConstants.{PAGE_BYTES}
 use Rattle.lwc_gen.specs.declared.generating.TheConstants.{PAGES, REQUESTS_FOR_EACH, SETTINGS}
 
 -- an instruction: its operation, the registers rd, ra and rb, and the number

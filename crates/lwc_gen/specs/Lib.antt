@@ -4,6 +4,6 @@ pub use Rattle.kernel_core.specs.Kernel
 pub use Rattle.kernel_core.specs.Machine
 pub use Rattle.kernel_core.specs.Runs
 pub use Rattle.kernel_core.specs.Start
-pub use Rattle.lwc_base.specs.Pages
+pub use Rattle.lwc_types.specs.Pages
 pub mod Generated
 pub mod Summary

@@ -6,8 +6,8 @@ use Rattle.std.specs.List.{range_with_len, sum_by}
 use Rattle.kernel_core.specs.Machine.{Machine, reply_of}
 use Rattle.kernel_core.specs.Runs.{run}
 use Rattle.kernel_core.specs.Start.{Inputs, start}
-use Rattle.lwc_base.specs.declared.fault.ThreadStatus.{ThreadStatus}
-use Rattle.lwc_base.specs.declared.fault.ThreadStatus.TheVariants.{Idle, Running, Done, Faulted}
+use Rattle.lwc_types.specs.declared.fault.ThreadStatus.{ThreadStatus}
+use Rattle.lwc_types.specs.declared.fault.ThreadStatus.TheVariants.{Idle, Running, Done, Faulted}
 use Rattle.lwc_gen.specs.declared.totals.Totals.{Totals}
 use Rattle.snapshot_host.specs.declared.finishing.Finished.{Finished}
 

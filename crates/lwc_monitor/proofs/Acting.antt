@@ -19,8 +19,8 @@ use Rattle.lwc_base.specs.Rights.{is_writable}
 use Rattle.lwc_base.specs.Slots.{lowest_empty}
 use Rattle.lwc_base.specs.Store.{Absent, Done, Full, Piece, ReadOnly, after_store, parting_count, store}
 use Rattle.lwc_base.specs.World.{is_live}
-use Rattle.lwc_base.specs.declared.name.Name.{Name}
-use Rattle.lwc_base.specs.declared.page.TheConstants.{PAGE_BYTES}
+use Rattle.lwc_types.specs.declared.name.Name.{Name}
+use Rattle.lwc_types.specs.declared.page.TheConstants.{PAGE_BYTES}
 use Rattle.lwc_monitor.proofs.Leaving.{free-leaves, leaves-itself, stored-leaves, trapped-leaves}
 use Rattle.lwc_monitor.specs.Calls.{by_monitor, calls_under, is_forbidden, trapped_outcome, trapped_to}
 use Rattle.lwc_monitor.specs.Guards.{AreGuarded, LeavesToMonitors}

@@ -5,10 +5,10 @@ use Rattle.std.specs.Prelude.{T, is_some}
 use Rattle.std.specs.FinMap as fm
 use Rattle.std.specs.FinMap.Entries.{below_all, find, find-where_key, is_sorted, is_sorted-where_key, length_without, where_key}
 use Rattle.std.specs.Ordering.{eq_by_cmp}
-use Rattle.lwc_base.specs.Names.{name_cmp}
 use Rattle.lwc_base.specs.World.{World, is_live}
-use Rattle.lwc_base.specs.declared.name.Name.{Name}
-use Rattle.lwc_base.proofs.Orders.{name-itself, name_cmp-IsAntisymmetric, name_cmp-total, same_name}
+use Rattle.lwc_types.specs.Names.{name_cmp}
+use Rattle.lwc_types.specs.declared.name.Name.{Name}
+use Rattle.lwc_types.proofs.Orders.{name-itself, name_cmp-IsAntisymmetric, name_cmp-total, same_name}
 use Rattle.lwc_monitor.specs.Traps.{Traps}
 
 -- a key below all others is not found among them

@@ -11,9 +11,7 @@ use Rattle.guest_call.specs.Guest.{descriptor_for, link_of}
 use Rattle.kernel_core.specs.Machine.{Environment}
 use Rattle.kernel_core.specs.declared.thread.Thread.{Thread}
 use Rattle.lwc_base.proofs.Caps.{some_below}
-use Rattle.lwc_base.proofs.Orders.{cases_name, name-itself, name_cmp-IsAntisymmetric, name_cmp-total, other_name}
 use Rattle.lwc_base.proofs.Reaped.{any_value}
-use Rattle.lwc_base.specs.Names.{name_cmp}
 use Rattle.lwc_base.specs.Refusals.{first_refusal}
 use Rattle.lwc_base.specs.Summaries.{is_empty}
 use Rattle.lwc_base.specs.Capabilities.{empty_cap}
@@ -23,11 +21,13 @@ use Rattle.lwc_base.specs.declared.descriptor.Cap.{Cap}
 use Rattle.lwc_base.specs.declared.cell.Cell.{Cell}
 use Rattle.lwc_base.specs.declared.cell.Cell.TheVariants.{Common, Own}
 use Rattle.lwc_base.specs.declared.descriptor.Descriptor.{Descriptor}
-use Rattle.lwc_base.specs.declared.descriptor.TheConstants.{SLOTS}
-use Rattle.lwc_base.specs.declared.key.Key.TheVariants.{Slot}
-use Rattle.lwc_base.specs.declared.name.Name.{Name}
-use Rattle.lwc_base.specs.declared.refusal.Refusal.TheVariants.{BadFd, NotCovered, WrongKind}
-use Rattle.lwc_base.specs.declared.regs.Regs.{Regs}
+use Rattle.lwc_types.proofs.Orders.{cases_name, name-itself, name_cmp-IsAntisymmetric, name_cmp-total, other_name}
+use Rattle.lwc_types.specs.Names.{name_cmp}
+use Rattle.lwc_types.specs.declared.key.TheConstants.{SLOTS}
+use Rattle.lwc_types.specs.declared.key.Key.TheVariants.{Slot}
+use Rattle.lwc_types.specs.declared.name.Name.{Name}
+use Rattle.lwc_types.specs.declared.refusal.Refusal.TheVariants.{BadFd, NotCovered, WrongKind}
+use Rattle.lwc_types.specs.declared.regs.Regs.{Regs}
 use Rattle.lwc_monitor.specs.Calls.{by_monitor, calls_under, trapped_by, traps_after_call}
 use Rattle.lwc_monitor.specs.Guards.{AreGuarded, HasOwnSlots, LeavesToMonitors}
 use Rattle.lwc_monitor.specs.Traps.{Traps, has_common_slot, is_common, is_monitor, is_trapped, trap_rows}

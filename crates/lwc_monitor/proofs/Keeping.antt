@@ -20,10 +20,10 @@ use Rattle.kernel_core.specs.declared.thread.Thread.{Thread}
 use Rattle.lwc_base.proofs.Reaped.{context-kept}
 use Rattle.lwc_base.specs.Life.{reap}
 use Rattle.lwc_base.specs.World.{World, Context, is_live}
-use Rattle.lwc_base.specs.declared.fault.ThreadStatus.{ThreadStatus}
-use Rattle.lwc_base.specs.declared.fault.ThreadStatus.TheVariants as status
-use Rattle.lwc_base.specs.declared.key.Key.TheVariants.{Slot}
-use Rattle.lwc_base.specs.declared.name.Name.{Name}
+use Rattle.lwc_types.specs.declared.fault.ThreadStatus.{ThreadStatus}
+use Rattle.lwc_types.specs.declared.fault.ThreadStatus.TheVariants as status
+use Rattle.lwc_types.specs.declared.key.Key.TheVariants.{Slot}
+use Rattle.lwc_types.specs.declared.name.Name.{Name}
 use Rattle.lwc_monitor.proofs.Acting.{next-leaves}
 use Rattle.lwc_monitor.proofs.Guarding.{AreSafe, call-safe, kept-trap, kept-untrapped, other-safe}
 use Rattle.lwc_monitor.proofs.Tables.{acts_under}

@@ -15,12 +15,11 @@ use Rattle.lwc_base.specs.Channels.{Channels}
 use Rattle.lwc_base.specs.Summaries.{is_empty}
 use Rattle.lwc_base.proofs.Facts.{changes}
 use Rattle.lwc_base.proofs.Fresh.{next_context-new}
-use Rattle.lwc_base.proofs.Orders.{cases_name, same_name}
+use Rattle.lwc_types.proofs.Orders.{cases_name, same_name}
 use Rattle.lwc_syscall.proofs.Does.{does-one_thing}
 use Rattle.lwc_syscall.proofs.Only.{plain_only}
 use Rattle.lwc_base.specs.Memory.{is_present}
 use Rattle.lwc_base.specs.Rights.{is_writable}
-use Rattle.lwc_base.specs.Names.{name_cmp}
 use Rattle.lwc_base.specs.Frames.{used}
 use Rattle.lwc_base.specs.Refusals.{first_refusal}
 use Rattle.lwc_base.specs.Saved.{save}
@@ -29,13 +28,14 @@ use Rattle.lwc_base.specs.World.{World, is_live, next_context}
 use Rattle.lwc_base.specs.declared.descriptor.Cap.{Cap}
 use Rattle.lwc_base.specs.declared.descriptor.Descriptor.{Descriptor}
 use Rattle.lwc_base.specs.declared.descriptor.Descriptor.TheVariants.{Console, Ctx, Empty, File, Reply, Request}
-use Rattle.lwc_base.specs.declared.key.Key.TheVariants.{Slot}
-use Rattle.lwc_base.specs.declared.key.Kind.TheVariants as kinds
-use Rattle.lwc_base.specs.declared.name.Name.{Name}
 use Rattle.lwc_base.specs.Slots.{lowest_empty}
-use Rattle.lwc_base.specs.declared.refusal.Refusal.{Refusal}
-use Rattle.lwc_base.specs.declared.refusal.Refusal.TheVariants.{BadCall, BadFd, BadMode, NoSlotThere, NotCovered, WrongKind}
-use Rattle.lwc_base.specs.declared.regs.Regs.{Regs}
+use Rattle.lwc_types.specs.Names.{name_cmp}
+use Rattle.lwc_types.specs.declared.key.Key.TheVariants.{Slot}
+use Rattle.lwc_types.specs.declared.key.Kind.TheVariants as kinds
+use Rattle.lwc_types.specs.declared.name.Name.{Name}
+use Rattle.lwc_types.specs.declared.refusal.Refusal.{Refusal}
+use Rattle.lwc_types.specs.declared.refusal.Refusal.TheVariants.{BadCall, BadFd, BadMode, NoSlotThere, NotCovered, WrongKind}
+use Rattle.lwc_types.specs.declared.regs.Regs.{Regs}
 use Rattle.lwc_create.specs.Create as creating
 use Rattle.lwc_monitor.proofs.Slots.{apart_slots, own-put, own_after, same-clone, same-map, same-overlay, same-put, same-put_uid, same-save, same-store, same_itself, same_then}
 use Rattle.lwc_monitor.specs.Guards.{AreGuarded, HasOwnSlots, LeavesToMonitors, SameSlots}

@@ -14,10 +14,10 @@ use Rattle.lwc_base.specs.Store.{Done, Piece, after_store, put_pages, store, sto
 use Rattle.lwc_base.specs.World.{Context, World, change_context, change_counters, context, is_live}
 use Rattle.lwc_base.specs.declared.cell.Cell.{Cell}
 use Rattle.lwc_base.specs.declared.cell.Cell.TheVariants.{Own}
-use Rattle.lwc_base.specs.declared.key.Key.{Key}
-use Rattle.lwc_base.specs.declared.key.Key.TheVariants.{Page}
-use Rattle.lwc_base.specs.declared.name.Name.{Name}
-use Rattle.lwc_base.specs.declared.page.PageValue.{PageValue}
+use Rattle.lwc_types.specs.declared.key.Key.{Key}
+use Rattle.lwc_types.specs.declared.key.Key.TheVariants.{Page}
+use Rattle.lwc_types.specs.declared.name.Name.{Name}
+use Rattle.lwc_types.specs.declared.page.PageValue.{PageValue}
 use Rattle.lwc_monitor.specs.Contexts.{IsOwnPage, IsOwnValue}
 
 abbrev pub StaysOwn : Name → World → World → Name → Key → Type 0

@@ -10,9 +10,9 @@ use Rattle.std.specs.Option.{option_map}
 use Rattle.std.specs.Ordering.{eq_by_cmp, is_eq, is_gt, ordering_reverse}
 use Rattle.std.specs.declared.cmp.Ordering.{Ordering}
 use Rattle.std.specs.declared.cmp.Ordering.TheVariants.{Less, Equal, Greater}
-use Rattle.lwc_base.specs.declared.name.Name.{Name}
-use Rattle.lwc_base.specs.Names.{name_cmp}
-use Rattle.lwc_base.proofs.Orders.{cases_name, name-itself, name_cmp-IsAntisymmetric, name_cmp-total, other_name}
+use Rattle.lwc_types.specs.declared.name.Name.{Name}
+use Rattle.lwc_types.specs.Names.{name_cmp}
+use Rattle.lwc_types.proofs.Orders.{cases_name, name-itself, name_cmp-IsAntisymmetric, name_cmp-total, other_name}
 use Rattle.lwc_monitor.specs.Traps.{is_monitor}
 
 -- the test of the code: two names have the same job and number

@@ -16,12 +16,12 @@ use Rattle.kernel_core.specs.Runs.{frames_of, kept, peak, run}
 use Rattle.kernel_core.specs.Start.{Inputs, start}
 use Rattle.kernel_core.specs.Step.{Outcome, advance_outcome, after_outcome, after_thread, counted, guest_calls, next_outcome, settled, shared_outcome, step, step_by, thread_outcome, with_regs}
 use Rattle.kernel_core.specs.declared.thread.Thread.{Thread}
-use Rattle.lwc_base.specs.Names.{name_cmp}
 use Rattle.lwc_base.specs.Refusals.{first_refusal}
 use Rattle.lwc_base.specs.World.{World, is_live}
-use Rattle.lwc_base.specs.declared.fault.ThreadStatus.{ThreadStatus}
-use Rattle.lwc_base.specs.declared.fault.ThreadStatus.TheVariants as status
-use Rattle.lwc_base.specs.declared.name.Name.{Name}
+use Rattle.lwc_types.specs.Names.{name_cmp}
+use Rattle.lwc_types.specs.declared.fault.ThreadStatus.{ThreadStatus}
+use Rattle.lwc_types.specs.declared.fault.ThreadStatus.TheVariants as status
+use Rattle.lwc_types.specs.declared.name.Name.{Name}
 use Rattle.lwc_monitor.proofs.Guarding.{all-kept}
 use Rattle.lwc_monitor.proofs.Tables.{without_traps}
 use Rattle.lwc_monitor.specs.Calls.{calls_under, trapped_by, traps_after_call}

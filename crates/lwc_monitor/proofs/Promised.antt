@@ -6,9 +6,9 @@ use Rattle.kernel_core.specs.Kernel.{CanOpen}
 use Rattle.kernel_core.specs.Start.{Inputs, serve_at, start}
 use Rattle.kernel_core.specs.declared.settings.Job.{Job}
 use Rattle.kernel_core.specs.declared.settings.Job.TheVariants as job
-use Rattle.lwc_base.specs.Names.{name_cmp}
 use Rattle.lwc_base.specs.World.{World}
-use Rattle.lwc_base.specs.declared.name.Name.{Name}
+use Rattle.lwc_types.specs.Names.{name_cmp}
+use Rattle.lwc_types.specs.declared.name.Name.{Name}
 use Rattle.lwc_monitor.proofs.Keeping.{IsKept, kept-run, leaves-step}
 use Rattle.lwc_monitor.proofs.Plain.{plain_text}
 use Rattle.lwc_monitor.proofs.TrappedStepping.{leaves_contexts, trapped_step}

@@ -8,7 +8,7 @@ use Rattle.lwc_base.specs.Cells.{put_page, put_slot, put_uid, with_cell}
 use Rattle.lwc_base.specs.Clones.{AreApart}
 use Rattle.lwc_base.specs.Facts.{ChangesContext}
 use Rattle.lwc_base.proofs.Facts.{changes}
-use Rattle.lwc_base.proofs.Orders.{cases_name}
+use Rattle.lwc_types.proofs.Orders.{cases_name}
 use Rattle.guest_call.proofs.Changes.{putting, saving}
 use Rattle.lwc_base.specs.Mapping.{map_pages, mapped_or_not, unmap_pages, with_zeros, without_pages}
 use Rattle.lwc_base.specs.Memory.{touched}
@@ -22,16 +22,16 @@ use Rattle.lwc_base.specs.World.{World, Context, change_counters, context, is_li
 use Rattle.lwc_base.specs.declared.cell.Cell.{Cell}
 use Rattle.lwc_base.specs.declared.cell.Cell.TheVariants.{Own, Common}
 use Rattle.lwc_base.specs.declared.descriptor.Descriptor.{Descriptor}
-use Rattle.lwc_base.specs.declared.descriptor.TheConstants.{SLOTS}
 use Rattle.lwc_base.specs.declared.item.Item.{Item}
 use Rattle.lwc_base.specs.declared.item.Mode.{Mode}
 use Rattle.lwc_base.specs.declared.item.Mode.TheVariants.{Copy, CopyRead, Share, Unmap}
-use Rattle.lwc_base.specs.declared.key.Key.{Key}
-use Rattle.lwc_base.specs.declared.key.Key.TheVariants.{Page, Slot, Cred}
-use Rattle.lwc_base.specs.declared.key.Kind.TheVariants as kinds
-use Rattle.lwc_base.specs.declared.name.Name.{Name}
-use Rattle.lwc_base.specs.declared.page.PageValue.{PageValue}
-use Rattle.lwc_base.specs.declared.regs.Regs.{Regs}
+use Rattle.lwc_types.specs.declared.key.TheConstants.{SLOTS}
+use Rattle.lwc_types.specs.declared.key.Key.{Key}
+use Rattle.lwc_types.specs.declared.key.Key.TheVariants.{Page, Slot, Cred}
+use Rattle.lwc_types.specs.declared.key.Kind.TheVariants as kinds
+use Rattle.lwc_types.specs.declared.name.Name.{Name}
+use Rattle.lwc_types.specs.declared.page.PageValue.{PageValue}
+use Rattle.lwc_types.specs.declared.regs.Regs.{Regs}
 use Rattle.lwc_monitor.specs.Guards.{HasOwnSlots, SameSlots}
 use Rattle.lwc_monitor.specs.Traps.{is_share, shares_slots}
 

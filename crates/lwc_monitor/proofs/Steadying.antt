@@ -37,11 +37,11 @@ use Rattle.lwc_base.specs.Channels.{Channels}
 use Rattle.lwc_base.specs.Frames.{used}
 use Rattle.lwc_base.specs.Life.{IsReaped, reap}
 use Rattle.lwc_base.specs.World.{World, is_live}
-use Rattle.lwc_base.specs.declared.fault.ThreadStatus.{ThreadStatus}
-use Rattle.lwc_base.specs.declared.fault.ThreadStatus.TheVariants as status
-use Rattle.lwc_base.specs.declared.limits.TheConstants.{MOST_CONTEXTS, MOST_STEPS}
-use Rattle.lwc_base.specs.declared.name.Name.{Name}
-use Rattle.lwc_base.specs.declared.size.WorldSize.{WorldSize}
+use Rattle.lwc_types.specs.declared.fault.ThreadStatus.{ThreadStatus}
+use Rattle.lwc_types.specs.declared.fault.ThreadStatus.TheVariants as status
+use Rattle.lwc_types.specs.declared.limits.TheConstants.{MOST_CONTEXTS, MOST_STEPS}
+use Rattle.lwc_types.specs.declared.name.Name.{Name}
+use Rattle.lwc_types.specs.declared.size.WorldSize.{WorldSize}
 use Rattle.lwc_monitor.proofs.Few.{few_traps}
 use Rattle.lwc_monitor.proofs.Guarding.{all-kept, trapped-live}
 use Rattle.lwc_monitor.proofs.Keeping.{IsKept, leaves-step}

@@ -25,12 +25,12 @@ use Rattle.lwc_base.specs.Sound.{IsSound}
 use Rattle.lwc_base.specs.World.{World, context, is_live}
 use Rattle.lwc_base.specs.declared.cell.Cell.TheVariants.{Common, Own}
 use Rattle.lwc_base.specs.declared.descriptor.Descriptor.TheVariants.{Ctx, Empty}
-use Rattle.lwc_base.specs.declared.descriptor.TheConstants.{SLOTS}
-use Rattle.lwc_base.specs.declared.key.Key.{Key}
-use Rattle.lwc_base.specs.declared.key.Key.TheVariants.{Slot}
-use Rattle.lwc_base.specs.declared.name.Name.{Name}
-use Rattle.lwc_base.specs.declared.regs.Regs.{Regs}
-use Rattle.lwc_base.specs.declared.right.Right.{Right}
+use Rattle.lwc_types.specs.declared.key.TheConstants.{SLOTS}
+use Rattle.lwc_types.specs.declared.key.Key.{Key}
+use Rattle.lwc_types.specs.declared.key.Key.TheVariants.{Slot}
+use Rattle.lwc_types.specs.declared.name.Name.{Name}
+use Rattle.lwc_types.specs.declared.regs.Regs.{Regs}
+use Rattle.lwc_types.specs.declared.right.Right.{Right}
 use Rattle.lwc_monitor.specs.Contexts.{LeavesRegisters}
 
 module _ (m after : Machine) (t : ℕ) (x : Thread) (regs : Regs) (d : Name) (slot : ℕ) (sound : IsSound (world_of m)) (lives : is_live (world_of m) d ≡ true) (within : slot < SLOTS)

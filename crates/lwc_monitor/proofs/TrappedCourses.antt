@@ -16,9 +16,9 @@ use Rattle.lwc_base.specs.Refusals.{first_refusal}
 use Rattle.lwc_base.specs.Slots.{lowest_empty}
 use Rattle.lwc_base.specs.Store.{Absent, Done, Full, Piece, ReadOnly, Stored, store}
 use Rattle.lwc_base.specs.World.{World, is_live}
-use Rattle.lwc_base.specs.declared.page.TheConstants.{PAGE_BYTES}
+use Rattle.lwc_types.specs.declared.page.TheConstants.{PAGE_BYTES}
 use Rattle.lwc_syscall.specs.Plain.{plain}
-use Rattle.lwc_base.specs.declared.name.Name.{Name}
+use Rattle.lwc_types.specs.declared.name.Name.{Name}
 use Rattle.lwc_monitor.proofs.Guarding.{fresh-trap}
 use Rattle.lwc_overlay.specs.Named.{link}
 use Rattle.lwc_monitor.specs.Calls.{by_monitor, calls_under, is_forbidden, refused_by, trapped_by, trapped_outcome, trapped_to, trapping, traps_after_call}

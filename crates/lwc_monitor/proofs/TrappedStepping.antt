@@ -24,13 +24,13 @@ use Rattle.lwc_base.specs.Cells.{slot_at, value_at}
 use Rattle.lwc_base.specs.Rights.{right_at}
 use Rattle.lwc_base.specs.Slots.{lowest_empty}
 use Rattle.lwc_base.specs.Store.{Done, Piece, store}
-use Rattle.lwc_base.specs.declared.key.Key.TheVariants.{Page}
 use Rattle.lwc_base.specs.Life as life
 use Rattle.lwc_base.specs.Life.{IsReaped}
 use Rattle.lwc_base.specs.World.{World, context, is_live}
-use Rattle.lwc_base.specs.declared.fault.ThreadStatus.{ThreadStatus}
-use Rattle.lwc_base.specs.declared.fault.ThreadStatus.TheVariants as status
-use Rattle.lwc_base.specs.declared.name.Name.{Name}
+use Rattle.lwc_types.specs.declared.key.Key.TheVariants.{Page}
+use Rattle.lwc_types.specs.declared.fault.ThreadStatus.{ThreadStatus}
+use Rattle.lwc_types.specs.declared.fault.ThreadStatus.TheVariants as status
+use Rattle.lwc_types.specs.declared.name.Name.{Name}
 use Rattle.lwc_monitor.proofs.Keeping.{IsKept}
 use Rattle.lwc_monitor.proofs.Guarding.{all-kept, trapped-live}
 use Rattle.lwc_monitor.proofs.OwnPages.{StaysOwn, store_stays}

@@ -6,13 +6,13 @@ use Rattle.kernel_core.specs.Machine.{Environment}
 use Rattle.kernel_core.specs.Step.{Calls, Outcome, guest_calls, refused, unchanged, with_regs, with_result, with_world}
 use Rattle.kernel_core.specs.declared.calling.TheConstants.{LW_OVERLAY, LW_SWITCH, LW_SYSCALL}
 use Rattle.kernel_core.specs.declared.thread.Thread.{Thread}
-use Rattle.lwc_base.specs.Faults.{refusal_number}
 use Rattle.lwc_base.specs.Refusals.{first_refusal}
 use Rattle.lwc_base.specs.Slots.{lowest_empty}
 use Rattle.lwc_base.specs.World.{World, is_live}
-use Rattle.lwc_base.specs.declared.name.Name.{Name}
-use Rattle.lwc_base.specs.declared.refusal.Refusal.TheVariants.{NoSlotThere}
-use Rattle.lwc_base.specs.declared.regs.Regs.{Regs}
+use Rattle.lwc_types.specs.Faults.{refusal_number}
+use Rattle.lwc_types.specs.declared.name.Name.{Name}
+use Rattle.lwc_types.specs.declared.refusal.Refusal.TheVariants.{NoSlotThere}
+use Rattle.lwc_types.specs.declared.regs.Regs.{Regs}
 use Rattle.lwc_monitor.specs.Traps.{Traps, forbids_overlay, is_trapped, names_anothers, trap_rows}
 use Rattle.lwc_monitor.specs.declared.numbers.TheConstants.{EXIT, LW_TRAP, NOT_FRESH, TRAPPED}
 use Rattle.lwc_monitor.specs.declared.trapping.TrapRefusal.{TrapRefusal}

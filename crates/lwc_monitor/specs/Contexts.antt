@@ -16,10 +16,10 @@ use Rattle.lwc_base.specs.Rights.{right_at}
 use Rattle.lwc_base.specs.World.{context, is_live}
 use Rattle.lwc_base.specs.declared.cell.Cell.{Cell}
 use Rattle.lwc_base.specs.declared.cell.Cell.TheVariants.{Own}
-use Rattle.lwc_base.specs.declared.key.Key.{Key}
-use Rattle.lwc_base.specs.declared.key.Key.TheVariants.{Cred, Page, Slot}
-use Rattle.lwc_base.specs.declared.name.Name.{Name}
-use Rattle.lwc_base.specs.declared.page.PageValue.{PageValue}
+use Rattle.lwc_types.specs.declared.key.Key.{Key}
+use Rattle.lwc_types.specs.declared.key.Key.TheVariants.{Cred, Page, Slot}
+use Rattle.lwc_types.specs.declared.name.Name.{Name}
+use Rattle.lwc_types.specs.declared.page.PageValue.{PageValue}
 use Rattle.lwc_monitor.specs.Steps.{Monitored, call_of}
 use Rattle.lwc_monitor.specs.Traps.{is_trapped, trap_rows}
 use Rattle.lwc_overlay.specs.Named.{link}

@@ -7,7 +7,7 @@ use Rattle.kernel_core.specs.Step.{Calls, Outcome, guest_calls, next_outcome, un
 use Rattle.kernel_core.specs.declared.thread.Thread.{Thread}
 use Rattle.lwc_base.specs.Slots.{lowest_empty}
 use Rattle.lwc_base.specs.World.{World, is_live}
-use Rattle.lwc_base.specs.declared.name.Name.{Name}
+use Rattle.lwc_types.specs.declared.name.Name.{Name}
 use Rattle.lwc_monitor.specs.Calls.{reporting, with_answer}
 use Rattle.lwc_monitor.specs.Traps.{Traps, is_trapped}
 use Rattle.lwc_monitor.specs.declared.ruling.Ruling.{Ruling}

@@ -5,7 +5,7 @@ use Rattle.kernel_core.specs.Kernel.{CanOpen, History, turn_of}
 use Rattle.kernel_core.specs.Machine.{is_ended}
 use Rattle.kernel_core.specs.declared.settings.Job.TheVariants as job
 use Rattle.kernel_core.specs.declared.thread.Turn.{Turn}
-use Rattle.lwc_base.specs.declared.limits.TheConstants.{MOST_STEPS}
+use Rattle.lwc_types.specs.declared.limits.TheConstants.{MOST_STEPS}
 use Rattle.lwc_monitor.specs.Reports.{begun}
 use Rattle.lwc_monitor.specs.Steps.{Monitored, peak_under, run_under}
 

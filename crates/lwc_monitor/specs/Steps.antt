@@ -13,8 +13,8 @@ use Rattle.kernel_core.specs.Runs.{frames_of}
 use Rattle.kernel_core.specs.Step.{step_by}
 use Rattle.kernel_core.specs.declared.thread.Thread.{Thread}
 use Rattle.lwc_base.specs.World.{is_live}
-use Rattle.lwc_base.specs.declared.fault.ThreadStatus.{ThreadStatus}
-use Rattle.lwc_base.specs.declared.fault.ThreadStatus.TheVariants as status
+use Rattle.lwc_types.specs.declared.fault.ThreadStatus.{ThreadStatus}
+use Rattle.lwc_types.specs.declared.fault.ThreadStatus.TheVariants as status
 use Rattle.lwc_monitor.specs.Calls.{calls_under, traps_after_call}
 use Rattle.lwc_monitor.specs.Traps.{Traps}
 

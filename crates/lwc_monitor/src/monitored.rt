@@ -8,7 +8,7 @@ ghost use Rattle.kernel_core.specs.Machine.{is_ended};
 ghost use Rattle.kernel_core.specs.Settings.{IsSettings};
 ghost use Rattle.kernel_core.specs.Start.{thread_count};
 ghost use Rattle.lwc_base.specs.World as worlds;
-ghost use Rattle.lwc_base.specs.declared.limits.TheConstants.{MOST_STEPS};
+ghost use Rattle.lwc_types.specs.declared.limits.TheConstants.{MOST_STEPS};
 ghost use Rattle.lwc_monitor.specs.Promises.{LeavesEachTrapped};
 ghost use Rattle.lwc_monitor.specs.Reports.{inputs_of, report_after_under, traps_text};
 ghost use Rattle.lwc_monitor.specs.Steady as spec;

@@ -1,7 +1,7 @@
 ghost use Rattle.std.specs.Prelude.{◌≡◌, ◌<◌, ◌≤◌, [], All, IfOk, OnOk, length};
 ghost use Rattle.kernel_core.specs.Kernel.{CanOpen};
 ghost use Rattle.kernel_core.specs.Start.{thread_count};
-ghost use Rattle.lwc_base.specs.declared.limits.TheConstants.{MOST_STEPS};
+ghost use Rattle.lwc_types.specs.declared.limits.TheConstants.{MOST_STEPS};
 ghost use Rattle.lwc_monitor.specs.Reports.{begun, inputs_of, monitored_text};
 ghost use Rattle.lwc_monitor.specs.Steps.{kept_under};
 

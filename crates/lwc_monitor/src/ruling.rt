@@ -6,7 +6,7 @@ ghost use Rattle.kernel_core.specs.declared.thread.Thread as threads;
 ghost use Rattle.lwc_base.specs.Channels.{Channels};
 ghost use Rattle.lwc_base.specs.Life.{HasItsContexts};
 ghost use Rattle.lwc_base.specs.Refusals.{first_refusal};
-ghost use Rattle.lwc_base.specs.declared.name.Name as names;
+ghost use Rattle.lwc_types.specs.declared.name.Name as names;
 ghost use Rattle.lwc_monitor.specs.Calls as calls;
 ghost use Rattle.lwc_monitor.specs.Rulings as spec;
 ghost use Rattle.lwc_monitor.specs.Rulings.{IsRuling};

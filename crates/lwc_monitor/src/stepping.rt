@@ -8,7 +8,7 @@ ghost use Rattle.kernel_core.specs.Step as steps;
 ghost use Rattle.lwc_base.specs.Channels as channels;
 ghost use Rattle.lwc_base.specs.Channels.{HasItsFiles};
 ghost use Rattle.lwc_base.specs.Slots.{lowest_empty};
-ghost use Rattle.lwc_base.specs.declared.limits.TheConstants.{MOST_CONTEXTS, MOST_THREADS};
+ghost use Rattle.lwc_types.specs.declared.limits.TheConstants.{MOST_CONTEXTS, MOST_THREADS};
 ghost use Rattle.lwc_monitor.specs.Calls.{calls_under, reporting, traps_after_call};
 ghost use Rattle.lwc_monitor.specs.Rulings as spec;
 ghost use Rattle.lwc_monitor.specs.Rulings.{IsRuling};

@@ -2,9 +2,9 @@ ghost use Rattle.std.specs.Prelude.{◌≡◌, ◌<◌, ◌==◌, ◌&&◌, fals
 ghost use Rattle.std.specs.List.{find, list_any, position_or_len};
 ghost use Rattle.std.specs.Ordering.{is_gt};
 ghost use Rattle.std.specs.FinMap as fm;
-ghost use Rattle.lwc_base.specs.Names.{name_cmp};
 ghost use Rattle.lwc_base.specs.World as worlds;
-ghost use Rattle.lwc_base.specs.declared.limits.TheConstants.{MOST_CONTEXTS};
+ghost use Rattle.lwc_types.specs.Names.{name_cmp};
+ghost use Rattle.lwc_types.specs.declared.limits.TheConstants.{MOST_CONTEXTS};
 ghost use Rattle.lwc_monitor.specs.Traps.{is_monitor, is_trapped};
 
 use crate::live::is_live;
@@ -23,8 +23,8 @@ pub struct Traps {
 impl Model for Traps {
     ghost use Rattle.std.specs.Prelude.{◌≤◌, T, vec_capacity};
     ghost use Rattle.std.specs.FinMap as fm;
-    ghost use Rattle.lwc_base.specs.Names.{name_cmp};
-    ghost use Rattle.lwc_base.specs.declared.limits.TheConstants.{MOST_CONTEXTS};
+    ghost use Rattle.lwc_types.specs.Names.{name_cmp};
+    ghost use Rattle.lwc_types.specs.declared.limits.TheConstants.{MOST_CONTEXTS};
     ghost use Rattle.lwc_monitor.specs.Traps as spec;
 
     ghost Value = { spec.Traps };

@@ -13,11 +13,11 @@ use Rattle.lwc_base.specs.World.{World, next_context}
 use Rattle.lwc_base.specs.declared.answer.Answer.TheVariants.{Done}
 use Rattle.lwc_base.specs.declared.descriptor.Descriptor.TheVariants.{Ctx}
 use Rattle.lwc_base.specs.declared.item.Item.{Item}
-use Rattle.lwc_base.specs.declared.limits.TheConstants.{MOST_CONTEXTS_OF_JOB, MOST_GROUPS_OF_JOB, MOST_ITEMS}
-use Rattle.lwc_base.specs.declared.name.Name.{Name}
-use Rattle.lwc_base.specs.declared.refusal.Refusal.{Refusal}
-use Rattle.lwc_base.specs.declared.refusal.Refusal.TheVariants.{TooManyItems, BadAddress, BadMode, BadRange, Overlap, TooManyContexts, NoSlot, TooManyGroups, TooManyRanges}
-use Rattle.lwc_base.specs.declared.regs.Regs.{Regs}
+use Rattle.lwc_types.specs.declared.limits.TheConstants.{MOST_CONTEXTS_OF_JOB, MOST_GROUPS_OF_JOB, MOST_ITEMS}
+use Rattle.lwc_types.specs.declared.name.Name.{Name}
+use Rattle.lwc_types.specs.declared.refusal.Refusal.{Refusal}
+use Rattle.lwc_types.specs.declared.refusal.Refusal.TheVariants.{TooManyItems, BadAddress, BadMode, BadRange, Overlap, TooManyContexts, NoSlot, TooManyGroups, TooManyRanges}
+use Rattle.lwc_types.specs.declared.regs.Regs.{Regs}
 use Rattle.lwc_create.specs.Create.{after_call, create, created, ended, items_of, no_caller, refusals, room_refusals}
 use Rattle.lwc_names.proofs.Asks.{after_clone-shifted, bytes_for-shifted, groups_of-shifted, live_of-shifted, lowest-shifted}
 use Rattle.lwc_names.proofs.Clones.{clone-shifted, needs-shifted}

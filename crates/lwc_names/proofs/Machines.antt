@@ -14,8 +14,8 @@ use Rattle.kernel_core.specs.declared.thread.Thread.{Thread}
 use Rattle.lwc_base.specs.Channels.{Channels, bytes_in}
 use Rattle.lwc_base.specs.Life as life
 use Rattle.lwc_base.specs.World.{World}
-use Rattle.lwc_base.specs.declared.fault.ThreadStatus.{ThreadStatus}
-use Rattle.lwc_base.specs.declared.fault.ThreadStatus.TheVariants.{Idle, Running, Done, Faulted}
+use Rattle.lwc_types.specs.declared.fault.ThreadStatus.{ThreadStatus}
+use Rattle.lwc_types.specs.declared.fault.ThreadStatus.TheVariants.{Idle, Running, Done, Faulted}
 use Rattle.lwc_names.proofs.Acts.{advance-job}
 use Rattle.lwc_names.proofs.Frames.{map-append}
 use Rattle.lwc_names.proofs.Links.{begin-shifted}

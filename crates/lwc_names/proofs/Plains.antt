@@ -20,19 +20,19 @@ use Rattle.lwc_base.specs.declared.cell.Cell.{Cell}
 use Rattle.lwc_base.specs.declared.cell.Cell.TheVariants.{Own}
 use Rattle.lwc_base.specs.declared.descriptor.Descriptor.{Descriptor}
 use Rattle.lwc_base.specs.declared.descriptor.Descriptor.TheVariants.{Empty, Console, File, Request, Reply, Ctx}
-use Rattle.lwc_base.specs.declared.key.Key.{Key}
-use Rattle.lwc_base.specs.declared.key.Key.TheVariants.{Page, Slot, Cred}
-use Rattle.lwc_base.specs.declared.key.Kind.{Kind}
-use Rattle.lwc_base.specs.declared.key.Kind.TheVariants as kinds
-use Rattle.lwc_base.specs.declared.limits.TheConstants.{MOST_BYTES_OF_CALL, MOST_RANGES, MOST_REPLY_BYTES}
-use Rattle.lwc_base.specs.declared.name.Name.{Name}
-use Rattle.lwc_base.specs.declared.page.PageValue.{PageValue}
-use Rattle.lwc_base.specs.declared.page.PageValue.TheVariants.{Zero}
-use Rattle.lwc_base.specs.declared.page.TheConstants.{PAGE_BYTES}
-use Rattle.lwc_base.specs.declared.refusal.Refusal.{Refusal}
-use Rattle.lwc_base.specs.declared.refusal.Refusal.TheVariants as refusal
-use Rattle.lwc_base.specs.declared.refusal.Refusal.TheVariants.{BadCall, BadFd, BadMode, WrongKind, BadAddress, BadRange, NoSlot, NoFrame, NotCovered, NotPermitted, NoFile, TooManyRanges, ReplyFull, TooLong}
-use Rattle.lwc_base.specs.declared.regs.Regs.{Regs}
+use Rattle.lwc_types.specs.declared.key.Key.{Key}
+use Rattle.lwc_types.specs.declared.key.Key.TheVariants.{Page, Slot, Cred}
+use Rattle.lwc_types.specs.declared.key.Kind.{Kind}
+use Rattle.lwc_types.specs.declared.key.Kind.TheVariants as kinds
+use Rattle.lwc_types.specs.declared.limits.TheConstants.{MOST_BYTES_OF_CALL, MOST_RANGES, MOST_REPLY_BYTES}
+use Rattle.lwc_types.specs.declared.name.Name.{Name}
+use Rattle.lwc_types.specs.declared.page.PageValue.{PageValue}
+use Rattle.lwc_types.specs.declared.page.PageValue.TheVariants.{Zero}
+use Rattle.lwc_types.specs.declared.page.TheConstants.{PAGE_BYTES}
+use Rattle.lwc_types.specs.declared.refusal.Refusal.{Refusal}
+use Rattle.lwc_types.specs.declared.refusal.Refusal.TheVariants as refusal
+use Rattle.lwc_types.specs.declared.refusal.Refusal.TheVariants.{BadCall, BadFd, BadMode, WrongKind, BadAddress, BadRange, NoSlot, NoFrame, NotCovered, NotPermitted, NoFile, TooManyRanges, ReplyFull, TooLong}
+use Rattle.lwc_types.specs.declared.regs.Regs.{Regs}
 use Rattle.lwc_names.proofs.Answers.{shifted_end, shifted_stored, shifted_targets}
 use Rattle.lwc_names.proofs.Asks.{bytes_for-shifted, empty-shifted, lowest-shifted, ranges_of-shifted}
 use Rattle.lwc_names.proofs.Links.{descriptor-shifted, link_of-shifted, or-shifted, slot_refusals-shifted}

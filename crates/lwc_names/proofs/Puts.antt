@@ -6,10 +6,10 @@ use Rattle.lwc_base.specs.World.{World, Context, Group, change_context, context}
 use Rattle.lwc_base.specs.declared.cell.Cell.{Cell}
 use Rattle.lwc_base.specs.declared.cell.Cell.TheVariants.{Own, Common}
 use Rattle.lwc_base.specs.declared.descriptor.Descriptor.{Descriptor}
-use Rattle.lwc_base.specs.declared.key.Key.{Key}
-use Rattle.lwc_base.specs.declared.key.Key.TheVariants.{Page, Slot, Cred}
-use Rattle.lwc_base.specs.declared.name.Name.{Name}
-use Rattle.lwc_base.specs.declared.page.PageValue.{PageValue}
+use Rattle.lwc_types.specs.declared.key.Key.{Key}
+use Rattle.lwc_types.specs.declared.key.Key.TheVariants.{Page, Slot, Cred}
+use Rattle.lwc_types.specs.declared.name.Name.{Name}
+use Rattle.lwc_types.specs.declared.page.PageValue.{PageValue}
 use Rattle.lwc_names.proofs.Worlds.{change_context-shifted, change_group-shifted, context-shifted, there-shifted}
 use Rattle.lwc_names.specs.Shifts.{shifted_cell, shifted_context, shifted_descriptor, shifted_group, shifted_name, shifted_page, shifted_value, shifted_world}
 

@@ -10,8 +10,8 @@ use Rattle.kernel_core.specs.Start.{start}
 use Rattle.kernel_core.specs.Step as steps
 use Rattle.kernel_core.specs.Step.{AfterStep, Outcome, after_outcome, after_thread, guest_calls, step, step_by, thread_outcome}
 use Rattle.kernel_core.specs.declared.thread.Thread.{Thread}
-use Rattle.lwc_base.specs.declared.fault.ThreadStatus.{ThreadStatus}
-use Rattle.lwc_base.specs.declared.fault.ThreadStatus.TheVariants.{Idle, Running, Done, Faulted}
+use Rattle.lwc_types.specs.declared.fault.ThreadStatus.{ThreadStatus}
+use Rattle.lwc_types.specs.declared.fault.ThreadStatus.TheVariants.{Idle, Running, Done, Faulted}
 use Rattle.lwc_names.proofs.Runs.{most-shifted, run-shifted}
 use Rattle.lwc_names.proofs.Starts.{alone-acts, start-shifted}
 use Rattle.lwc_names.specs.Machines.{shifted_machine, shifted_reply, shifted_serve}

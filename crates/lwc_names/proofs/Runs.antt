@@ -10,8 +10,8 @@ use Rattle.kernel_core.specs.Step.{AfterStep, Outcome, after_outcome, after_thre
 use Rattle.kernel_core.specs.declared.thread.Thread.{Thread}
 use Rattle.lwc_base.specs.Frames.{used}
 use Rattle.lwc_base.specs.World.{World}
-use Rattle.lwc_base.specs.declared.fault.ThreadStatus.{ThreadStatus}
-use Rattle.lwc_base.specs.declared.fault.ThreadStatus.TheVariants.{Idle, Running, Done, Faulted}
+use Rattle.lwc_types.specs.declared.fault.ThreadStatus.{ThreadStatus}
+use Rattle.lwc_types.specs.declared.fault.ThreadStatus.TheVariants.{Idle, Running, Done, Faulted}
 use Rattle.lwc_names.proofs.Acts.{advance-job}
 use Rattle.lwc_names.proofs.Frames.{used-shifted}
 use Rattle.lwc_names.proofs.Machines.{get_map, step-shifted, thread-shifted}

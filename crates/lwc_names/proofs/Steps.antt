@@ -20,8 +20,8 @@ use Rattle.lwc_base.specs.declared.answer.Answer.{Answer}
 use Rattle.lwc_base.specs.declared.answer.Answer.TheVariants as answer
 use Rattle.lwc_base.specs.declared.answer.Moved.{Moved}
 use Rattle.lwc_base.specs.declared.answer.Moved.TheVariants as moved
-use Rattle.lwc_base.specs.declared.fault.Fault.TheVariants as fault
-use Rattle.lwc_base.specs.declared.page.TheConstants.{PAGE_BYTES}
+use Rattle.lwc_types.specs.declared.fault.Fault.TheVariants as fault
+use Rattle.lwc_types.specs.declared.page.TheConstants.{PAGE_BYTES}
 use Rattle.lwc_create.specs.Create.{create}
 use Rattle.lwc_names.proofs.Answers.{shifted_end, shifted_moved, shifted_stored}
 use Rattle.lwc_names.proofs.Outcomes.{shifted_outcome}

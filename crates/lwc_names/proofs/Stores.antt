@@ -6,15 +6,15 @@ use Rattle.std.specs.Option.{option_map}
 use Rattle.lwc_base.specs.Cells.{page_at, put_page}
 use Rattle.lwc_base.specs.Frames.{is_parting, used}
 use Rattle.lwc_base.specs.Memory.{is_present, touched}
-use Rattle.lwc_base.specs.Pages.{bytes_of}
 use Rattle.lwc_base.specs.Rights.{is_writable, may_write, right_at}
 use Rattle.lwc_base.specs.Store.{Piece, Absent, ReadOnly, Full, Done, after_store, bytes_after, page_value_at, parting_count, put_pages, store, stored_pages, stored_value}
 use Rattle.lwc_base.specs.World.{World, Context, Counters, change_counters}
-use Rattle.lwc_base.specs.declared.key.Key.TheVariants.{Page}
-use Rattle.lwc_base.specs.declared.name.Name.{Name}
-use Rattle.lwc_base.specs.declared.name.Tag.{Tag}
-use Rattle.lwc_base.specs.declared.page.PageValue.{PageValue}
-use Rattle.lwc_base.specs.declared.page.PageValue.TheVariants.{Zero, Data}
+use Rattle.lwc_types.specs.Pages.{bytes_of}
+use Rattle.lwc_types.specs.declared.key.Key.TheVariants.{Page}
+use Rattle.lwc_types.specs.declared.name.Name.{Name}
+use Rattle.lwc_types.specs.declared.name.Tag.{Tag}
+use Rattle.lwc_types.specs.declared.page.PageValue.{PageValue}
+use Rattle.lwc_types.specs.declared.page.PageValue.TheVariants.{Zero, Data}
 use Rattle.lwc_names.proofs.Frames.{parting-shifted, used-shifted}
 use Rattle.lwc_names.proofs.Puts.{put_page-shifted}
 use Rattle.lwc_names.proofs.Worlds.{change_counters-shifted, context-shifted, counters-shifted, value_at-shifted}

@@ -3,7 +3,7 @@ pub use Rattle.kernel_core.specs.Runs
 pub use Rattle.kernel_core.specs.Step
 pub use Rattle.lwc_base.specs.Channels
 pub use Rattle.lwc_base.specs.Keys
-pub use Rattle.lwc_base.specs.Names
+pub use Rattle.lwc_types.specs.Names
 pub use Rattle.lwc_base.specs.World
 pub use Rattle.request_isolation.specs.Alone
 pub use Rattle.request_isolation.specs.Needs

@@ -3,7 +3,7 @@ use Rattle.std.specs.Prelude.{◌≡◌, ℕ, ◌+◌, ◌≤◌, ◌++◌, None
 use Rattle.std.specs.Option.{option_map}
 use Rattle.kernel_core.specs.Machine.{Environment, Machine, Serve}
 use Rattle.kernel_core.specs.declared.thread.Thread.{Thread}
-use Rattle.lwc_base.specs.declared.fault.ThreadStatus.TheVariants.{Running}
+use Rattle.lwc_types.specs.declared.fault.ThreadStatus.TheVariants.{Running}
 use Rattle.lwc_names.specs.Shifts.{shifted_channels, shifted_job, shifted_name, shifted_world}
 use Rattle.snapshot_host.specs.declared.finishing.Finished.{Finished}
 

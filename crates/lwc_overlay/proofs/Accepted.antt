@@ -6,15 +6,15 @@ use Rattle.guest_call.specs.Asked.{item_refusals}
 use Rattle.guest_call.specs.Guest.{descriptor_for, link_of, slot_refusals}
 use Rattle.lwc_base.specs.declared.answer.Answer.{Answer}
 use Rattle.lwc_base.specs.declared.answer.Answer.TheVariants.{Done, Refused}
-use Rattle.lwc_base.specs.declared.limits.TheConstants.{MOST_GROUPS_OF_JOB}
-use Rattle.lwc_base.specs.declared.name.Name.{Name}
-use Rattle.lwc_base.specs.declared.refusal.Refusal.{Refusal}
-use Rattle.lwc_base.specs.declared.regs.Regs.{Regs}
 use Rattle.lwc_base.specs.Capabilities.{covers}
 use Rattle.lwc_base.specs.Life.{HasItsContexts}
 use Rattle.lwc_base.specs.Refusals.{first_refusal}
 use Rattle.lwc_base.specs.Sharing.{needs_group}
 use Rattle.lwc_base.specs.World.{World, groups_of, is_live}
+use Rattle.lwc_types.specs.declared.limits.TheConstants.{MOST_GROUPS_OF_JOB}
+use Rattle.lwc_types.specs.declared.name.Name.{Name}
+use Rattle.lwc_types.specs.declared.refusal.Refusal.{Refusal}
+use Rattle.lwc_types.specs.declared.regs.Regs.{Regs}
 use Rattle.lwc_overlay.specs.Named.{items_of, link}
 use Rattle.lwc_overlay.specs.OverlayCall as overlaying
 use Rattle.lwc_overlay.specs.OverlayCall.{IsTaken, overlay, giver_refusals}

@@ -2,9 +2,6 @@
 use Rattle.std.proofs.Common.{◌≡◌, ◌≢◌, ◌∙◌, inl, inr, ℕ, true, false, List, None, Some, ap, arith, refl, subst, sym}
 use Rattle.lwc_base.specs.declared.item.Item.{Item}
 use Rattle.lwc_base.specs.declared.item.Mode.TheVariants.{Share}
-use Rattle.lwc_base.specs.declared.key.Key.{Key}
-use Rattle.lwc_base.specs.declared.name.Name.{Name}
-use Rattle.lwc_base.specs.declared.regs.Regs.{Regs}
 use Rattle.lwc_base.specs.Capabilities.{has_key}
 use Rattle.lwc_base.specs.Cells.{value_at}
 use Rattle.lwc_base.specs.Fresh.{IsFresh}
@@ -13,16 +10,19 @@ use Rattle.lwc_base.specs.Sound.{HasItsGroups}
 use Rattle.lwc_base.specs.Overlay.{IsOverlay, overlay, with_overlay}
 use Rattle.lwc_base.specs.Sharing.{share}
 use Rattle.lwc_base.specs.World.{World, Context, context, is_live}
+use Rattle.lwc_types.specs.declared.key.Key.{Key}
+use Rattle.lwc_types.specs.declared.name.Name.{Name}
+use Rattle.lwc_types.specs.declared.regs.Regs.{Regs}
 use Rattle.lwc_overlay.specs.Named.{items_of}
 use Rattle.lwc_overlay.specs.OverlayCall.{IsTaken, LeavesRest}
 use Rattle.res_spec.specs.declared.items.SpecCall.TheVariants.{Overlay}
 use Rattle.lwc_base.proofs.Caps.{covers-all}
 use Rattle.lwc_base.proofs.Facts.{changes}
 use Rattle.lwc_base.proofs.ItemModes.{mode-shared}
-use Rattle.lwc_base.proofs.Orders.{cases_name}
 use Rattle.lwc_base.proofs.Overlays.{overlay-others, overlay-unnamed}
 use Rattle.lwc_base.proofs.Rights.{rights-share}
 use Rattle.lwc_base.proofs.Sharing.{share-cell, share-entry, share-saved}
+use Rattle.lwc_types.proofs.Orders.{cases_name}
 
 module _ (w : World) (c d : Name) (job : ℕ) (items : List Item) (taker : is_live w c ≡ true) (giver : is_live w d ≡ true) where
   abbrev shared : World

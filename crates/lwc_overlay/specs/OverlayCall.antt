@@ -8,13 +8,6 @@ use Rattle.lwc_base.specs.declared.descriptor.Cap.{Cap}
 use Rattle.lwc_base.specs.declared.descriptor.Descriptor.TheVariants.{Ctx}
 use Rattle.lwc_base.specs.declared.item.Item.{Item}
 use Rattle.lwc_base.specs.declared.item.Mode.TheVariants.{Share}
-use Rattle.lwc_base.specs.declared.key.Key.{Key}
-use Rattle.lwc_base.specs.declared.key.Key.TheVariants.{Page}
-use Rattle.lwc_base.specs.declared.limits.TheConstants.{MOST_GROUPS_OF_JOB}
-use Rattle.lwc_base.specs.declared.name.Name.{Name}
-use Rattle.lwc_base.specs.declared.refusal.Refusal.{Refusal}
-use Rattle.lwc_base.specs.declared.refusal.Refusal.TheVariants.{NotCovered, TooManyGroups, TooManyRanges}
-use Rattle.lwc_base.specs.declared.regs.Regs.{Regs}
 use Rattle.lwc_base.specs.Capabilities.{covers}
 use Rattle.lwc_base.specs.Cells.{slot_at, value_at}
 use Rattle.lwc_base.specs.Modes.{IsSpec, mode}
@@ -24,6 +17,13 @@ use Rattle.lwc_base.specs.Refusals.{first_refusal}
 use Rattle.lwc_base.specs.Rights.{right_at}
 use Rattle.lwc_base.specs.Sharing.{needs_group}
 use Rattle.lwc_base.specs.World.{World, context, groups_of, is_live}
+use Rattle.lwc_types.specs.declared.key.Key.{Key}
+use Rattle.lwc_types.specs.declared.key.Key.TheVariants.{Page}
+use Rattle.lwc_types.specs.declared.limits.TheConstants.{MOST_GROUPS_OF_JOB}
+use Rattle.lwc_types.specs.declared.name.Name.{Name}
+use Rattle.lwc_types.specs.declared.refusal.Refusal.{Refusal}
+use Rattle.lwc_types.specs.declared.refusal.Refusal.TheVariants.{NotCovered, TooManyGroups, TooManyRanges}
+use Rattle.lwc_types.specs.declared.regs.Regs.{Regs}
 use Rattle.lwc_overlay.specs.Named.{items_of, link, refusals_before}
 use Rattle.res_spec.specs.declared.items.SpecCall.TheVariants as call
 use Rattle.world_face.specs.Calls.{AreFew}

@@ -3,8 +3,8 @@ ghost use Rattle.lwc_base.specs.Lending.{keys_of};
 ghost use Rattle.lwc_base.specs.Life.{HasItsContexts};
 ghost use Rattle.lwc_base.specs.Modes.{IsSpec};
 ghost use Rattle.lwc_base.specs.Refusals.{first_refusal};
-ghost use Rattle.lwc_base.specs.declared.descriptor.TheConstants.{SLOTS};
-ghost use Rattle.lwc_base.specs.declared.refusal.Refusal.{Refusal};
+ghost use Rattle.lwc_types.specs.declared.key.TheConstants.{SLOTS};
+ghost use Rattle.lwc_types.specs.declared.refusal.Refusal.{Refusal};
 ghost use Rattle.lwc_overlay.specs.Named.{items_of, link, refusals_before};
 ghost use Rattle.world_face.specs.Calls.{IsLive};
 

@@ -4,7 +4,7 @@ ghost use Rattle.lwc_base.specs.Life.{HasItsContexts};
 ghost use Rattle.lwc_base.specs.Modes.{IsSpec};
 ghost use Rattle.lwc_base.specs.Refusals.{first_refusal};
 ghost use Rattle.lwc_base.specs.World.{groups_of};
-ghost use Rattle.lwc_base.specs.declared.limits.TheConstants.{MOST_GROUPS_OF_JOB};
+ghost use Rattle.lwc_types.specs.declared.limits.TheConstants.{MOST_GROUPS_OF_JOB};
 ghost use Rattle.lwc_overlay.specs.Named.{IfRefused};
 ghost use Rattle.lwc_overlay.specs.OverlayCall as spec;
 ghost use Rattle.lwc_overlay.specs.OverlayCall.{MayTake};

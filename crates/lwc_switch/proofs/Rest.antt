@@ -1,11 +1,11 @@
 -- What a switch leaves as it was.
 use Rattle.std.proofs.Common.{◌∙◌, ℕ, rules, sym}
 use Rattle.guest_call.specs.Changes.{ChangesKey, ChangesSaved}
-use Rattle.lwc_base.specs.declared.key.Key.{Key}
-use Rattle.lwc_base.specs.declared.key.Key.TheVariants.{Slot}
-use Rattle.lwc_base.specs.declared.name.Name.{Name}
 use Rattle.lwc_base.specs.Clones.{AreApart}
 use Rattle.lwc_base.specs.World.{World}
+use Rattle.lwc_types.specs.declared.key.Key.{Key}
+use Rattle.lwc_types.specs.declared.key.Key.TheVariants.{Slot}
+use Rattle.lwc_types.specs.declared.name.Name.{Name}
 use Rattle.lwc_switch.specs.Switch.{LeavesRest}
 
 -- what is apart under saved cells was apart before

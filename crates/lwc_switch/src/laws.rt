@@ -2,8 +2,8 @@ ghost use Rattle.std.specs.Prelude.{◌≡◌, ℕ, true};
 ghost use Rattle.lwc_base.specs.Life.{HasItsContexts};
 ghost use Rattle.lwc_base.specs.World.{World, is_live};
 ghost use Rattle.lwc_base.specs.declared.answer.Moved.TheVariants.{To};
-ghost use Rattle.lwc_base.specs.declared.name.Name.{Name};
-ghost use Rattle.lwc_base.specs.declared.regs.Regs.{Regs};
+ghost use Rattle.lwc_types.specs.declared.name.Name.{Name};
+ghost use Rattle.lwc_types.specs.declared.regs.Regs.{Regs};
 ghost use Rattle.lwc_switch.specs.Switch.{IsSwitch, LeavesRest, switch};
 
 /// An accepted switch takes its thread to a live context that a slot of the caller's has a descriptor of, and

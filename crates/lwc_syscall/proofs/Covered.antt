@@ -6,10 +6,10 @@ use Rattle.lwc_base.specs.Capabilities.{has_key}
 use Rattle.lwc_base.specs.Modes.{IsKey, kind_of}
 use Rattle.lwc_base.specs.World.{World}
 use Rattle.lwc_base.specs.declared.descriptor.Cap.{Cap}
-use Rattle.lwc_base.specs.declared.key.Key.{Key}
-use Rattle.lwc_base.specs.declared.key.Key.TheVariants.{Page, Slot, Cred}
-use Rattle.lwc_base.specs.declared.name.Name.{Name}
-use Rattle.lwc_base.specs.declared.regs.Regs.{Regs}
+use Rattle.lwc_types.specs.declared.key.Key.{Key}
+use Rattle.lwc_types.specs.declared.key.Key.TheVariants.{Page, Slot, Cred}
+use Rattle.lwc_types.specs.declared.name.Name.{Name}
+use Rattle.lwc_types.specs.declared.regs.Regs.{Regs}
 use Rattle.lwc_syscall.specs.Changes.{holder}
 use Rattle.lwc_syscall.specs.Syscall.{IsAllowed, link, mask_in, taken_from, targets_of}
 use Rattle.lwc_base.proofs.Needs.{any_key-some}

@@ -16,11 +16,11 @@ use Rattle.lwc_base.specs.Summaries.{is_empty}
 use Rattle.lwc_base.specs.World.{World, is_live}
 use Rattle.lwc_base.specs.declared.descriptor.Descriptor.{Descriptor}
 use Rattle.lwc_base.specs.declared.descriptor.Descriptor.TheVariants.{Empty, Console, File, Request, Reply, Ctx}
-use Rattle.lwc_base.specs.declared.descriptor.TheConstants.{SLOTS}
-use Rattle.lwc_base.specs.declared.limits.TheConstants.{MOST_BYTES_OF_CALL}
-use Rattle.lwc_base.specs.declared.name.Name.{Name}
-use Rattle.lwc_base.specs.declared.refusal.Refusal.{Refusal}
-use Rattle.lwc_base.specs.declared.refusal.Refusal.TheVariants.{BadCall}
+use Rattle.lwc_types.specs.declared.key.TheConstants.{SLOTS}
+use Rattle.lwc_types.specs.declared.limits.TheConstants.{MOST_BYTES_OF_CALL}
+use Rattle.lwc_types.specs.declared.name.Name.{Name}
+use Rattle.lwc_types.specs.declared.refusal.Refusal.{Refusal}
+use Rattle.lwc_types.specs.declared.refusal.Refusal.TheVariants.{BadCall}
 use Rattle.lwc_syscall.specs.Changes.{IsKnown, IsPlainChange, Mapped, Nothing, Read, SlotPut, UidPut, Written}
 use Rattle.lwc_syscall.specs.Plain.{Outcome, answering, becoming, close_refusals, closing, copy_refusals, copying, ended, is_absent, is_read_only, is_full, left, map_refusals, mapping, moved, open_refusals, opening, placed, plain, read_on, read_refusals, reading, refused_or, store_at, uid_refusals, world_after, write_refusals, writing, written}
 use Rattle.lwc_syscall.specs.declared.answer.CallAnswer.TheVariants.{Exit, Refused}

@@ -4,7 +4,7 @@ use Rattle.lwc_base.specs.Channels.{Channels}
 use Rattle.lwc_base.specs.Jobs.{NamesKeepToJobs}
 use Rattle.lwc_base.specs.Mapping.{mapped_or_not}
 use Rattle.lwc_base.specs.World.{World}
-use Rattle.lwc_base.specs.declared.name.Name.{Name}
+use Rattle.lwc_types.specs.declared.name.Name.{Name}
 use Rattle.lwc_syscall.specs.Changes.{IsPlainChange, Mapped, Nothing, Read, SlotPut, UidPut, Written}
 use Rattle.lwc_syscall.specs.declared.calls.CallContexts.{CallContexts}
 use Rattle.lwc_syscall.proofs.Kept.{store-done}

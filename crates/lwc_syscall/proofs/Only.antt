@@ -21,14 +21,14 @@ use Rattle.lwc_base.specs.Store as stores
 use Rattle.lwc_base.specs.World.{World, Context, Counters, change_counters, context, group, is_live}
 use Rattle.lwc_base.specs.declared.descriptor.Descriptor.{Descriptor}
 use Rattle.lwc_base.specs.declared.descriptor.Descriptor.TheVariants.{Empty, File}
-use Rattle.lwc_base.specs.declared.key.Key.{Key}
-use Rattle.lwc_base.specs.declared.key.Key.TheVariants.{Page, Slot, Cred}
-use Rattle.lwc_base.specs.declared.name.Name.{Name}
-use Rattle.lwc_base.specs.declared.page.PageValue.{PageValue}
-use Rattle.lwc_base.specs.declared.refusal.Refusal.{Refusal}
-use Rattle.lwc_base.specs.declared.refusal.Refusal.TheVariants.{BadCall}
-use Rattle.lwc_base.specs.declared.regs.Regs.{Regs}
-use Rattle.lwc_base.specs.declared.right.Right.TheVariants.{Write}
+use Rattle.lwc_types.specs.declared.key.Key.{Key}
+use Rattle.lwc_types.specs.declared.key.Key.TheVariants.{Page, Slot, Cred}
+use Rattle.lwc_types.specs.declared.name.Name.{Name}
+use Rattle.lwc_types.specs.declared.page.PageValue.{PageValue}
+use Rattle.lwc_types.specs.declared.refusal.Refusal.{Refusal}
+use Rattle.lwc_types.specs.declared.refusal.Refusal.TheVariants.{BadCall}
+use Rattle.lwc_types.specs.declared.regs.Regs.{Regs}
+use Rattle.lwc_types.specs.declared.right.Right.TheVariants.{Write}
 use Rattle.lwc_syscall.proofs.Does.{ended-cases, stored-cases}
 use Rattle.lwc_syscall.specs.Changes.{ChangesOnly, has_page, holder, in_range, is_lowest, may_change, read_pages}
 use Rattle.lwc_syscall.specs.Plain.{Outcome, answering, becoming, close_refusals, closing, copy_refusals, copying, ended, is_absent, is_read_only, is_full, map_refusals, mapping, moved, open_refusals, opening, placed, plain, read_on, read_refusals, reading, store_at, uid_refusals, world_after, write_refusals, writing, written}
@@ -40,7 +40,7 @@ use Rattle.lwc_syscall.specs.declared.plain_call.PlainCall.TheVariants as calls
 use Rattle.guest_call.proofs.Changes.{putting}
 use Rattle.lwc_base.proofs.Common.{apart-put_at}
 use Rattle.lwc_base.proofs.Facts.{changes}
-use Rattle.lwc_base.proofs.Orders.{cases_name}
+use Rattle.lwc_types.proofs.Orders.{cases_name}
 
 -- what is apart in one world is apart in another
 abbrev KeepsApart : World → World → Type 0

@@ -10,10 +10,10 @@ use Rattle.lwc_base.specs.Life.{HasItsContexts}
 use Rattle.lwc_base.specs.Refusals.{first_refusal}
 use Rattle.lwc_base.specs.Sound.{IsSound}
 use Rattle.lwc_base.specs.World.{World, is_live}
-use Rattle.lwc_base.specs.declared.key.Kind.{Kind}
-use Rattle.lwc_base.specs.declared.key.Kind.TheVariants.{Page, Slot}
-use Rattle.lwc_base.specs.declared.name.Name.{Name}
-use Rattle.lwc_base.specs.declared.regs.Regs.{Regs}
+use Rattle.lwc_types.specs.declared.key.Kind.{Kind}
+use Rattle.lwc_types.specs.declared.key.Kind.TheVariants.{Page, Slot}
+use Rattle.lwc_types.specs.declared.name.Name.{Name}
+use Rattle.lwc_types.specs.declared.regs.Regs.{Regs}
 use Rattle.lwc_syscall.specs.Changes.{IsPlainChange, IsWell, KeepsNumbers, Nothing}
 use Rattle.lwc_syscall.specs.Plain.{Outcome, plain}
 use Rattle.lwc_syscall.specs.Syscall.{IsAllowed, inner_args, inner_call, link, lw_syscall, mask_in, refusals, taken_from, targets_of}

@@ -17,14 +17,14 @@ use Rattle.lwc_base.specs.Summaries.{is_empty}
 use Rattle.lwc_base.specs.World.{World}
 use Rattle.lwc_base.specs.declared.descriptor.Descriptor.{Descriptor}
 use Rattle.lwc_base.specs.declared.descriptor.Descriptor.TheVariants.{Empty, Console, File, Request, Reply}
-use Rattle.lwc_base.specs.declared.limits.TheConstants.{MOST_BYTES_OF_CALL, MOST_CONSOLE_BYTES, MOST_RANGES}
-use Rattle.lwc_base.specs.declared.limits.TheConstants.{MOST_REPLY_BYTES}
-use Rattle.lwc_base.specs.declared.name.Name.{Name}
-use Rattle.lwc_base.specs.declared.page.TheConstants.{PAGE_BYTES}
-use Rattle.lwc_base.specs.declared.refusal.Refusal.{Refusal}
-use Rattle.lwc_base.specs.declared.refusal.Refusal.TheVariants.{BadCall, BadFd, WrongKind, BadAddress, BadRange}
-use Rattle.lwc_base.specs.declared.refusal.Refusal.TheVariants.{NoSlot, NoFrame, NotPermitted, NoFile, TooManyRanges}
-use Rattle.lwc_base.specs.declared.refusal.Refusal.TheVariants.{ReplyFull, TooLong, ReadOnly}
+use Rattle.lwc_types.specs.declared.limits.TheConstants.{MOST_BYTES_OF_CALL, MOST_CONSOLE_BYTES, MOST_RANGES}
+use Rattle.lwc_types.specs.declared.limits.TheConstants.{MOST_REPLY_BYTES}
+use Rattle.lwc_types.specs.declared.name.Name.{Name}
+use Rattle.lwc_types.specs.declared.page.TheConstants.{PAGE_BYTES}
+use Rattle.lwc_types.specs.declared.refusal.Refusal.{Refusal}
+use Rattle.lwc_types.specs.declared.refusal.Refusal.TheVariants.{BadCall, BadFd, WrongKind, BadAddress, BadRange}
+use Rattle.lwc_types.specs.declared.refusal.Refusal.TheVariants.{NoSlot, NoFrame, NotPermitted, NoFile, TooManyRanges}
+use Rattle.lwc_types.specs.declared.refusal.Refusal.TheVariants.{ReplyFull, TooLong, ReadOnly}
 use Rattle.lwc_syscall.specs.declared.answer.CallAnswer.{CallAnswer}
 use Rattle.lwc_syscall.specs.declared.answer.CallAnswer.TheVariants.{Value, Exit, Refused}
 use Rattle.lwc_syscall.specs.declared.calls.CallContexts.{CallContexts}

@@ -4,8 +4,8 @@ ghost use Rattle.lwc_base.specs.Channels.{Channels, HasItsFiles, IsInRange};
 ghost use Rattle.lwc_base.specs.Lending.{descriptor_of};
 ghost use Rattle.lwc_base.specs.Store as stores;
 ghost use Rattle.lwc_base.specs.World.{is_live};
-ghost use Rattle.lwc_base.specs.declared.name.Name as names;
-ghost use Rattle.lwc_base.specs.declared.page.TheConstants.{PAGE_BYTES};
+ghost use Rattle.lwc_types.specs.declared.name.Name as names;
+ghost use Rattle.lwc_types.specs.declared.page.TheConstants.{PAGE_BYTES};
 ghost use Rattle.lwc_syscall.specs.Plain as spec;
 ghost use Rattle.world_face.specs.Calls.{IsLive, MayName};
 

@@ -3,8 +3,8 @@ ghost use Rattle.guest_call.specs.Guest.{descriptor_for};
 ghost use Rattle.lwc_base.specs.Channels.{Channels, HasItsFiles, IsInRange};
 ghost use Rattle.lwc_base.specs.Lending.{descriptor_of};
 ghost use Rattle.lwc_base.specs.Summaries.{is_empty};
-ghost use Rattle.lwc_base.specs.declared.descriptor.TheConstants.{SLOTS};
-ghost use Rattle.lwc_base.specs.declared.limits.TheConstants.{MOST_FILES};
+ghost use Rattle.lwc_types.specs.declared.key.TheConstants.{SLOTS};
+ghost use Rattle.lwc_types.specs.declared.limits.TheConstants.{MOST_FILES};
 ghost use Rattle.lwc_syscall.specs.Plain as spec;
 ghost use Rattle.world_face.specs.Calls.{IsLive};
 

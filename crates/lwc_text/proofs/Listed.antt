@@ -22,10 +22,10 @@ use Rattle.kernel_core.specs.Start.{Inputs, first_entry, first_threads, first_wo
 use Rattle.kernel_core.specs.Step.{AfterStep, after_outcome, after_thread, guest_calls, step, step_by, thread_outcome}
 use Rattle.kernel_core.specs.declared.settings.Job.{Job}
 use Rattle.kernel_core.specs.declared.settings.Job.TheVariants as jobs
-use Rattle.lwc_base.specs.declared.fault.ThreadStatus.{ThreadStatus}
-use Rattle.lwc_base.specs.declared.fault.ThreadStatus.TheVariants.{Done, Faulted, Idle, Running}
+use Rattle.lwc_types.specs.declared.fault.ThreadStatus.{ThreadStatus}
+use Rattle.lwc_types.specs.declared.fault.ThreadStatus.TheVariants.{Done, Faulted, Idle, Running}
 use Rattle.kernel_core.specs.declared.thread.Thread.{Thread}
-use Rattle.lwc_base.specs.declared.limits.TheConstants.{MOST_STEPS}
+use Rattle.lwc_types.specs.declared.limits.TheConstants.{MOST_STEPS}
 use Rattle.lwc_text.proofs.Glyphs.{flat_digits}
 use Rattle.lwc_text.specs.Glyphs.{glyph}
 use Rattle.lwc_text.specs.Lines.{steps_text}

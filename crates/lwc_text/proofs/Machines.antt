@@ -15,11 +15,11 @@ use Rattle.snapshot_host.specs.declared.finishing.Finished.{Finished}
 use Rattle.kernel_core.specs.declared.thread.ThreadView.{ThreadView}
 use Rattle.lwc_base.specs.Summaries.{summary_of}
 use Rattle.lwc_base.specs.World.{World}
-use Rattle.lwc_base.specs.declared.name.Name.{Name}
-use Rattle.lwc_base.specs.declared.size.Summary.{Summary}
+use Rattle.lwc_types.specs.declared.name.Name.{Name}
+use Rattle.lwc_types.specs.declared.size.Summary.{Summary}
 use Rattle.lwc_text.specs.Lines.{context_line, reply_line, thread_lines}
 use Rattle.lwc_text.specs.Report.{thread_at}
-use Rattle.lwc_base.proofs.Orders.{name_cmp-total}
+use Rattle.lwc_types.proofs.Orders.{name_cmp-total}
 
 -- a name among those of live contexts is live
 pub lives : (w : World) (i : ℕ) (c : Name) → slice_get (fm.keys w.contexts) i ≡ Some c → fm.contains_key w.contexts c ≡ true

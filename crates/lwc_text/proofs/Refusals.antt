@@ -2,7 +2,7 @@
 use Rattle.std.proofs.Common.{◌≡◌, ℕ, zero, suc, ◌+◌, ◌≤◌, ◌<◌, Bool, true, false, List, [], ◌∷◌, Option, Some, None, Ok, Err, refl, ap, ◌∙◌, arith, eqb}
 use Rattle.std.proofs.lemmas.Bool.Decides.{nat_tests}
 use Rattle.std.specs.List.{cons_option, filter_map, range_with_len}
-use Rattle.lwc_base.specs.Outcomes.{Refusal, unless_refused}
+use Rattle.lwc_types.specs.Outcomes.{Refusal, unless_refused}
 use Rattle.lwc_text.specs.declared.fault.InputRule.{InputRule}
 
 -- where nothing is refused from a number on, there is no refusal

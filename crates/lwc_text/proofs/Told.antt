@@ -8,7 +8,7 @@ use Rattle.kernel_core.specs.Step.{with_world}
 use Rattle.lwc_base.specs.Frames.{used}
 use Rattle.lwc_base.specs.Summaries.{summary_of}
 use Rattle.lwc_base.specs.World.{World}
-use Rattle.lwc_base.specs.declared.name.Name.{Name}
+use Rattle.lwc_types.specs.declared.name.Name.{Name}
 use Rattle.lwc_text.specs.Lines.{context_line, groups_line, tail_lines}
 use Rattle.lwc_text.specs.Report.{contexts_text, replies_text, report_of, threads_text}
 

@@ -14,9 +14,9 @@ use Rattle.guest_image.specs.Numbers.{is_above, rising_after}
 use Rattle.guest_image.specs.Spelling.{number, page}
 use Rattle.guest_image.specs.declared.image.PageImage.{PageImage}
 use Rattle.guest_image.specs.declared.image.Vault.{Vault}
-use Rattle.lwc_base.specs.Outcomes.{Answers, ◌>>=◌}
-use Rattle.lwc_base.specs.declared.reading.ReadError.{ReadError}
-use Rattle.lwc_base.specs.declared.reading.ReadError.TheVariants as errors
+use Rattle.lwc_types.specs.Outcomes.{Answers, ◌>>=◌}
+use Rattle.lwc_types.specs.declared.reading.ReadError.{ReadError}
+use Rattle.lwc_types.specs.declared.reading.ReadError.TheVariants as errors
 use Rattle.lwc_text.specs.declared.fault.InputRule.{InputRule}
 use Rattle.lwc_text.specs.declared.fault.InputRule.TheVariants.{BadEntry, BadPage, TooLong, Truncated}
 use Rattle.lwc_text.specs.VaultFiles.{IsVaultFile, Read, number_in, page_at, page_in, pages_at, refused, vault_at}

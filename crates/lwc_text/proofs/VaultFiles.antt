@@ -4,9 +4,9 @@ use Rattle.std.specs.Prelude.{is_some}
 use Rattle.std.proofs.lemmas.Bool.Decides.{nat_tests}
 use Rattle.std.proofs.lemmas.List.{length-drop}
 use Rattle.guest_image.specs.declared.image.PageImage.{PageImage}
-use Rattle.lwc_base.specs.Outcomes.{Fails, ◌>>=◌}
-use Rattle.lwc_base.specs.declared.reading.ReadError.{ReadError}
-use Rattle.lwc_base.specs.declared.reading.ReadError.TheVariants as errors
+use Rattle.lwc_types.specs.Outcomes.{Fails, ◌>>=◌}
+use Rattle.lwc_types.specs.declared.reading.ReadError.{ReadError}
+use Rattle.lwc_types.specs.declared.reading.ReadError.TheVariants as errors
 use Rattle.lwc_text.specs.declared.fault.InputRule.{InputRule}
 use Rattle.lwc_text.specs.VaultFiles.{Read, page_at, pages_at}
 

@@ -2,7 +2,7 @@
 use Rattle.std.specs.Prelude.{◌≡◌, ◌<◌, ◌≤◌, ◌^◌, ℕ, List, Ok, slice_index}
 use Rattle.lwc_text.specs.Requests.{IsRequestFile, requests_at}
 use Rattle.guest_image.specs.declared.image.Vault.{Vault}
-use Rattle.lwc_base.specs.declared.limits.TheConstants.{MOST_PAGES}
+use Rattle.lwc_types.specs.declared.limits.TheConstants.{MOST_PAGES}
 use Rattle.lwc_text.specs.VaultFiles.{IsVaultFile, vault_at}
 use Rattle.lwc_text.specs.Schedules.{IsSchedule, schedule_at}
 

@@ -3,9 +3,9 @@ pub use Rattle.kernel_core.specs.Kernel
 pub use Rattle.kernel_core.specs.Machine
 pub use Rattle.kernel_core.specs.Runs
 pub use Rattle.kernel_core.specs.Start
-pub use Rattle.lwc_base.specs.Faults
+pub use Rattle.lwc_types.specs.Faults
 pub use Rattle.lwc_base.specs.Frames
-pub use Rattle.lwc_base.specs.Outcomes
+pub use Rattle.lwc_types.specs.Outcomes
 pub use Rattle.lwc_base.specs.Summaries
 pub use Rattle.lwc_base.specs.World
 pub mod Facts

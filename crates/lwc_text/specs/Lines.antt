@@ -4,11 +4,11 @@ use Rattle.std.specs.Fmt.{digits}
 use Rattle.std.specs.List.{flat_map}
 use Rattle.hex.specs.Hex.{encode_lower}
 use Rattle.kernel_core.specs.declared.thread.ThreadView.{ThreadView}
-use Rattle.lwc_base.specs.declared.fault.ThreadStatus.{ThreadStatus}
-use Rattle.lwc_base.specs.declared.fault.ThreadStatus.TheVariants.{Idle, Running, Done, Faulted}
-use Rattle.lwc_base.specs.declared.name.Name.{Name}
-use Rattle.lwc_base.specs.declared.size.Summary.{Summary}
-use Rattle.lwc_base.specs.Faults.{fault_number}
+use Rattle.lwc_types.specs.declared.fault.ThreadStatus.{ThreadStatus}
+use Rattle.lwc_types.specs.declared.fault.ThreadStatus.TheVariants.{Idle, Running, Done, Faulted}
+use Rattle.lwc_types.specs.declared.name.Name.{Name}
+use Rattle.lwc_types.specs.declared.size.Summary.{Summary}
+use Rattle.lwc_types.specs.Faults.{fault_number}
 use Rattle.snapshot_host.specs.declared.finishing.Finished.{Finished}
 
 -- bytes as lower-case hexadecimal, two digits each; a dash where there are none

@@ -6,8 +6,8 @@ use Rattle.std.specs.Option.{option_map}
 use Rattle.std.specs.Result.{result_ok}
 use Rattle.std.specs.Str.Lines.{lines}
 use Rattle.hex.specs.Hex.{decode_of, is_hex_digit}
-use Rattle.lwc_base.specs.Outcomes.{Refusal, unless_refused}
-use Rattle.lwc_base.specs.declared.limits.TheConstants.{MOST_REQUESTS, MOST_REQUEST_BYTES, MOST_REQUEST_FILE_BYTES}
+use Rattle.lwc_types.specs.Outcomes.{Refusal, unless_refused}
+use Rattle.lwc_types.specs.declared.limits.TheConstants.{MOST_REQUESTS, MOST_REQUEST_BYTES, MOST_REQUEST_FILE_BYTES}
 use Rattle.lwc_text.specs.declared.fault.InputRule.{InputRule}
 use Rattle.lwc_text.specs.declared.fault.InputRule.TheVariants.{TooLong, TooManyRequests, BadHex, RequestTooLong}
 use Rattle.lwc_text.specs.declared.fault.InputRule.TheVariants.{OddLength}

@@ -6,8 +6,8 @@ use Rattle.std.specs.Option.{option_map, option_map_or}
 use Rattle.std.specs.List.{filter_map, range_with_len}
 use Rattle.lwc_text.specs.declared.fault.InputRule.{InputRule}
 use Rattle.lwc_text.specs.declared.fault.InputRule.TheVariants.{TooLong, BadThread, TooManySteps}
-use Rattle.lwc_base.specs.Outcomes.{Refusal, unless_refused}
-use Rattle.lwc_base.specs.declared.limits.TheConstants.{MOST_SCHEDULE_BYTES}
+use Rattle.lwc_types.specs.Outcomes.{Refusal, unless_refused}
+use Rattle.lwc_types.specs.declared.limits.TheConstants.{MOST_SCHEDULE_BYTES}
 
 -- whether a byte is skipped: a space, a carriage return or a line feed
 abbrev pub is_blank : ℕ → Bool

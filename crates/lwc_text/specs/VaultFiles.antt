@@ -9,7 +9,7 @@ use Rattle.guest_image.specs.Spelling.{number, page}
 use Rattle.guest_image.specs.declared.image.PageImage.{PageImage}
 use Rattle.guest_image.specs.declared.image.TheConstants.{MOST_VAULT_PAGES}
 use Rattle.guest_image.specs.declared.image.Vault.{Vault}
-use Rattle.lwc_base.specs.Outcomes.{Refusal, ◌>>=◌}
+use Rattle.lwc_types.specs.Outcomes.{Refusal, ◌>>=◌}
 use Rattle.lwc_text.specs.declared.fault.InputRule.{InputRule}
 use Rattle.lwc_text.specs.declared.fault.InputRule.TheVariants.{TooLong, Truncated, BadEntry, BadPage}
 use Rattle.lwc_text.specs.declared.vault.TheConstants.{MOST_VAULT_BYTES, NUMBER_BYTES, NUMBERED_PAGE_BYTES}

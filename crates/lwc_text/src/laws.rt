@@ -5,7 +5,7 @@ ghost use Rattle.kernel_core.specs.Histories.{IsComplete, IsLegal};
 ghost use Rattle.kernel_core.specs.Kernel.{CanOpen};
 ghost use Rattle.kernel_core.specs.Machine.{work};
 ghost use Rattle.kernel_core.specs.Start.{Inputs, start, thread_count};
-ghost use Rattle.lwc_base.specs.declared.limits.TheConstants.{MOST_STEPS};
+ghost use Rattle.lwc_types.specs.declared.limits.TheConstants.{MOST_STEPS};
 ghost use Rattle.lwc_text.specs.Facts.{RequestFacts, ScheduleFacts, VaultFileFacts};
 ghost use Rattle.lwc_text.specs.Lines.{steps_text};
 ghost use Rattle.lwc_text.specs.Report.{report_after, report_of_schedule};

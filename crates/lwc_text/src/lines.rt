@@ -3,7 +3,7 @@
 
 ghost use Rattle.std.specs.Prelude.{◌≡◌, ◌+◌, ◌*◌, ◌≤◌, ◌++◌, IfOk, IsOk, OnOk, OnErr, length, vec_capacity};
 ghost use Rattle.std.specs.Prelude.{string_bytes, codes, decimal};
-ghost use Rattle.lwc_base.specs.declared.limits.TheConstants.{MOST_REPLY_BYTES};
+ghost use Rattle.lwc_types.specs.declared.limits.TheConstants.{MOST_REPLY_BYTES};
 ghost use Rattle.std.specs.List.{flat_map};
 ghost use Rattle.lwc_text.specs.Lines.{bytes_text, context_line, groups_line, name_text, regs_line};
 ghost use Rattle.lwc_text.specs.Lines.{reply_line, reply_text, status_text, steps_text, tail_lines};

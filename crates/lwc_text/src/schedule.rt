@@ -3,9 +3,9 @@
 ghost use Rattle.std.specs.Prelude.{◌≡◌, ◌≤◌, ◌<◌, ◌++◌, ◌∷◌, ℕ, List, [], ◌↔◌, IsTrue, length, All};
 ghost use Rattle.std.specs.Prelude.{slice_get, take, ◌+◌, IfOk, IfErr, OnOk, Some, None, Ok};
 ghost use Rattle.std.specs.Option.{option_map};
-ghost use Rattle.lwc_base.specs.Outcomes.{Answers, Fails, IsFound, unless_refused};
-ghost use Rattle.lwc_base.specs.declared.limits.TheConstants.{MOST_STEPS, MOST_THREADS};
-ghost use Rattle.lwc_base.specs.declared.reading.ReadError.TheVariants.{OutOfMemory};
+ghost use Rattle.lwc_types.specs.Outcomes.{Answers, Fails, IsFound, unless_refused};
+ghost use Rattle.lwc_types.specs.declared.limits.TheConstants.{MOST_STEPS, MOST_THREADS};
+ghost use Rattle.lwc_types.specs.declared.reading.ReadError.TheVariants.{OutOfMemory};
 ghost use Rattle.lwc_text.specs.Schedules.{IsSchedule, digit_number, is_blank, names_thread, numbers};
 ghost use Rattle.lwc_text.specs.Schedules.{refusal_of, refusals, rule_broken, schedule_at};
 
@@ -26,7 +26,7 @@ pub struct Schedule {
 
 impl Model for Schedule {
     ghost use Rattle.std.specs.Prelude.{ℕ, ◌≤◌, ◌<◌, List, All, length};
-    ghost use Rattle.lwc_base.specs.declared.limits.TheConstants.{MOST_STEPS, MOST_THREADS};
+    ghost use Rattle.lwc_types.specs.declared.limits.TheConstants.{MOST_STEPS, MOST_THREADS};
 
     ghost Value = { List ℕ };
 

@@ -4,9 +4,9 @@ ghost use Rattle.std.specs.Prelude.{◌≡◌, ◌≤◌, ◌+◌, None, Some, I
 ghost use Rattle.guest_image.specs.declared.image.TheConstants.{MOST_VAULT_PAGES};
 ghost use Rattle.guest_image.specs.declared.image.Vault as vaults;
 ghost use Rattle.guest_image.specs.Numbers.{is_above};
-ghost use Rattle.lwc_base.specs.Outcomes.{Answers};
-ghost use Rattle.lwc_base.specs.declared.limits.TheConstants.{MOST_PAGES};
-ghost use Rattle.lwc_base.specs.declared.reading.ReadError.TheVariants.{OutOfMemory};
+ghost use Rattle.lwc_types.specs.Outcomes.{Answers};
+ghost use Rattle.lwc_types.specs.declared.limits.TheConstants.{MOST_PAGES};
+ghost use Rattle.lwc_types.specs.declared.reading.ReadError.TheVariants.{OutOfMemory};
 ghost use Rattle.lwc_text.specs.VaultFiles as spec;
 
 use crate::fault::{InputFault, InputRule};

@@ -21,8 +21,8 @@ use Rattle.kernel_core.specs.Runs.{frames_of, kept, peak, run}
 use Rattle.kernel_core.specs.Start.{Inputs, start, vault_name, world_for}
 use Rattle.kernel_core.specs.Step.{step}
 use Rattle.kernel_core.specs.declared.thread.Thread.{Thread}
-use Rattle.lwc_base.proofs.Orders.{cases_name, name-itself, other_name, same_name}
-use Rattle.lwc_base.specs.Names.{name_cmp}
+use Rattle.lwc_types.proofs.Orders.{cases_name, name-itself, other_name, same_name}
+use Rattle.lwc_types.specs.Names.{name_cmp}
 use Rattle.lwc_text.specs.Lines.{groups_line, tail_lines}
 use Rattle.lwc_text.specs.Report.{replies_text, report_after, report_of, report_of_schedule, threads_text}
 use Rattle.lwc_vault.proofs.Hiding.{cover-outside, ended-hide, frames-hide, hide}

@@ -12,10 +12,10 @@ use Rattle.kernel_core.specs.Start.{vault_name}
 use Rattle.kernel_core.specs.Step.{AfterStep, after_outcome, after_thread, contexts_of, guest_calls, only, roots, step, step_by, thread_outcome, unchanged, with_regs, with_status, with_world}
 use Rattle.kernel_core.specs.declared.thread.Thread.{Thread}
 use Rattle.lwc_base.specs.Life as life
-use Rattle.lwc_base.specs.Registers.{fresh_registers}
-use Rattle.lwc_base.specs.declared.fault.ThreadStatus.{ThreadStatus}
-use Rattle.lwc_base.specs.declared.fault.ThreadStatus.TheVariants as status
-use Rattle.lwc_base.specs.declared.regs.Regs.{Regs}
+use Rattle.lwc_types.specs.Registers.{fresh_registers}
+use Rattle.lwc_types.specs.declared.fault.ThreadStatus.{ThreadStatus}
+use Rattle.lwc_types.specs.declared.fault.ThreadStatus.TheVariants as status
+use Rattle.lwc_types.specs.declared.regs.Regs.{Regs}
 use Rattle.lwc_vault.proofs.Stepping.{advance-blank, blank_env, cover, tells_outside}
 use Rattle.lwc_vault.specs.Blanks.{ActsOutside}
 use Rattle.lwc_vault.specs.Told.{stands_inside}

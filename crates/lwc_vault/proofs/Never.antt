@@ -15,7 +15,7 @@ use Rattle.kernel_core.specs.Step.{step}
 use Rattle.kernel_core.specs.declared.settings.Job.{Job}
 use Rattle.kernel_core.specs.declared.settings.Job.TheVariants.{Run}
 use Rattle.kernel_core.specs.declared.thread.Thread.{Thread}
-use Rattle.lwc_base.specs.declared.name.Name.{Name}
+use Rattle.lwc_types.specs.declared.name.Name.{Name}
 use Rattle.lwc_vault.proofs.Staying.{no_serve}
 use Rattle.lwc_vault.proofs.Telling.{stays_run}
 use Rattle.lwc_vault.specs.Secrets.{Enters, NoneEnters, StandOutside, beside}

@@ -12,16 +12,16 @@ use Rattle.kernel_core.specs.Machine.{Machine}
 use Rattle.kernel_core.specs.Start.{Inputs, first_name, first_page, image_tag, start, vault_context, vault_name, vault_value, with_context, with_vault, world_for}
 use Rattle.lwc_base.specs.Capabilities.{empty_cap}
 use Rattle.lwc_base.specs.Cells.{put_slot}
-use Rattle.lwc_base.specs.Pages.{zero_page}
-use Rattle.lwc_base.specs.Registers.{fresh_registers}
 use Rattle.lwc_base.specs.World.{World, Context, change_counters}
 use Rattle.lwc_base.specs.declared.cell.Cell.TheVariants.{Own}
 use Rattle.lwc_base.specs.declared.descriptor.Descriptor.TheVariants.{Ctx}
-use Rattle.lwc_base.specs.declared.key.Key.{Key}
-use Rattle.lwc_base.specs.declared.key.Key.TheVariants.{Page, Slot, Cred}
-use Rattle.lwc_base.specs.declared.page.PageValue.{PageValue}
-use Rattle.lwc_base.specs.declared.page.PageValue.TheVariants.{Data}
-use Rattle.lwc_base.specs.declared.right.Right.TheVariants.{Write}
+use Rattle.lwc_types.specs.Pages.{zero_page}
+use Rattle.lwc_types.specs.Registers.{fresh_registers}
+use Rattle.lwc_types.specs.declared.key.Key.{Key}
+use Rattle.lwc_types.specs.declared.key.Key.TheVariants.{Page, Slot, Cred}
+use Rattle.lwc_types.specs.declared.page.PageValue.{PageValue}
+use Rattle.lwc_types.specs.declared.page.PageValue.TheVariants.{Data}
+use Rattle.lwc_types.specs.declared.right.Right.TheVariants.{Write}
 use Rattle.lwc_text.specs.Report.{report_after, text_of}
 use Rattle.lwc_vault.proofs.Staying.{all-outside, no_serve}
 use Rattle.lwc_vault.proofs.Telling.{ActOutside, act-back, act-blank, legal-back, legal-blank, text-blank}

@@ -6,7 +6,7 @@ use Rattle.kernel_core.specs.Machine.{Environment, Machine}
 use Rattle.kernel_core.specs.Start.{vault_name}
 use Rattle.kernel_core.specs.Step.{Outcome, advance_outcome, guest_calls, step}
 use Rattle.kernel_core.specs.declared.thread.Thread.{Thread}
-use Rattle.lwc_base.specs.declared.name.Name.{Name}
+use Rattle.lwc_types.specs.declared.name.Name.{Name}
 use Rattle.lwc_vault.specs.Blanks.{ActsOutside, blank_machine}
 use Rattle.world_views.specs.Blank.{tells_registers}
 use Rattle.world_views.specs.Outside.{IsOutside}

@@ -9,20 +9,20 @@ use Rattle.kernel_core.specs.Start.{vault_name}
 use Rattle.lwc_base.specs.Cells.{put_at, put_in, value_at, value_of, with_cell}
 use Rattle.lwc_base.specs.Frames.{is_parting}
 use Rattle.lwc_base.specs.Keys.{with_key}
-use Rattle.lwc_base.specs.Names.{name_cmp}
-use Rattle.lwc_base.specs.Pages.{bytes_of, zero_page}
-use Rattle.lwc_base.specs.Registers.{fresh_registers}
 use Rattle.lwc_base.specs.Store.{Piece, bytes_after, page_value_at, put_pages, stored_pages, stored_value}
 use Rattle.lwc_base.specs.World.{Context, World, change_context, change_counters, changed_context, context, new_context}
 use Rattle.lwc_base.specs.declared.cell.Cell.{Cell}
 use Rattle.lwc_base.specs.declared.cell.Cell.TheVariants.{Own}
-use Rattle.lwc_base.specs.declared.key.Key.{Key}
-use Rattle.lwc_base.specs.declared.key.Key.TheVariants.{Cred, Page, Slot}
-use Rattle.lwc_base.specs.declared.name.Name.{Name}
-use Rattle.lwc_base.specs.declared.name.Tag.{Tag}
-use Rattle.lwc_base.specs.declared.page.PageValue.{PageValue}
-use Rattle.lwc_base.specs.declared.page.PageValue.TheVariants.{Data, Zero}
-use Rattle.lwc_base.proofs.Orders.{name_cmp-IsAntisymmetric, name_cmp-total, same_name}
+use Rattle.lwc_types.specs.Names.{name_cmp}
+use Rattle.lwc_types.specs.Pages.{bytes_of, zero_page}
+use Rattle.lwc_types.specs.Registers.{fresh_registers}
+use Rattle.lwc_types.specs.declared.key.Key.{Key}
+use Rattle.lwc_types.specs.declared.key.Key.TheVariants.{Cred, Page, Slot}
+use Rattle.lwc_types.specs.declared.name.Name.{Name}
+use Rattle.lwc_types.specs.declared.name.Tag.{Tag}
+use Rattle.lwc_types.specs.declared.page.PageValue.{PageValue}
+use Rattle.lwc_types.specs.declared.page.PageValue.TheVariants.{Data, Zero}
+use Rattle.lwc_types.proofs.Orders.{name_cmp-IsAntisymmetric, name_cmp-total, same_name}
 use Rattle.world_views.proofs.BlankAsked.{get-blank}
 use Rattle.world_views.proofs.JobTables.{changed_entry, get-changed_entry}
 use Rattle.world_views.specs.Blank.{blank, blank_cell, blank_context, blank_contexts}

@@ -7,7 +7,7 @@ use Rattle.kernel_core.specs.Start.{vault_name}
 pub use Rattle.blank_steps.proofs.Running.{stays_run}
 use Rattle.blank_steps.proofs.Running as every
 use Rattle.lwc_base.specs.World.{World}
-use Rattle.lwc_base.specs.declared.name.Name.{Name}
+use Rattle.lwc_types.specs.declared.name.Name.{Name}
 use Rattle.lwc_text.proofs.Told.{TellAlike, contexts_alike, report_alike}
 use Rattle.lwc_text.specs.Report.{contexts_text, report_of, text_of}
 use Rattle.lwc_vault.specs.Blanks.{blank_machine}

@@ -7,8 +7,8 @@ use Rattle.lwc_base.specs.Cells.{slot_at}
 use Rattle.lwc_base.specs.World.{World}
 use Rattle.lwc_base.specs.declared.descriptor.Cap.{Cap}
 use Rattle.lwc_base.specs.declared.descriptor.Descriptor.TheVariants.{Ctx}
-use Rattle.lwc_base.specs.declared.descriptor.TheConstants.{SLOTS}
-use Rattle.lwc_base.specs.declared.name.Name.{Name}
+use Rattle.lwc_types.specs.declared.key.TheConstants.{SLOTS}
+use Rattle.lwc_types.specs.declared.name.Name.{Name}
 use Rattle.world_views.specs.Outside.{LacksKeys}
 
 -- the machine with zero bytes in each page of the vault, the tags kept

@@ -11,7 +11,7 @@ ghost use Rattle.kernel_core.specs.Step.{guest_calls, step};
 ghost use Rattle.kernel_core.specs.declared.calling.TheConstants.{LW_SWITCH};
 ghost use Rattle.kernel_core.specs.declared.thread.Thread.{Thread};
 ghost use Rattle.lwc_base.specs.declared.answer.Moved.TheVariants.{To};
-ghost use Rattle.lwc_base.specs.declared.regs.Regs.{Regs};
+ghost use Rattle.lwc_types.specs.declared.regs.Regs.{Regs};
 ghost use Rattle.lwc_switch.specs.Switch.{switch};
 ghost use Rattle.lwc_text.specs.Report.{report_after, report_of};
 ghost use Rattle.lwc_vault.specs.Blanks.{ActsOutside, IsShutWorld};

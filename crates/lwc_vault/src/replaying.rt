@@ -6,7 +6,7 @@ ghost use Rattle.guest_image.specs.declared.image.TheConstants.{VAULT_SLOT};
 ghost use Rattle.kernel_core.specs.Kernel as kernel;
 ghost use Rattle.kernel_core.specs.Kernel.{CanKeep};
 ghost use Rattle.kernel_core.specs.Settings.{IsSettings};
-ghost use Rattle.lwc_base.specs.declared.limits.TheConstants.{MOST_STEPS};
+ghost use Rattle.lwc_types.specs.declared.limits.TheConstants.{MOST_STEPS};
 ghost use Rattle.lwc_text.specs.Report.{report_of_schedule};
 ghost use Rattle.lwc_vault.specs.Secrets.{KeepsSecret};
 ghost use Rattle.lwc_vault.specs.Slots as spec;

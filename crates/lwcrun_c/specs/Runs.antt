@@ -15,19 +15,19 @@ use Rattle.kernel_core.specs.declared.settings.Settings.{Settings}
 use Rattle.kernel_core.specs.declared.thread.ThreadView.{ThreadView}
 use Rattle.guest_image.specs.declared.fault.ImageRule.{ImageRule}
 use Rattle.lwc_base.specs.Cells.{slot_at}
-use Rattle.lwc_base.specs.Faults.{fault_number}
 use Rattle.lwc_base.specs.Frames.{used}
 use Rattle.lwc_base.specs.declared.descriptor.Descriptor.{Descriptor}
 use Rattle.lwc_base.specs.declared.descriptor.Descriptor.TheVariants as descriptors
-use Rattle.lwc_base.specs.declared.fault.ThreadStatus.{ThreadStatus}
-use Rattle.lwc_base.specs.declared.fault.ThreadStatus.TheVariants as statuses
 use Rattle.lwc_base.specs.Memory.{load}
-use Rattle.lwc_base.specs.Outcomes.{Refusal}
 use Rattle.lwc_base.specs.World.{World, is_live}
-use Rattle.lwc_base.specs.declared.descriptor.TheConstants.{SLOTS}
-use Rattle.lwc_base.specs.declared.limits.TheConstants.{MOST_STEPS}
-use Rattle.lwc_base.specs.declared.name.Name.{Name}
-use Rattle.lwc_base.specs.declared.page.TheConstants.{PAGE_BYTES}
+use Rattle.lwc_types.specs.Faults.{fault_number}
+use Rattle.lwc_types.specs.declared.fault.ThreadStatus.{ThreadStatus}
+use Rattle.lwc_types.specs.declared.fault.ThreadStatus.TheVariants as statuses
+use Rattle.lwc_types.specs.Outcomes.{Refusal}
+use Rattle.lwc_types.specs.declared.key.TheConstants.{SLOTS}
+use Rattle.lwc_types.specs.declared.limits.TheConstants.{MOST_STEPS}
+use Rattle.lwc_types.specs.declared.name.Name.{Name}
+use Rattle.lwc_types.specs.declared.page.TheConstants.{PAGE_BYTES}
 use Rattle.lwc_text.specs.Requests.{requests_at}
 use Rattle.lwc_text.specs.declared.fault.InputRule.{InputRule}
 use Rattle.lwcrun_c.specs.declared.runs.Run.{Run}

@@ -18,7 +18,7 @@ ghost use Rattle.std.specs.Prelude.{
 };
 ghost use Rattle.std.specs.Option.{option_map};
 ghost use Rattle.kernel_core.specs.Kernel.{machine_of, view_of};
-ghost use Rattle.lwc_base.specs.declared.page.TheConstants.{PAGE_BYTES};
+ghost use Rattle.lwc_types.specs.declared.page.TheConstants.{PAGE_BYTES};
 ghost use Rattle.lwcrun_c.specs.Border.{AreText, line_of, named};
 ghost use Rattle.lwcrun_c.specs.Lines.{IsAnswer, IsOutcome};
 ghost use Rattle.lwcrun_c.specs.Runs.{

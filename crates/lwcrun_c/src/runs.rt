@@ -7,7 +7,7 @@ ghost use Rattle.kernel_core.specs.Kernel.{AreRequests, MayHave, opened};
 ghost use Rattle.kernel_core.specs.Runs.{kept};
 ghost use Rattle.kernel_core.specs.Settings.{IsJob, IsSettings};
 ghost use Rattle.kernel_core.specs.Start.{start};
-ghost use Rattle.lwc_base.specs.declared.limits.TheConstants.{MOST_STEPS};
+ghost use Rattle.lwc_types.specs.declared.limits.TheConstants.{MOST_STEPS};
 ghost use Rattle.lwc_text.specs.Requests.{requests_at};
 ghost use Rattle.lwcrun_c.specs.Runs.{
   AreRequestsOf,

@@ -6,7 +6,7 @@ use Rattle.std.proofs.lemmas.List.Elements.{All-append, All-get_or, All-nil, All
 use Rattle.std.specs.Prelude.{nat_lt}
 use Rattle.std.specs.List.{range_with_len}
 use Rattle.std.specs.Option.{option_map}
-use Rattle.lwc_base.specs.Outcomes.{Refusal}
+use Rattle.lwc_types.specs.Outcomes.{Refusal}
 use Rattle.guest_asm.specs.Drafts.{assembled}
 use Rattle.guest_image.specs.Limits.{IsImage, lifted, pages_of}
 use Rattle.guest_image.specs.Reading.{image_at}
@@ -55,7 +55,7 @@ use Rattle.lwc_debug.specs.declared.script.TheConstants.{MOST_SCRIPT_BYTES}
 use Rattle.lwc_vault.proofs.Schedules.{keeps_secret}
 use Rattle.lwc_vault.proofs.Slots.{leaves_free, takes_none}
 use Rattle.lwc_vault.specs.Secrets.{beside}
-use Rattle.lwc_base.specs.declared.limits.TheConstants.{MOST_BUDGET, MOST_IMAGE_BYTES, MOST_REQUEST_FILE_BYTES, MOST_SCHEDULE_BYTES, MOST_SOURCE_BYTES, MOST_STEPS, MOST_THREADS}
+use Rattle.lwc_types.specs.declared.limits.TheConstants.{MOST_BUDGET, MOST_IMAGE_BYTES, MOST_REQUEST_FILE_BYTES, MOST_SCHEDULE_BYTES, MOST_SOURCE_BYTES, MOST_STEPS, MOST_THREADS}
 use Rattle.lwc_io.specs.Outside.{Fetch, FilesView, appended}
 use Rattle.lwc_text.specs.Requests.{IsRequestFile, requests_at}
 use Rattle.lwc_text.specs.Schedules.{IsSchedule, schedule_at}

@@ -13,7 +13,7 @@ use Rattle.kernel_core.specs.Runs.{kept, run}
 use Rattle.kernel_core.specs.Start.{Inputs, start, threads_for}
 use Rattle.kernel_core.specs.declared.settings.Settings.{Settings}
 use Rattle.lift_law.specs.Lifting.{RunsLifted}
-use Rattle.lwc_base.specs.declared.limits.TheConstants.{MOST_STEPS}
+use Rattle.lwc_types.specs.declared.limits.TheConstants.{MOST_STEPS}
 use Rattle.lwc_debug.specs.Scripts.{IsScript}
 use Rattle.lwc_debug.specs.Transcript.{transcript_of_schedule}
 use Rattle.lwc_debug.specs.declared.command.Command as debug

@@ -1,8 +1,8 @@
 -- What a call does: its work, its plan, and the text that it writes.
 use Rattle.std.specs.Prelude.{◌≡◌, ℕ, List, [], Option, None, Some, Result}
 use Rattle.guest_dis.specs.Listing.{listing}
-use Rattle.lwc_base.specs.declared.limits.TheConstants.{MOST_IMAGE_BYTES, MOST_REQUEST_FILE_BYTES}
-use Rattle.lwc_base.specs.declared.limits.TheConstants.{MOST_SCHEDULE_BYTES, MOST_SOURCE_BYTES, MOST_STEPS}
+use Rattle.lwc_types.specs.declared.limits.TheConstants.{MOST_IMAGE_BYTES, MOST_REQUEST_FILE_BYTES}
+use Rattle.lwc_types.specs.declared.limits.TheConstants.{MOST_SCHEDULE_BYTES, MOST_SOURCE_BYTES, MOST_STEPS}
 use Rattle.guest_image.specs.Limits.{lifted}
 use Rattle.guest_image.specs.Spelling.{spelling}
 use Rattle.guest_image.specs.declared.image.Image.{Image}

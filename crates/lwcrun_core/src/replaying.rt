@@ -1,6 +1,6 @@
 ghost use Rattle.std.specs.Prelude.{◌≡◌, ◌<◌, ◌≤◌, All, IfOk, length, option_map};
 ghost use Rattle.guest_image.specs.Limits.{IsImage};
-ghost use Rattle.lwc_base.specs.declared.limits.TheConstants.{MOST_STEPS};
+ghost use Rattle.lwc_types.specs.declared.limits.TheConstants.{MOST_STEPS};
 ghost use Rattle.kernel_core.specs.Kernel.{CanOpen, opened};
 ghost use Rattle.kernel_core.specs.Start.{thread_count, threads_for};
 ghost use Rattle.lwcrun_inputs.specs.Ends.{Ended};

@@ -1,7 +1,7 @@
 ghost use Rattle.std.specs.Prelude.{◌≡◌, ◌<◌, ◌≤◌, ℕ, Err, IfErr, IfOk, Some};
 ghost use Rattle.std.specs.Prelude.{length, map, slice_get};
 ghost use Rattle.guest_image.specs.Limits.{IsImage};
-ghost use Rattle.lwc_base.specs.declared.limits.TheConstants.{MOST_STEPS};
+ghost use Rattle.lwc_types.specs.declared.limits.TheConstants.{MOST_STEPS};
 ghost use Rattle.kernel_core.specs.Kernel.{CanOpen, MayHave};
 ghost use Rattle.kernel_core.specs.Machine.{work};
 ghost use Rattle.kernel_core.specs.Settings.{IsSettings};

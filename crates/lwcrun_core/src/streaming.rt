@@ -5,7 +5,7 @@ ghost use Rattle.kernel_core.specs.Kernel.{CanOpen};
 ghost use Rattle.kernel_core.specs.Machine.{work};
 ghost use Rattle.kernel_core.specs.Runs.{run};
 ghost use Rattle.kernel_core.specs.Start.{start};
-ghost use Rattle.lwc_base.specs.declared.limits.TheConstants.{MOST_STEPS};
+ghost use Rattle.lwc_types.specs.declared.limits.TheConstants.{MOST_STEPS};
 ghost use Rattle.lwc_io.specs.Outside.{FilesView};
 ghost use Rattle.lwc_stream.specs.Replies.{IsWritten};
 ghost use Rattle.lwc_text.specs.Report.{replies_text};

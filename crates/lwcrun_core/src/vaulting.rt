@@ -2,7 +2,7 @@ ghost use Rattle.std.specs.Prelude.{◌≡◌, ◌≤◌, ◌<◌, ◌+◌, [], 
 ghost use Rattle.guest_image.specs.Limits.{IsImage};
 ghost use Rattle.kernel_core.specs.Kernel.{CanKeep};
 ghost use Rattle.kernel_core.specs.Start.{threads_for};
-ghost use Rattle.lwc_base.specs.declared.limits.TheConstants.{MOST_STEPS};
+ghost use Rattle.lwc_types.specs.declared.limits.TheConstants.{MOST_STEPS};
 ghost use Rattle.lwc_text.specs.Report.{report_of_schedule};
 ghost use Rattle.lwc_vault.specs.Secrets.{beside};
 ghost use Rattle.lwcrun_inputs.specs.Ends.{Ended};

@@ -4,16 +4,16 @@ use Rattle.std.specs.Prelude.{nat_lt}
 use Rattle.std.specs.Result.{IsErr, IsErrAnd}
 use Rattle.std.proofs.lemmas.Bool.{le-ltb, lt-ltb, ltb-false}
 use Rattle.std.proofs.lemmas.Bool.Decides.{nat_tests}
-use Rattle.lwc_base.specs.Outcomes.{Refusal, Fails}
-use Rattle.lwc_base.specs.declared.reading.ReadError.{ReadError}
-use Rattle.lwc_base.specs.declared.reading.ReadError.TheVariants as errors
+use Rattle.lwc_types.specs.Outcomes.{Refusal, Fails}
+use Rattle.lwc_types.specs.declared.reading.ReadError.{ReadError}
+use Rattle.lwc_types.specs.declared.reading.ReadError.TheVariants as errors
 use Rattle.guest_asm.specs.Drafts.{assembled, draft_at}
 use Rattle.guest_asm.specs.declared.error.SourceRule.TheVariants as sources
 use Rattle.guest_image.specs.Reading.{image_at}
 use Rattle.guest_image.specs.declared.fault.ImageRule.TheVariants.{TooLong}
 use Rattle.guest_image.specs.declared.image.Image.{Image}
 use Rattle.kernel_core.specs.declared.settings.Settings.{Settings}
-use Rattle.lwc_base.specs.declared.limits.TheConstants.{MOST_IMAGE_BYTES, MOST_REQUEST_FILE_BYTES, MOST_SCHEDULE_BYTES, MOST_SOURCE_BYTES, MOST_STEPS}
+use Rattle.lwc_types.specs.declared.limits.TheConstants.{MOST_IMAGE_BYTES, MOST_REQUEST_FILE_BYTES, MOST_SCHEDULE_BYTES, MOST_SOURCE_BYTES, MOST_STEPS}
 use Rattle.lwc_io.specs.Outside.{FilesView}
 use Rattle.lwc_text.specs.Requests.{requests_at}
 use Rattle.lwc_text.specs.Schedules.{schedule_at}

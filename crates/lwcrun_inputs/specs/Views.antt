@@ -1,7 +1,7 @@
 -- How contracts see the code's endings, and the outside.
 use Rattle.std.specs.Prelude.{ℕ, Result, Ok, Err}
-use Rattle.lwc_base.specs.declared.reading.ReadError.{ReadError}
-use Rattle.lwc_base.specs.declared.reading.ReadError.TheVariants as errors
+use Rattle.lwc_types.specs.declared.reading.ReadError.{ReadError}
+use Rattle.lwc_types.specs.declared.reading.ReadError.TheVariants as errors
 use Rattle.lwc_io.specs.Outside.{FilesView, SinkView}
 use Rattle.lwcrun_inputs.specs.declared.ending.Ending.{Ending}
 use Rattle.lwcrun_inputs.specs.declared.ending.Ending.TheVariants as endings

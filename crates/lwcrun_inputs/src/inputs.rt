@@ -1,7 +1,7 @@
 ghost use Rattle.std.specs.Prelude.{◌≡◌, ◌≤◌, ◌<◌, ◌+◌, ◌^◌, All, IfOk, OnOk, length};
-ghost use Rattle.lwc_base.specs.declared.limits.TheConstants.{MOST_IMAGE_BYTES, MOST_REQUESTS};
-ghost use Rattle.lwc_base.specs.declared.limits.TheConstants.{MOST_REQUEST_FILE_BYTES, MOST_SCHEDULE_BYTES};
-ghost use Rattle.lwc_base.specs.declared.limits.TheConstants.{MOST_SOURCE_BYTES, MOST_STEPS};
+ghost use Rattle.lwc_types.specs.declared.limits.TheConstants.{MOST_IMAGE_BYTES, MOST_REQUESTS};
+ghost use Rattle.lwc_types.specs.declared.limits.TheConstants.{MOST_REQUEST_FILE_BYTES, MOST_SCHEDULE_BYTES};
+ghost use Rattle.lwc_types.specs.declared.limits.TheConstants.{MOST_SOURCE_BYTES, MOST_STEPS};
 ghost use Rattle.guest_image.specs.Limits.{IsImage};
 ghost use Rattle.kernel_core.specs.Kernel.{AreRequests};
 ghost use Rattle.kernel_core.specs.Settings.{IsSettings};

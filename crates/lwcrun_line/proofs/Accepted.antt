@@ -8,7 +8,7 @@ use Rattle.kernel_core.specs.Settings.{IsJob, IsSettings}
 use Rattle.kernel_core.specs.declared.settings.Job.{Job}
 use Rattle.kernel_core.specs.declared.settings.Job.TheVariants as jobs
 use Rattle.kernel_core.specs.declared.settings.Settings.{Settings}
-use Rattle.lwc_base.specs.declared.limits.TheConstants.{MOST_BUDGET, MOST_FRAMES, MOST_THREADS}
+use Rattle.lwc_types.specs.declared.limits.TheConstants.{MOST_BUDGET, MOST_FRAMES, MOST_THREADS}
 use Rattle.lwcrun_line.specs.Arguments.{Arguments, arguments_of}
 use Rattle.lwcrun_line.specs.Lines.{AreRunSettings, AreServeSettings, Command, IsWithinLimits, asked_in, budget_of, command_of, debug_of, frames_of, gen_of, monitor_of, number_or, only_word, replay_with, run_of, run_settings_of, serve_of, serve_settings_of, settings_for, settings_of, stream_of, two_words, vault_of, workers_of}
 use Rattle.lwcrun_line.specs.Lines as commands

@@ -6,7 +6,7 @@ use Rattle.kernel_core.specs.Settings.{IsSettings}
 use Rattle.kernel_core.specs.declared.settings.Settings.{Settings}
 use Rattle.kernel_core.specs.declared.settings.Job.{Job}
 use Rattle.kernel_core.specs.declared.settings.Job.TheVariants as jobs
-use Rattle.lwc_base.specs.declared.limits.TheConstants.{MOST_BUDGET, MOST_FRAMES, MOST_THREADS}
+use Rattle.lwc_types.specs.declared.limits.TheConstants.{MOST_BUDGET, MOST_FRAMES, MOST_THREADS}
 use Rattle.lwcrun_line.specs.declared.line.Line.{Line}
 use Rattle.lwcrun_line.specs.declared.line.Line.TheVariants as lines
 use Rattle.lwcrun_line.specs.Arguments.{Arguments, arguments_of}

@@ -1,7 +1,7 @@
 ghost use Rattle.std.specs.Prelude.{◌≡◌, ◌≢◌, ◌≤◌, ◌↔◌, None, Some, map, IfErr, IfOk, IfSome, string_bytes};
 ghost use Rattle.std.specs.Option.{option_map};
 ghost use Rattle.kernel_core.specs.Settings.{IsJob, IsSettings};
-ghost use Rattle.lwc_base.specs.declared.limits.TheConstants.{MOST_BUDGET, MOST_FRAMES, MOST_THREADS};
+ghost use Rattle.lwc_types.specs.declared.limits.TheConstants.{MOST_BUDGET, MOST_FRAMES, MOST_THREADS};
 ghost use Rattle.lwcrun_line.specs.Arguments.{arguments_in};
 ghost use Rattle.lwcrun_line.specs.Lines as spec;
 ghost use Rattle.lwcrun_line.specs.Lines.{AreRunSettings, AreServeSettings, IsWithinLimits, asked_by, command_of};

@@ -1,7 +1,7 @@
 ghost use Rattle.std.specs.Prelude.{◌≡◌, ℕ, ◌+◌, ◌-◌, ◌<◌, ◌^◌, ◌↔◌, List, IfOk, IfSome, IfNone, IsNone, length};
 ghost use Rattle.std.specs.Prelude.{replicate, slice_set};
 
-use lwc_base::OutOfMemory;
+use lwc_types::OutOfMemory;
 use pool_base::{Counts, put_next};
 use std::alloc::Global;
 use std::marker::Model;

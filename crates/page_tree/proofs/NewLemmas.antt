@@ -3,7 +3,7 @@ use Rattle.std.proofs.Common.{◌≡◌, ℕ, zero, suc, ◌+◌, ◌≤◌, ⊎
 use Rattle.std.proofs.lemmas.List.{length-replicate, get_or-replicate, get_or_past}
 use Rattle.std.proofs.lemmas.List.Sums.{sum_by-cons}
 use Rattle.std.proofs.lemmas.Bool.{cases_lt, cond-false, ne_eqb}
-use Rattle.lwc_base.specs.declared.name.Tag.{Tag}
+use Rattle.lwc_types.specs.declared.name.Tag.{Tag}
 use Rattle.frame_pool.specs.Frame.{Frame, zero_frame, no_frame, frame_count}
 use Rattle.node_pool.specs.Nodes.{Node, empty_node, no_node, node_at, count_of, level_of, entry_of, free_of}
 use Rattle.page_tree.specs.Sound.{IsSound, is_inner, is_leaf, leading_to, naming, one_if}

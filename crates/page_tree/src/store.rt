@@ -11,7 +11,7 @@ ghost use Rattle.page_tree.specs.Steps.{HoldsMore, HoldsLess, IsLoose, IsOwned, 
 
 use crate::cell::{PageCell, cell_from, entry_from};
 use frame_pool::Pool;
-use lwc_base::OutOfMemory;
+use lwc_types::OutOfMemory;
 use node_pool::{NODE_ENTRIES, NodeNo, NodePool};
 use std::alloc::Global;
 

@@ -11,7 +11,7 @@ ghost use Rattle.page_tree.specs.Sound.{IsSound, IsTree, trees_at};
 
 use crate::cell::{PageCell, cell_from};
 use crate::store::{PAGES, ROOT_LEVEL, Store, node_of};
-use lwc_base::{PageNumber, Range};
+use lwc_types::{PageNumber, Range};
 use std::marker::Model;
 
 /// A tree of pages. By itself it is no more than the number of its root, which is how contracts see it: 0

@@ -6,7 +6,7 @@ use Rattle.kernel_core.specs.Kernel.{History, machine_of, turn}
 use Rattle.kernel_core.specs.Machine.{has_ended, is_ended}
 use Rattle.kernel_core.specs.Start.{Inputs, start, thread_count}
 use Rattle.kernel_core.specs.declared.thread.Turn.{Turn}
-use Rattle.lwc_base.specs.declared.limits.TheConstants.{MOST_STEPS}
+use Rattle.lwc_types.specs.declared.limits.TheConstants.{MOST_STEPS}
 use Rattle.process_core.specs.Running.{Leaves}
 use Rattle.process_core.specs.declared.opened.Opened.{Opened}
 use Rattle.turnstile.specs.Past.{Knows}

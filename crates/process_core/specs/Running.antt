@@ -7,9 +7,9 @@ use Rattle.guest_machine.specs.declared.progress.Advance.{Advance}
 use Rattle.kernel_core.specs.Histories.{IsLegal, turn_after}
 use Rattle.kernel_core.specs.Start.{Inputs, start, thread_count}
 use Rattle.kernel_core.specs.declared.thread.Turn.{Turn}
-use Rattle.lwc_base.specs.Registers.{fresh_registers}
-use Rattle.lwc_base.specs.declared.fault.ThreadStatus.TheVariants.{Idle}
-use Rattle.lwc_base.specs.declared.limits.TheConstants.{MOST_STEPS}
+use Rattle.lwc_types.specs.Registers.{fresh_registers}
+use Rattle.lwc_types.specs.declared.fault.ThreadStatus.TheVariants.{Idle}
+use Rattle.lwc_types.specs.declared.limits.TheConstants.{MOST_STEPS}
 use Rattle.process_core.specs.declared.opened.Opened.{Opened}
 use Rattle.turnstile.specs.Passes as gate
 use Rattle.turnstile.specs.Passes.{Held, Lock}

@@ -5,7 +5,7 @@ ghost use Rattle.kernel_core.specs.Histories.{IsLegal};
 ghost use Rattle.kernel_core.specs.Kernel.{machine_of, stepped, turn};
 ghost use Rattle.kernel_core.specs.Machine.{is_ended, work};
 ghost use Rattle.kernel_core.specs.Start.{start, thread_count};
-ghost use Rattle.lwc_base.specs.declared.limits.TheConstants.{MOST_STEPS};
+ghost use Rattle.lwc_types.specs.declared.limits.TheConstants.{MOST_STEPS};
 
 use crate::opened::Opened;
 use guest_machine::Advance;

@@ -7,7 +7,7 @@ ghost use Rattle.kernel_core.specs.Kernel as kernels;
 ghost use Rattle.kernel_core.specs.Kernel.{machine_of};
 ghost use Rattle.kernel_core.specs.Machine.{has_ended, is_ended, work};
 ghost use Rattle.kernel_core.specs.Start.{start, thread_count};
-ghost use Rattle.lwc_base.specs.declared.fault.ThreadStatus.TheVariants.{Running};
+ghost use Rattle.lwc_types.specs.declared.fault.ThreadStatus.TheVariants.{Running};
 ghost use Rattle.process_core.specs.Running.{AreAdvances, AreAllOf, Carried, IsNewPass, IsPassOf, Leaves, offered};
 ghost use Rattle.turnstile.specs.Passes as gates;
 ghost use Rattle.turnstile.specs.Past.{Knows};

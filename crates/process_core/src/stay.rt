@@ -2,7 +2,7 @@
 ghost use Rattle.std.specs.Prelude.{◌≡◌, ◌≤◌, false, true, None, Some, slice_get};
 ghost use Rattle.std.specs.Option.{option_map};
 ghost use Rattle.guest_machine.specs.Advances.{advanced};
-ghost use Rattle.lwc_base.specs.declared.fault.ThreadStatus.TheVariants.{Running};
+ghost use Rattle.lwc_types.specs.declared.fault.ThreadStatus.TheVariants.{Running};
 ghost use Rattle.process_core.specs.Running.{AreAdvances, offered};
 
 use guest_isa::{Op, Text};

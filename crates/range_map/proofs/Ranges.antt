@@ -7,19 +7,19 @@ use Rattle.std.specs.Ordering.{is_eq, nat_cmp}
 use Rattle.std.specs.Cmp.{both_tied, nat_cmp_is, unsigned_tied}
 use Rattle.std.specs.declared.cmp.Ordering.TheVariants.{Equal}
 use Rattle.std.proofs.lemmas.Grind.{common_steps}
-use Rattle.lwc_base.specs.Names.{name_cmp}
 use Rattle.lwc_base.specs.Ranges as base
 use Rattle.lwc_base.specs.Rights.{same_right}
 use Rattle.lwc_base.specs.World.{Context}
 use Rattle.lwc_base.specs.declared.cell.Cell.{Cell}
 use Rattle.lwc_base.specs.declared.cell.Cell.TheVariants as cell
-use Rattle.lwc_base.specs.declared.key.Key.TheVariants.{Page}
-use Rattle.lwc_base.specs.declared.limits.TheConstants.{MOST_PAGES}
-use Rattle.lwc_base.specs.declared.name.Name.{Name}
-use Rattle.lwc_base.specs.declared.page.PageValue.{PageValue}
-use Rattle.lwc_base.specs.contracts.right.RightPartialEq.TheImpl.{eq-value as right_eq}
-use Rattle.lwc_base.specs.declared.right.Right.{Right}
-use Rattle.lwc_base.specs.declared.right.Right.TheVariants.{Write, Read}
+use Rattle.lwc_types.specs.Names.{name_cmp}
+use Rattle.lwc_types.specs.declared.key.Key.TheVariants.{Page}
+use Rattle.lwc_types.specs.declared.limits.TheConstants.{MOST_PAGES}
+use Rattle.lwc_types.specs.declared.name.Name.{Name}
+use Rattle.lwc_types.specs.declared.page.PageValue.{PageValue}
+use Rattle.lwc_types.specs.contracts.right.RightPartialEq.TheImpl.{eq-value as right_eq}
+use Rattle.lwc_types.specs.declared.right.Right.{Right}
+use Rattle.lwc_types.specs.declared.right.Right.TheVariants.{Write, Read}
 use Rattle.range_map.specs.Kinds.{are_alike, begins_range, kind_of, ranges, same_kind, state_of}
 use Rattle.range_map.specs.contracts.segment.PageStatePartialEq.TheImpl.{eq-value}
 use Rattle.range_map.specs.contracts.segment.SegmentKindPartialEq.TheImpl.{eq-value as kind_eq}

@@ -1,8 +1,8 @@
 ghost use Rattle.std.specs.Prelude.{◌≡◌, ◌<◌, ◌≤◌, ℕ, None, Option};
 ghost use Rattle.lwc_base.specs.Ranges as base;
 ghost use Rattle.lwc_base.specs.World.{Context};
-ghost use Rattle.lwc_base.specs.declared.key.Key.TheVariants.{Page};
-ghost use Rattle.lwc_base.specs.declared.limits.TheConstants.{MOST_PAGES};
+ghost use Rattle.lwc_types.specs.declared.key.Key.TheVariants.{Page};
+ghost use Rattle.lwc_types.specs.declared.limits.TheConstants.{MOST_PAGES};
 ghost use Rattle.range_map.specs.Kinds.{kind_of, ranges, state_of};
 ghost use Rattle.range_map.specs.declared.segment.PageState.{PageState};
 

@@ -1,7 +1,7 @@
 ghost use Rattle.std.specs.Prelude.{◌≡◌, ◌<◌, ◌≤◌, ◌⊎◌, ◌||◌, ◌==◌, ℕ, is_some, length, nat_le, slice_index_or, true};
 ghost use Rattle.std.specs.List.{find, list_any};
 ghost use Rattle.std.specs.Option.{option_copied};
-ghost use Rattle.lwc_base.specs.declared.limits.TheConstants.{MOST_PAGES};
+ghost use Rattle.lwc_types.specs.declared.limits.TheConstants.{MOST_PAGES};
 ghost use Rattle.range_map.specs.Kinds as spec;
 ghost use Rattle.range_map.specs.Kinds.{IsCanonical, begins_range, is_between, is_edge};
 ghost use Rattle.range_map.specs.declared.segment.Segment.{Segment};

@@ -13,8 +13,8 @@ use Rattle.std.proofs.Math.Seq.{get_or-append_seam}
 use Rattle.std.proofs.lemmas.Grind.{get_or-set_at}
 use Rattle.std.proofs.lemmas.List.Elements.{All-get_or, Contains-get_or}
 use Rattle.std.proofs.lemmas.Bool.{false≢true}
-use Rattle.lwc_base.specs.declared.limits.TheConstants.{MOST_CONTEXTS}
-use Rattle.lwc_base.specs.declared.descriptor.TheConstants.{SLOTS}
+use Rattle.lwc_types.specs.declared.limits.TheConstants.{MOST_CONTEXTS}
+use Rattle.lwc_types.specs.declared.key.TheConstants.{SLOTS}
 use Rattle.reach.specs.Reach.{Reaches, is_marked}
 use Rattle.reach.specs.Reach.Reaches.{Root, Link}
 use Rattle.reach.specs.Search.{Found, IsWhole, LinksWithin, expanded, nothing_found, visited, visited_link, with_links}

@@ -1,7 +1,7 @@
 -- Which places are reached from roots by links.
 use Rattle.std.specs.Prelude.{◌≡◌, ◌<◌, ℕ, Bool, false, List, Option, Some, slice_index_or}
 use Rattle.std.specs.List.{Contains}
-use Rattle.lwc_base.specs.declared.descriptor.TheConstants.{SLOTS}
+use Rattle.lwc_types.specs.declared.key.TheConstants.{SLOTS}
 
 -- a place is reached: it is a root, or a slot of a reached place links to it
 pub data Reaches (link_of : ℕ → ℕ → Option ℕ) (roots : List ℕ) : ℕ → Type 0 where

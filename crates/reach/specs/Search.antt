@@ -1,8 +1,8 @@
 -- A search for places: marks, and the places that were found in their order.
 use Rattle.std.specs.Prelude.{◌≡◌, ◌<◌, ◌+◌, ◌++◌, ◌∷◌, [], ℕ, zero, suc, if◌then◌else◌, Bool, true, false, List}
 use Rattle.std.specs.Prelude.{Option, None, Some, count_by, length, nat_lt, not, slice_index, replicate, slice_set}
-use Rattle.lwc_base.specs.declared.descriptor.TheConstants.{SLOTS}
-use Rattle.lwc_base.specs.declared.limits.TheConstants.{MOST_CONTEXTS}
+use Rattle.lwc_types.specs.declared.key.TheConstants.{SLOTS}
+use Rattle.lwc_types.specs.declared.limits.TheConstants.{MOST_CONTEXTS}
 use Rattle.reach.specs.Reach.{is_marked}
 
 -- what a search has found

@@ -1,5 +1,5 @@
 ghost use Rattle.std.specs.Prelude.{◌≡◌, ◌<◌, ◌↔◌, ℕ, All, false, length, replicate, true};
-ghost use Rattle.lwc_base.specs.declared.limits.TheConstants.{MOST_CONTEXTS};
+ghost use Rattle.lwc_types.specs.declared.limits.TheConstants.{MOST_CONTEXTS};
 ghost use Rattle.reach.specs.Reach as spec;
 ghost use Rattle.reach.specs.Reach.{Reaches};
 

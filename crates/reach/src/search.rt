@@ -1,12 +1,12 @@
 ghost use Rattle.std.specs.Prelude.{◌≡◌, ◌<◌, [], IfSome, length, replicate, slice_index};
-ghost use Rattle.lwc_base.specs.declared.descriptor.TheConstants.{SLOTS};
-ghost use Rattle.lwc_base.specs.declared.limits.TheConstants.{MOST_CONTEXTS};
+ghost use Rattle.lwc_types.specs.declared.key.TheConstants.{SLOTS};
+ghost use Rattle.lwc_types.specs.declared.limits.TheConstants.{MOST_CONTEXTS};
 ghost use Rattle.reach.specs.Search as spec;
 
 use crate::links::Links;
 use crate::marks::Marks;
 use arrayvec::ArrayVec;
-use lwc_base::SLOTS;
+use lwc_types::SLOTS;
 use std::marker::Model;
 
 /// A search: the places that are marked, and the same places in the order in which they were found.

@@ -18,9 +18,9 @@ use Rattle.lwc_base.specs.declared.answer.Answer.{Answer}
 use Rattle.lwc_base.specs.declared.answer.Answer.TheVariants as answers
 use Rattle.lwc_base.specs.declared.answer.Moved.{Moved}
 use Rattle.lwc_base.specs.declared.answer.Moved.TheVariants as moved
-use Rattle.lwc_base.specs.declared.fault.Fault.TheVariants as fault
-use Rattle.lwc_base.specs.declared.name.Name.{Name}
-use Rattle.lwc_base.specs.declared.regs.Regs.{Regs}
+use Rattle.lwc_types.specs.declared.fault.Fault.TheVariants as fault
+use Rattle.lwc_types.specs.declared.name.Name.{Name}
+use Rattle.lwc_types.specs.declared.regs.Regs.{Regs}
 use Rattle.lwc_create.specs.Create.{create}
 use Rattle.lwc_overlay.specs.OverlayCall.{overlay}
 use Rattle.lwc_overlay.specs.RestrictCall.{restrict}

@@ -11,17 +11,17 @@ use Rattle.std.proofs.lemmas.List.FromFn.{length-map-range_with_len, length-rang
 use Rattle.std.proofs.lemmas.List.Sums.{sum_by-cons}
 use Rattle.std.specs.FinMap as fm
 use Rattle.lwc_base.specs.Frames.{own_value, tag_of, tags, tags_of_context, tags_of_group, used}
-use Rattle.lwc_base.specs.Names.{tag_cmp}
 use Rattle.lwc_base.specs.World.{Context, Group, World}
-use Rattle.lwc_base.specs.declared.key.Key.TheVariants.{Page}
-use Rattle.lwc_base.specs.declared.name.Name.{Name}
-use Rattle.lwc_base.specs.declared.name.Tag.{Tag}
+use Rattle.lwc_types.specs.Names.{tag_cmp}
+use Rattle.lwc_types.specs.declared.key.Key.TheVariants.{Page}
+use Rattle.lwc_types.specs.declared.name.Name.{Name}
+use Rattle.lwc_types.specs.declared.name.Tag.{Tag}
 use Rattle.request_isolation.proofs.Taking.{names_of}
 use Rattle.request_isolation.proofs.Counting.{OfJobs, any_filter, distinct, distinct-split, distinct_of_jobs, few_distinct, first_distinct, first_tags, in_first, no_fewer}
 use Rattle.world_views.proofs.Counting.{is_in_list, tag_of_job}
 use Rattle.lwc_base.proofs.Life.{or_right}
-use Rattle.lwc_base.proofs.Orders.{same_tag, tag-itself}
-use Rattle.lwc_base.proofs.Small.{one_tag}
+use Rattle.lwc_base.proofs.Tags.{one_tag}
+use Rattle.lwc_types.proofs.Orders.{same_tag, tag-itself}
 
 -- the tag of a number
 abbrev new_tag : ℕ → ℕ → Tag

@@ -7,11 +7,11 @@ use Rattle.std.specs.Prelude.{not}
 use Rattle.std.specs.List.{filter, list_any, range_with_len, sum_by}
 use Rattle.std.specs.Ordering.{eq_by_cmp}
 use Rattle.std.specs.FinSet as set
-use Rattle.lwc_base.specs.Names.{tag_cmp}
-use Rattle.lwc_base.specs.declared.name.Tag.{Tag}
 use Rattle.lwc_base.proofs.Facts.{orders}
 use Rattle.lwc_base.proofs.Life.{or_left, or_right}
-use Rattle.lwc_base.proofs.Orders.{same_tag, tag-itself}
+use Rattle.lwc_types.specs.Names.{tag_cmp}
+use Rattle.lwc_types.specs.declared.name.Tag.{Tag}
+use Rattle.lwc_types.proofs.Orders.{same_tag, tag-itself}
 use Rattle.world_views.proofs.Counting.{is_in_list, tag_of_job}
 
 -- the number of different tags

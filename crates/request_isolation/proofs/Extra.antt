@@ -18,10 +18,10 @@ use Rattle.lwc_base.specs.Frames.{own_value, tag_of, tags, used}
 use Rattle.lwc_base.specs.World.{World, context}
 use Rattle.lwc_base.specs.declared.cell.Cell.{Cell}
 use Rattle.lwc_base.specs.declared.cell.Cell.TheVariants.{Own, Common}
-use Rattle.lwc_base.specs.declared.key.Key.TheVariants.{Page}
-use Rattle.lwc_base.specs.declared.name.Tag.{Tag}
-use Rattle.lwc_base.specs.declared.page.PageValue.{PageValue}
-use Rattle.lwc_base.specs.declared.page.PageValue.TheVariants.{Zero, Data}
+use Rattle.lwc_types.specs.declared.key.Key.TheVariants.{Page}
+use Rattle.lwc_types.specs.declared.name.Tag.{Tag}
+use Rattle.lwc_types.specs.declared.page.PageValue.{PageValue}
+use Rattle.lwc_types.specs.declared.page.PageValue.TheVariants.{Zero, Data}
 use Rattle.request_isolation.specs.Needs.{acted_world, most_used, world_by, world_left}
 use Rattle.request_isolation.proofs.Homes.{home_for, tag_at}
 use Rattle.request_isolation.proofs.Stages.{by_one}

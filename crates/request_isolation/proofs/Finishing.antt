@@ -13,8 +13,8 @@ use Rattle.kernel_core.specs.Step.{AfterStep, Outcome, begin_next, finish, finis
 use Rattle.kernel_core.specs.declared.settings.Job.{Job}
 use Rattle.kernel_core.specs.declared.settings.Job.TheVariants as jobs
 use Rattle.kernel_core.specs.declared.thread.Thread.{Thread}
-use Rattle.lwc_base.specs.declared.fault.ThreadStatus.{ThreadStatus}
-use Rattle.lwc_base.specs.declared.fault.ThreadStatus.TheVariants.{Idle, Running, Done, Faulted}
+use Rattle.lwc_types.specs.declared.fault.ThreadStatus.{ThreadStatus}
+use Rattle.lwc_types.specs.declared.fault.ThreadStatus.TheVariants.{Idle, Running, Done, Faulted}
 use Rattle.snapshot_host.specs.declared.finishing.Finished.{Finished}
 use Rattle.request_isolation.proofs.Holds.{acts, begun_few, serving_now, thread_count_is}
 use Rattle.request_isolation.proofs.Isolated.{none_recorded, stands_start}

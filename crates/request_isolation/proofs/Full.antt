@@ -28,9 +28,7 @@ use Rattle.lwc_base.specs.Frames.{is_parting, tags, used}
 use Rattle.lwc_base.specs.Holders.{InCell, IsGroup}
 use Rattle.lwc_base.specs.Keys.{ValueOf}
 use Rattle.lwc_base.specs.Memory.{is_present, touched}
-use Rattle.lwc_base.specs.Names.{name_cmp}
 use Rattle.lwc_base.specs.Refusals.{first_refusal}
-use Rattle.lwc_base.specs.Registers.{fresh_registers}
 use Rattle.lwc_base.specs.Sound.{IsSound, IsSoundPage, IsSoundValue, live_groups, sound_pages}
 use Rattle.lwc_base.specs.Rights.{is_writable}
 use Rattle.lwc_base.specs.Store.{Absent, Done, Full, Piece, ReadOnly, Stored, after_store, parting_count, store}
@@ -39,20 +37,22 @@ use Rattle.lwc_base.specs.declared.cell.Cell.{Cell}
 use Rattle.lwc_base.specs.declared.cell.Cell.TheVariants.{Own, Common}
 use Rattle.lwc_base.specs.declared.descriptor.Descriptor.{Descriptor}
 use Rattle.lwc_base.specs.declared.descriptor.Descriptor.TheVariants.{Console, Ctx, Empty, File, Reply, Request}
-use Rattle.lwc_base.specs.declared.fault.Fault.TheVariants as fault
-use Rattle.lwc_base.specs.declared.key.Key.{Key}
-use Rattle.lwc_base.specs.declared.key.Key.TheVariants.{Page, Slot, Cred}
-use Rattle.lwc_base.specs.declared.key.Kind.TheVariants as kinds
-use Rattle.lwc_base.specs.declared.name.Name.{Name}
-use Rattle.lwc_base.specs.declared.name.Tag.{Tag}
-use Rattle.lwc_base.specs.declared.regs.Regs.{Regs}
-use Rattle.lwc_base.specs.declared.page.TheConstants.{PAGE_BYTES}
-use Rattle.lwc_base.specs.declared.refusal.Refusal.{Refusal}
-use Rattle.lwc_base.specs.declared.refusal.Refusal.TheVariants as refusal
-use Rattle.lwc_base.specs.declared.refusal.Refusal.TheVariants.{BadAddress, BadCall, BadFd, BadMode, NoFrame, NotCovered, TooLong, WrongKind}
-use Rattle.lwc_base.specs.declared.page.PageValue.{PageValue}
-use Rattle.lwc_base.specs.declared.page.PageValue.TheVariants.{Zero, Data}
 use Rattle.lwc_base.specs.Summaries.{is_empty}
+use Rattle.lwc_types.specs.Names.{name_cmp}
+use Rattle.lwc_types.specs.Registers.{fresh_registers}
+use Rattle.lwc_types.specs.declared.fault.Fault.TheVariants as fault
+use Rattle.lwc_types.specs.declared.key.Key.{Key}
+use Rattle.lwc_types.specs.declared.key.Key.TheVariants.{Page, Slot, Cred}
+use Rattle.lwc_types.specs.declared.key.Kind.TheVariants as kinds
+use Rattle.lwc_types.specs.declared.name.Name.{Name}
+use Rattle.lwc_types.specs.declared.name.Tag.{Tag}
+use Rattle.lwc_types.specs.declared.regs.Regs.{Regs}
+use Rattle.lwc_types.specs.declared.page.TheConstants.{PAGE_BYTES}
+use Rattle.lwc_types.specs.declared.refusal.Refusal.{Refusal}
+use Rattle.lwc_types.specs.declared.refusal.Refusal.TheVariants as refusal
+use Rattle.lwc_types.specs.declared.refusal.Refusal.TheVariants.{BadAddress, BadCall, BadFd, BadMode, NoFrame, NotCovered, TooLong, WrongKind}
+use Rattle.lwc_types.specs.declared.page.PageValue.{PageValue}
+use Rattle.lwc_types.specs.declared.page.PageValue.TheVariants.{Zero, Data}
 use Rattle.lwc_syscall.specs.Plain as calls
 use Rattle.lwc_syscall.specs.Plain.{plain, read_refusals, reading, refused_or, store_at, plain_call}
 use Rattle.lwc_syscall.specs.Syscall.{inner_args, inner_call, link, lw_syscall, mask_in, refusals, targets_of}
@@ -67,7 +67,7 @@ use Rattle.world_views.proofs.Frames.{plain-reason}
 use Rattle.world_views.proofs.Keeping.{value_at-in}
 use Rattle.lwc_base.proofs.Room.{store-used}
 use Rattle.lwc_base.proofs.Lookups.{changes-change_context, changes-change_group}
-use Rattle.lwc_base.proofs.Orders.{name-itself, same_name}
+use Rattle.lwc_types.proofs.Orders.{name-itself, same_name}
 use Rattle.kernel_core.proofs.Worlds.{few_parting}
 
 -- a store that finds too few frames

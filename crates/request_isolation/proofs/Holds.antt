@@ -12,7 +12,7 @@ use Rattle.kernel_core.specs.Step.{AfterStep, Outcome, advance_outcome, after_ou
 use Rattle.kernel_core.specs.declared.thread.Thread.{Thread}
 use Rattle.lwc_base.specs.Life.{IsReaped, is_among, reap}
 use Rattle.lwc_base.specs.World.{World, context}
-use Rattle.lwc_base.specs.declared.fault.ThreadStatus.TheVariants.{Idle, Running, Done}
+use Rattle.lwc_types.specs.declared.fault.ThreadStatus.TheVariants.{Idle, Running, Done}
 use Rattle.request_isolation.proofs.Apart.{ActsApart, acts_apart}
 use Rattle.request_isolation.proofs.Homes.{begun_in, home_for}
 use Rattle.request_isolation.proofs.Roots.{Nobody, Placed, home_root, nobody_put, no_root, only_root, placed_put, serving}

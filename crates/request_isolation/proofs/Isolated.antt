@@ -20,17 +20,17 @@ use Rattle.kernel_core.specs.declared.settings.Job.{Job}
 use Rattle.kernel_core.specs.declared.settings.Job.TheVariants as jobs
 use Rattle.kernel_core.specs.declared.thread.Thread.{Thread}
 use Rattle.lwc_base.specs.Channels.{bytes_in}
-use Rattle.lwc_base.specs.Names.{name_cmp}
+use Rattle.lwc_types.specs.Names.{name_cmp}
 use Rattle.std.specs.FinMap as fm
 use Rattle.request_isolation.proofs.Taking.{names_of}
 use Rattle.lwc_base.specs.Frames.{used}
-use Rattle.lwc_base.specs.declared.name.Name.{Name}
-use Rattle.lwc_base.specs.declared.size.WorldSize.{WorldSize}
-use Rattle.lwc_base.specs.Registers.{fresh_registers}
 use Rattle.lwc_base.specs.World.{Context, Group, World, is_live}
-use Rattle.lwc_base.specs.declared.fault.ThreadStatus.{ThreadStatus}
-use Rattle.lwc_base.specs.declared.fault.ThreadStatus.TheVariants.{Done, Faulted, Idle, Running}
-use Rattle.lwc_base.specs.declared.regs.Regs.{Regs}
+use Rattle.lwc_types.specs.declared.name.Name.{Name}
+use Rattle.lwc_types.specs.declared.size.WorldSize.{WorldSize}
+use Rattle.lwc_types.specs.Registers.{fresh_registers}
+use Rattle.lwc_types.specs.declared.fault.ThreadStatus.{ThreadStatus}
+use Rattle.lwc_types.specs.declared.fault.ThreadStatus.TheVariants.{Done, Faulted, Idle, Running}
+use Rattle.lwc_types.specs.declared.regs.Regs.{Regs}
 use Rattle.snapshot_host.specs.declared.finishing.Finished.{Finished}
 use Rattle.request_isolation.specs.Alone.{alone, alone_in, ample, inputs_alone, start_alone, steps_alone}
 use Rattle.request_isolation.specs.Needs.{HadFrames, HasFrames, HasFramesFor, IsShort, IsSpared, acted_world, extra, greatest_extra, most_used}
@@ -53,7 +53,7 @@ use Rattle.request_isolation.proofs.Stages.{Finishes, Goes, IsEnough, IsServed, 
 use Rattle.lwc_base.proofs.Facts.{orders}
 use Rattle.kernel_core.proofs.HomeStart.{ready_serve, ready_start}
 use Rattle.kernel_core.specs.Ready.{IsReady}
-use Rattle.lwc_base.specs.declared.limits.TheConstants.{MOST_REQUESTS}
+use Rattle.lwc_types.specs.declared.limits.TheConstants.{MOST_REQUESTS}
 
 -- a worker of a start waits at home
 waits_from : (regs : Regs) (a n t : ℕ) (x : Thread) → slice_get (map (λ home. waiting home regs) (map home_of (range_with_len a n))) t ≡ Some x → x ≡ waiting (home_of (a + t)) regs

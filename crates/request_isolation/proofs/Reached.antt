@@ -18,13 +18,13 @@ use Rattle.lwc_base.specs.Life.{Link, Reaches, Root, is_among, is_of, links}
 use Rattle.lwc_base.specs.World.{Context, context, is_live}
 use Rattle.lwc_base.specs.declared.cell.Cell.{Cell}
 use Rattle.lwc_base.specs.declared.cell.Cell.TheVariants.{Own, Common}
-use Rattle.lwc_base.specs.declared.fault.ThreadStatus.TheVariants.{Running}
-use Rattle.lwc_base.specs.declared.key.Key.{Key}
-use Rattle.lwc_base.specs.declared.key.Key.TheVariants.{Page}
-use Rattle.lwc_base.specs.declared.name.Name.{Name}
-use Rattle.lwc_base.specs.declared.name.Tag.{Tag}
-use Rattle.lwc_base.specs.declared.page.PageValue.{PageValue}
-use Rattle.lwc_base.specs.declared.page.PageValue.TheVariants.{Data}
+use Rattle.lwc_types.specs.declared.fault.ThreadStatus.TheVariants.{Running}
+use Rattle.lwc_types.specs.declared.key.Key.{Key}
+use Rattle.lwc_types.specs.declared.key.Key.TheVariants.{Page}
+use Rattle.lwc_types.specs.declared.name.Name.{Name}
+use Rattle.lwc_types.specs.declared.name.Tag.{Tag}
+use Rattle.lwc_types.specs.declared.page.PageValue.{PageValue}
+use Rattle.lwc_types.specs.declared.page.PageValue.TheVariants.{Data}
 use Rattle.request_isolation.proofs.Holds.{Holds, home_stays, ready_serve, reaped_now, serving_now, thread_count_is}
 use Rattle.request_isolation.proofs.Homes.{home_for, tag_at}
 use Rattle.request_isolation.proofs.Roots.{among_roots, running_or_not, thread_at}
@@ -32,7 +32,7 @@ use Rattle.request_isolation.proofs.Tagged.{AtContext, AtGroup, Holder, job_of}
 use Rattle.kernel_core.proofs.HomeStart.{home_among_at}
 use Rattle.kernel_core.proofs.Homes.{no_names}
 use Rattle.lwc_base.proofs.Reaped.{number_in}
-use Rattle.lwc_base.specs.declared.descriptor.TheConstants.{SLOTS}
+use Rattle.lwc_types.specs.declared.key.TheConstants.{SLOTS}
 use Rattle.world_views.proofs.Reaping.{links-job}
 
 -- a worker serves a request of a job

@@ -6,9 +6,9 @@ use Rattle.std.specs.Prelude.{is_some}
 use Rattle.kernel_core.specs.Machine.{Machine}
 use Rattle.kernel_core.specs.Start.{Inputs, start}
 use Rattle.lwc_base.proofs.Facts.{orders}
-use Rattle.lwc_base.proofs.Orders.{name-itself}
 use Rattle.lwc_base.specs.World.{Context, is_live}
-use Rattle.lwc_base.specs.declared.name.Name.{Name}
+use Rattle.lwc_types.proofs.Orders.{name-itself}
+use Rattle.lwc_types.specs.declared.name.Name.{Name}
 use Rattle.request_isolation.specs.Restored.{KeepsHomes, with_context}
 
 module _ (inputs : Inputs) (m : Machine) (c : Name) (x : Context) (nobody : c.job ≡ 0) (keeps : KeepsHomes inputs (with_context m c x)) where

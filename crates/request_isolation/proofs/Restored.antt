@@ -11,12 +11,12 @@ use Rattle.kernel_core.specs.Runs.{frames_of, run}
 use Rattle.kernel_core.specs.Start.{home_context}
 use Rattle.kernel_core.specs.declared.thread.Thread.{Thread}
 use Rattle.lwc_base.specs.Holders.{IsGroup}
-use Rattle.lwc_base.specs.Names.{name_cmp}
-use Rattle.lwc_base.specs.Registers.{fresh_registers}
 use Rattle.lwc_base.specs.World.{Context, Group, World, context, is_live, new_context}
-use Rattle.lwc_base.specs.declared.fault.ThreadStatus.TheVariants.{Running}
-use Rattle.lwc_base.specs.declared.name.Name.{Name}
 use Rattle.lwc_base.proofs.Facts.{orders}
+use Rattle.lwc_types.specs.Names.{name_cmp}
+use Rattle.lwc_types.specs.Registers.{fresh_registers}
+use Rattle.lwc_types.specs.declared.fault.ThreadStatus.TheVariants.{Running}
+use Rattle.lwc_types.specs.declared.name.Name.{Name}
 use Rattle.kernel_core.proofs.HomeStart.{at_home, home_at, is_home}
 use Rattle.request_isolation.specs.Restored.{AllRest, IsServed}
 use Rattle.guest_machine.specs.Advances.{advanced}

@@ -7,20 +7,20 @@ use Rattle.kernel_core.specs.Machine.{Serve, home_of, homes_of}
 use Rattle.kernel_core.specs.Step.{contexts_of, roots}
 use Rattle.kernel_core.specs.declared.thread.Thread.{Thread}
 use Rattle.lwc_base.specs.Life.{is_among}
-use Rattle.lwc_base.specs.Names.{name_cmp}
-use Rattle.lwc_base.specs.declared.fault.ThreadStatus.{ThreadStatus}
-use Rattle.lwc_base.specs.declared.fault.ThreadStatus.TheVariants.{Idle, Running, Done, Faulted}
-use Rattle.lwc_base.specs.declared.name.Name.{Name}
+use Rattle.lwc_types.specs.Names.{name_cmp}
+use Rattle.lwc_types.specs.declared.fault.ThreadStatus.{ThreadStatus}
+use Rattle.lwc_types.specs.declared.fault.ThreadStatus.TheVariants.{Idle, Running, Done, Faulted}
+use Rattle.lwc_types.specs.declared.name.Name.{Name}
 use Rattle.world_views.proofs.JobPlainly.{slice_get-other}
 use Rattle.kernel_core.proofs.Afters.{home_job, home_there}
 use Rattle.kernel_core.proofs.Others.{found_set}
 use Rattle.kernel_core.specs.Ready.{HasItsJob, IsWorker}
 use Rattle.lwc_base.proofs.Life.{or_right}
-use Rattle.lwc_base.proofs.Orders.{name-itself, same_name}
+use Rattle.lwc_types.proofs.Orders.{name-itself, same_name}
 use Rattle.std.proofs.lemmas.Bool.{cases_eq, or_cases}
 use Rattle.std.proofs.lemmas.List.Elements.{All-get_or}
 use Rattle.std.proofs.lemmas.Option.{get_or_from_slice_get, slice_get_within}
-use Rattle.lwc_base.proofs.Small.{same_bool}
+use Rattle.lwc_types.proofs.Small.{same_bool}
 
 pub running_or_not : (s : ThreadStatus) → (s ≡ Running) ⊎ (s ≢ Running)
 running_or_not Running = inl refl

@@ -7,9 +7,9 @@ use Rattle.lwc_base.specs.Refusals.{first_refusal}
 use Rattle.lwc_base.specs.World.{World}
 use Rattle.lwc_base.specs.declared.descriptor.Descriptor.{Descriptor}
 use Rattle.lwc_base.specs.declared.descriptor.Descriptor.TheVariants.{Empty, Console, File, Request, Reply, Ctx}
-use Rattle.lwc_base.specs.declared.name.Name.{Name}
-use Rattle.lwc_base.specs.declared.refusal.Refusal.{Refusal}
-use Rattle.lwc_base.specs.declared.regs.Regs.{Regs}
+use Rattle.lwc_types.specs.declared.name.Name.{Name}
+use Rattle.lwc_types.specs.declared.refusal.Refusal.{Refusal}
+use Rattle.lwc_types.specs.declared.regs.Regs.{Regs}
 use Rattle.lwc_syscall.specs.Plain.{Outcome, plain, written}
 use Rattle.lwc_syscall.specs.Plain as calls
 use Rattle.lwc_syscall.specs.Syscall as syscalls

@@ -11,18 +11,18 @@ use Rattle.std.proofs.lemmas.Bool.Decides.{nat_tests}
 use Rattle.std.proofs.lemmas.List.Folds.{list_any-append}
 use Rattle.lwc_base.specs.Frames.{own_value, tag_of, tags, tags_of_context, tags_of_group}
 use Rattle.lwc_base.specs.Holders.{IsGroup}
-use Rattle.lwc_base.specs.Names.{name_cmp, tag_cmp}
 use Rattle.lwc_base.specs.World.{Context, Group, World, context, group, is_live, new_group}
 use Rattle.lwc_base.specs.declared.cell.Cell.{Cell}
 use Rattle.lwc_base.specs.declared.cell.Cell.TheVariants.{Own, Common}
-use Rattle.lwc_base.specs.declared.key.Key.TheVariants.{Page}
-use Rattle.lwc_base.specs.declared.name.Name.{Name}
-use Rattle.lwc_base.specs.declared.name.Tag.{Tag}
-use Rattle.lwc_base.specs.declared.page.PageValue.{PageValue}
-use Rattle.lwc_base.specs.declared.page.PageValue.TheVariants.{Zero, Data}
 use Rattle.lwc_base.proofs.Life.{or_left, or_right}
-use Rattle.lwc_base.proofs.Orders.{name-itself, same_name, same_tag, tag-itself}
 use Rattle.lwc_base.proofs.Reaped.{there_of}
+use Rattle.lwc_types.specs.Names.{name_cmp, tag_cmp}
+use Rattle.lwc_types.specs.declared.key.Key.TheVariants.{Page}
+use Rattle.lwc_types.specs.declared.name.Name.{Name}
+use Rattle.lwc_types.specs.declared.name.Tag.{Tag}
+use Rattle.lwc_types.specs.declared.page.PageValue.{PageValue}
+use Rattle.lwc_types.specs.declared.page.PageValue.TheVariants.{Zero, Data}
+use Rattle.lwc_types.proofs.Orders.{name-itself, same_name, same_tag, tag-itself}
 use Rattle.world_views.proofs.Counting.{is_in_list}
 use Rattle.world_views.specs.Views.{JobView, seen_by, view}
 

@@ -5,7 +5,7 @@ use Rattle.kernel_core.proofs.Beginnings.{adds}
 use Rattle.lwc_base.proofs.Facts.{counts}
 use Rattle.lwc_base.specs.Fresh.{IsFresh}
 use Rattle.lwc_base.specs.World.{World}
-use Rattle.lwc_base.specs.declared.name.Name.{Name}
+use Rattle.lwc_types.specs.declared.name.Name.{Name}
 use Rattle.snapshot_host.specs.Begin.{begin, begun_context}
 
 -- the number of contexts and groups

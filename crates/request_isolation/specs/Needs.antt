@@ -23,10 +23,10 @@ use Rattle.lwc_base.specs.Channels.{Channels}
 use Rattle.lwc_base.specs.Frames.{used}
 use Rattle.lwc_base.specs.Store.{Full, Piece, Stored, store}
 use Rattle.lwc_base.specs.World.{World}
-use Rattle.lwc_base.specs.declared.fault.ThreadStatus.TheVariants.{Running}
-use Rattle.lwc_base.specs.declared.page.TheConstants.{PAGE_BYTES}
-use Rattle.lwc_base.specs.declared.regs.Regs.{Regs}
-use Rattle.lwc_base.specs.declared.refusal.Refusal.TheVariants.{NoFrame}
+use Rattle.lwc_types.specs.declared.fault.ThreadStatus.TheVariants.{Running}
+use Rattle.lwc_types.specs.declared.page.TheConstants.{PAGE_BYTES}
+use Rattle.lwc_types.specs.declared.regs.Regs.{Regs}
+use Rattle.lwc_types.specs.declared.refusal.Refusal.TheVariants.{NoFrame}
 use Rattle.lwc_syscall.specs.Plain.{Outcome, moved, plain, store_at, plain_call}
 use Rattle.lwc_syscall.specs.Syscall.{inner_call, lw_syscall}
 use Rattle.lwc_syscall.specs.declared.answer.CallAnswer.TheVariants.{Refused}

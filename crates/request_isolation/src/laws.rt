@@ -13,7 +13,7 @@ ghost use Rattle.world_views.specs.ByJob.{Home, KeepsJobs};
 ghost use Rattle.lwc_base.specs.Channels.{Channels, bytes_in};
 ghost use Rattle.lwc_base.specs.Frames.{used};
 ghost use Rattle.lwc_base.specs.World.{Context, World, is_live};
-ghost use Rattle.lwc_base.specs.declared.name.Name.{Name};
+ghost use Rattle.lwc_types.specs.declared.name.Name.{Name};
 ghost use Rattle.request_isolation.specs.Alone.{alone, alone_in, ample, start_alone};
 ghost use Rattle.lwc_syscall.specs.Plain.{plain, world_after};
 ghost use Rattle.lwc_syscall.specs.declared.calls.CallContexts.{CallContexts};

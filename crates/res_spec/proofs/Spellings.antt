@@ -13,8 +13,8 @@ use Rattle.byteorder.specs.Numbers.{little_number-reads_back, little_from-append
 use Rattle.lwc_base.specs.declared.item.Item.{Item}
 use Rattle.lwc_base.specs.declared.item.Mode.{Mode}
 use Rattle.lwc_base.specs.declared.item.Mode.TheVariants.{Copy, Share, Unmap, CopyRead}
-use Rattle.lwc_base.specs.declared.key.Kind.{Kind}
-use Rattle.lwc_base.specs.declared.key.Kind.TheVariants.{Page, Slot, Cred}
+use Rattle.lwc_types.specs.declared.key.Kind.{Kind}
+use Rattle.lwc_types.specs.declared.key.Kind.TheVariants.{Page, Slot, Cred}
 use Rattle.res_spec.specs.declared.items.SpecCall.{SpecCall}
 use Rattle.res_spec.specs.Items.{Spelled, all_taken, item_of, item_of_kind, item_with, items_in, kind_of_number, mode_of_number, number_at, spelled, spelled_at, taken, takes}
 use Rattle.res_spec.specs.Spelling.{kind_number, mode_number, number, spelling, Spells}

@@ -11,9 +11,9 @@ use Rattle.std.proofs.lemmas.List.FromFn.{length-map-range_with_len}
 use Rattle.std.specs.List.{All, AllPairs, filter_map, list_any}
 use Rattle.lwc_base.specs.Modes.{AreApart, IsItem, IsSpec, limit, overlaps}
 use Rattle.lwc_base.specs.declared.item.Item.{Item}
-use Rattle.lwc_base.specs.declared.key.Kind.{Kind}
-use Rattle.lwc_base.specs.declared.limits.TheConstants.{MOST_ITEMS}
-use Rattle.lwc_base.specs.declared.key.Kind.TheVariants.{Page, Slot, Cred}
+use Rattle.lwc_types.specs.declared.key.Kind.{Kind}
+use Rattle.lwc_types.specs.declared.limits.TheConstants.{MOST_ITEMS}
+use Rattle.lwc_types.specs.declared.key.Kind.TheVariants.{Page, Slot, Cred}
 use Rattle.res_spec.specs.declared.items.SpecCall.{SpecCall}
 use Rattle.res_spec.specs.declared.items.TheConstants.{ITEM_BYTES}
 use Rattle.res_spec.specs.Items.{all_within, faults, has_overlap, item_of, items_in, read, spelled, spelled_at}

@@ -2,8 +2,8 @@ ghost use Rattle.std.specs.Prelude.{◌≡◌, ◌↔◌, ◌<◌, ◌≤◌, �
 ghost use Rattle.std.specs.List.{list_any};
 ghost use Rattle.lwc_base.specs.Modes as modes;
 ghost use Rattle.lwc_base.specs.Modes.{IsSpec};
-ghost use Rattle.lwc_base.specs.declared.limits.TheConstants.{MOST_ITEMS, MOST_PAGES};
 ghost use Rattle.lwc_base.specs.declared.item.Item.{Item};
+ghost use Rattle.lwc_types.specs.declared.limits.TheConstants.{MOST_ITEMS, MOST_PAGES};
 ghost use Rattle.res_spec.specs.declared.items.SpecCall as calls;
 ghost use Rattle.res_spec.specs.declared.items.SpecFault.TheVariants.{BadMode, BadRange, Overlap};
 ghost use Rattle.res_spec.specs.Items as spec;

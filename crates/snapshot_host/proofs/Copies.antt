@@ -5,7 +5,6 @@ use Rattle.std.specs.Ordering.{eq_by_cmp}
 use Rattle.lwc_base.specs.Cells.{put_slot, slot_at, value_at, with_cell}
 use Rattle.lwc_base.specs.Keys.{with_key}
 use Rattle.lwc_base.specs.Modes.{mode, mode_or_copy}
-use Rattle.lwc_base.specs.Names.{name_cmp}
 use Rattle.lwc_base.specs.Sharing.{clone_context, cloned_context, needs_group, share}
 use Rattle.lwc_base.specs.World.{World, Context, add_context, change_context, change_counters, changed_context, context, next_context}
 use Rattle.lwc_base.specs.declared.cell.Cell.{Cell}
@@ -13,15 +12,16 @@ use Rattle.lwc_base.specs.declared.cell.Cell.TheVariants.{Own}
 use Rattle.lwc_base.specs.declared.descriptor.Descriptor.{Descriptor}
 use Rattle.lwc_base.specs.declared.descriptor.Descriptor.TheVariants.{Reply, Request}
 use Rattle.lwc_base.specs.declared.item.Mode.TheVariants.{Copy}
-use Rattle.lwc_base.specs.declared.key.Key.{Key}
-use Rattle.lwc_base.specs.declared.key.Key.TheVariants.{Page, Slot, Cred}
-use Rattle.lwc_base.specs.declared.name.Name.{Name}
-use Rattle.lwc_base.specs.declared.regs.Regs.{Regs}
+use Rattle.lwc_types.specs.Names.{name_cmp}
+use Rattle.lwc_types.specs.declared.key.Key.{Key}
+use Rattle.lwc_types.specs.declared.key.Key.TheVariants.{Page, Slot, Cred}
+use Rattle.lwc_types.specs.declared.name.Name.{Name}
+use Rattle.lwc_types.specs.declared.regs.Regs.{Regs}
 use Rattle.snapshot_host.specs.Begin.{begin, begun_context, begun_value}
 use Rattle.lwc_base.proofs.Facts.{changes, orders}
-use Rattle.lwc_base.proofs.Orders.{name-itself}
 use Rattle.lwc_base.proofs.Needs.{not_needed}
 use Rattle.lwc_base.proofs.Sharing.{shares-share}
+use Rattle.lwc_types.proofs.Orders.{name-itself}
 
 -- under no item each key is copied
 pub copied : (k : Key) → mode_or_copy [] k ≡ Copy

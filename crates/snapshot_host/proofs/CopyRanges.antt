@@ -12,10 +12,10 @@ use Rattle.lwc_base.specs.Sound.{HasItsGroups, live_groups}
 use Rattle.lwc_base.specs.World.{World, context, is_live}
 use Rattle.lwc_base.specs.declared.cell.Cell.{Cell}
 use Rattle.lwc_base.specs.declared.cell.Cell.TheVariants.{Own, Common}
-use Rattle.lwc_base.specs.declared.key.Key.TheVariants.{Page}
-use Rattle.lwc_base.specs.declared.name.Name.{Name}
-use Rattle.lwc_base.specs.declared.page.PageValue.{PageValue}
-use Rattle.lwc_base.specs.declared.regs.Regs.{Regs}
+use Rattle.lwc_types.specs.declared.key.Key.TheVariants.{Page}
+use Rattle.lwc_types.specs.declared.name.Name.{Name}
+use Rattle.lwc_types.specs.declared.page.PageValue.{PageValue}
+use Rattle.lwc_types.specs.declared.regs.Regs.{Regs}
 use Rattle.snapshot_host.proofs.Copies.{copy_of, is_copy, shares_nothing}
 
 -- where a test holds of no more elements, it counts no more

@@ -1,7 +1,7 @@
 ghost use Rattle.std.specs.Prelude.{◌≡◌, ◌<◌, ◌≤◌, ◌+◌, IfOk, IsOk, OnErr, OnOk, true};
 ghost use Rattle.lwc_base.specs.Ranges.{ranges_of};
 ghost use Rattle.lwc_base.specs.Sound.{HasItsGroups};
-ghost use Rattle.lwc_base.specs.declared.limits.TheConstants.{MOST_RANGES};
+ghost use Rattle.lwc_types.specs.declared.limits.TheConstants.{MOST_RANGES};
 ghost use Rattle.snapshot_host.specs.Begin as spec;
 ghost use Rattle.snapshot_host.specs.Begin.{IsNewJob};
 ghost use Rattle.world_face.specs.Calls.{HasPlace, IsLive};

@@ -1,6 +1,6 @@
 ghost use Rattle.std.specs.Prelude.{◌≡◌, ◌<◌, ◌≤◌, Some, [], length};
 ghost use Rattle.lwc_base.specs.Channels.{bytes_in};
-ghost use Rattle.lwc_base.specs.declared.limits.TheConstants.{MOST_REPLY_BYTES};
+ghost use Rattle.lwc_types.specs.declared.limits.TheConstants.{MOST_REPLY_BYTES};
 
 use arrayvec::ArrayVec;
 use lwc_base::{Channels, ThreadStatus};
@@ -14,7 +14,7 @@ pub struct ReplyBytes {
 
 impl Model for ReplyBytes {
     ghost use Rattle.std.specs.Prelude.{◌≤◌, ℕ, List, length};
-    ghost use Rattle.lwc_base.specs.declared.limits.TheConstants.{MOST_REPLY_BYTES};
+    ghost use Rattle.lwc_types.specs.declared.limits.TheConstants.{MOST_REPLY_BYTES};
 
     ghost Value = { List ℕ };
 
@@ -100,7 +100,7 @@ pub struct FinishedView<'a> {
 
 impl<'a> Model for FinishedView<'a> {
     ghost use Rattle.std.specs.Prelude.{◌≤◌, length};
-    ghost use Rattle.lwc_base.specs.declared.limits.TheConstants.{MOST_REPLY_BYTES};
+    ghost use Rattle.lwc_types.specs.declared.limits.TheConstants.{MOST_REPLY_BYTES};
     ghost use Rattle.snapshot_host.specs.declared.finishing.Finished.{Finished};
 
     ghost Value = { Finished };

@@ -7,7 +7,7 @@ ghost use Rattle.lwc_base.specs.Sharing.{clone_context, needs_group, ranges_afte
 ghost use Rattle.lwc_base.specs.Sound.{HasItsGroups};
 ghost use Rattle.lwc_base.specs.World.{World, context, next_context};
 ghost use Rattle.lwc_base.specs.declared.descriptor.Descriptor.TheVariants.{Reply, Request};
-ghost use Rattle.lwc_base.specs.declared.name.Name.{Name};
+ghost use Rattle.lwc_types.specs.declared.name.Name.{Name};
 ghost use Rattle.snapshot_host.specs.Begin.{begin};
 ghost use Rattle.world_face.specs.Calls.{IsLive};
 

@@ -5,7 +5,7 @@ ghost use Rattle.kernel_core.specs.Kernel.{MayHave, machine_of};
 ghost use Rattle.kernel_core.specs.Machine.{work};
 ghost use Rattle.kernel_core.specs.Settings.{IsSettings};
 ghost use Rattle.kernel_core.specs.Start.{thread_count};
-ghost use Rattle.lwc_base.specs.declared.limits.TheConstants.{MOST_STEPS};
+ghost use Rattle.lwc_types.specs.declared.limits.TheConstants.{MOST_STEPS};
 
 use guest_asm::assemble;
 use kernel_core::{Job, Kernel, Settings};

@@ -1,5 +1,5 @@
 ghost use Rattle.std.specs.Prelude.{◌<◌};
-ghost use Rattle.lwc_base.specs.declared.limits.TheConstants.{MOST_THREADS};
+ghost use Rattle.lwc_types.specs.declared.limits.TheConstants.{MOST_THREADS};
 
 use crate::checks::check_equal;
 use ctx_table::names::Names;

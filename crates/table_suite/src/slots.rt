@@ -2,7 +2,7 @@ ghost use Rattle.std.specs.Prelude.{◌≡◌, ◌<◌, length};
 ghost use Rattle.fd_table.specs.Seen.{slots as seen};
 ghost use Rattle.fd_table.specs.Slots.{no_slots, row_of};
 ghost use Rattle.lwc_base.specs.declared.descriptor.Lent.TheVariants.{Ctx};
-ghost use Rattle.lwc_base.specs.declared.descriptor.TheConstants.{SLOTS};
+ghost use Rattle.lwc_types.specs.declared.key.TheConstants.{SLOTS};
 
 use crate::checks::check_equal;
 use access_cap::{empty, full, owned};

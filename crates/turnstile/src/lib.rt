@@ -27,7 +27,7 @@ mod views;
 mod waiting;
 
 pub use lock::Turnstile;
-pub use lwc_base::OutOfMemory;
+pub use lwc_types::OutOfMemory;
 pub use passes::{HoldsPass, Pass, Passes};
 pub use states::Turned;
 pub use waiting::Door;

@@ -11,7 +11,7 @@ use crate::passes::{HoldsPass, Pass, Passes, deal_passes, join_all, take_first};
 use crate::queue::LockTable;
 use crate::states::Turned;
 use crate::waiting::Door;
-use lwc_base::OutOfMemory;
+use lwc_types::OutOfMemory;
 use std::alloc::Global;
 use std::marker::Model;
 use std::sync::Wait;

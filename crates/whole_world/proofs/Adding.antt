@@ -1,15 +1,15 @@
 -- A context that is added: its job counts it first, and then it is put in.
 use Rattle.std.proofs.Common.{refl, ◌≡◌, ℕ, ◌+◌, ◌<◌, ◌≤◌, arith, sym, ap, subst, ◌∙◌, Bool, true, false, cond, eqb}
 use Rattle.std.specs.FinMap as fm
-use Rattle.lwc_base.specs.declared.name.Name.{Name}
 use Rattle.lwc_base.specs.Fresh.{IsFresh, named_groups}
 use Rattle.lwc_base.specs.declared.cell.Cell.{Cell}
 use Rattle.lwc_base.specs.declared.cell.Cell.TheVariants.{Own, Common}
-use Rattle.lwc_base.specs.declared.key.Key.{Key}
 use Rattle.lwc_base.specs.Holders.{InCell, InContext}
 use Rattle.lwc_base.specs.Keys.{ValueOf}
 use Rattle.lwc_base.specs.World.{World, Context, Counters, change_counters, add_context, is_live, next_context}
 use Rattle.lwc_base.proofs.Facts.{stays_fresh}
+use Rattle.lwc_types.specs.declared.name.Name.{Name}
+use Rattle.lwc_types.specs.declared.key.Key.{Key}
 use Rattle.std.proofs.lemmas.Bool.{eq-eqb}
 
 counts_at : (b : Bool) (n : Counters) → b ≡ true → n.contexts < (cond b (record n { contexts = n.contexts + 1 }) n).contexts

@@ -1,6 +1,6 @@
 -- Tags that are counted holder by holder: what is counted so far, and what is left to count.
 use Rattle.std.proofs.Common.{◌≡◌, ℕ, ◌+◌, ◌≤◌, List, [], ◌++◌, length, ap, arith, append_assoc, length-append}
-use Rattle.lwc_base.specs.declared.name.Tag.{Tag}
+use Rattle.lwc_types.specs.declared.name.Tag.{Tag}
 use Rattle.whole_world.specs.Tags.{times, different}
 use Rattle.whole_world.proofs.TagLists.{times-append, times-le-length, times-nil, different-append_least, different-append_most}
 

@@ -5,12 +5,12 @@ use Rattle.std.specs.List.{filter}
 use Rattle.std.specs.FinMap as fm
 use Rattle.std.proofs.lemmas.List.Elements.{All-filter}
 use Rattle.std.proofs.lemmas.List.Sums.{count_by-le-length, length-filter}
-use Rattle.lwc_base.specs.Registers.{fresh_registers}
-use Rattle.lwc_base.specs.declared.name.Name.{Name}
-use Rattle.lwc_base.specs.declared.size.WorldSize.{WorldSize}
 use Rattle.lwc_base.specs.Fresh.{IsFresh, named_groups}
 use Rattle.lwc_base.specs.Holders.{InContext}
 use Rattle.lwc_base.specs.World.{World, context, is_live, new_context}
+use Rattle.lwc_types.specs.Registers.{fresh_registers}
+use Rattle.lwc_types.specs.declared.name.Name.{Name}
+use Rattle.lwc_types.specs.declared.size.WorldSize.{WorldSize}
 use Rattle.whole_world.specs.declared.context_row.ContextRow.{ContextRow}
 use Rattle.whole_world.specs.declared.counts.Counts.{Counts}
 use Rattle.whole_world.specs.declared.group_row.GroupRow.{GroupRow}
@@ -18,7 +18,7 @@ use Rattle.whole_world.specs.Rows.{context_of, group_of}
 use Rattle.whole_world.specs.Sound.{IsSound, IsWhole, IsWholeGroup}
 use Rattle.whole_world.specs.States.{world_of}
 use Rattle.whole_world.proofs.Tables.{kept-sorted, map-kept}
-use Rattle.lwc_base.proofs.Small.{alike}
+use Rattle.lwc_types.proofs.Small.{alike}
 
 was_some : {A : Type 0} (b : Bool) (o : Option A) → is_some (cond b o None) ≡ true → is_some o ≡ true
 was_some true o there = there

@@ -6,14 +6,14 @@ use Rattle.lwc_base.specs.declared.cell.Cell.TheVariants as cell
 use Rattle.lwc_base.specs.declared.descriptor.Descriptor.{Descriptor}
 use Rattle.lwc_base.specs.declared.item.Mode.{Mode}
 use Rattle.lwc_base.specs.declared.item.Mode.TheVariants.{Copy, CopyRead, Share, Unmap}
-use Rattle.lwc_base.specs.declared.key.Key.{Key}
-use Rattle.lwc_base.specs.declared.key.Key.TheVariants.{Page, Slot, Cred}
-use Rattle.lwc_base.specs.declared.page.PageValue.{PageValue}
-use Rattle.lwc_base.specs.declared.name.Name.{Name}
 use Rattle.lwc_base.specs.Cells.{put_in, with_cell, with_value}
 use Rattle.lwc_base.specs.Keys.{ValueOf, is_there, nothing}
 use Rattle.lwc_base.specs.Sharing.{has_own, is_moved, shared_cell}
 use Rattle.lwc_base.specs.World.{World, Context, Group, change_context, change_group}
+use Rattle.lwc_types.specs.declared.key.Key.{Key}
+use Rattle.lwc_types.specs.declared.key.Key.TheVariants.{Page, Slot, Cred}
+use Rattle.lwc_types.specs.declared.page.PageValue.{PageValue}
+use Rattle.lwc_types.specs.declared.name.Name.{Name}
 use Rattle.whole_world.specs.declared.context_row.ContextRow.{ContextRow}
 use Rattle.whole_world.specs.declared.holder.Holder.{Holder}
 use Rattle.whole_world.specs.declared.holder.Holder.TheVariants.{Nobody, Own, Group as InGroup, NewGroup}

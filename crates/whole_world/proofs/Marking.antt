@@ -10,11 +10,11 @@ use Rattle.std.proofs.lemmas.List.Elements.{filter_map-append}
 use Rattle.lwc_base.specs.declared.cell.Cell.{Cell}
 use Rattle.lwc_base.specs.declared.cell.Cell.TheVariants.{Common, Own}
 use Rattle.lwc_base.specs.declared.descriptor.Descriptor.TheVariants.{Empty}
-use Rattle.lwc_base.specs.declared.descriptor.TheConstants.{SLOTS}
-use Rattle.lwc_base.specs.declared.name.Name.{Name}
 use Rattle.lwc_base.specs.Life.{is_in, names_group}
-use Rattle.lwc_base.specs.Names.{name_cmp}
 use Rattle.lwc_base.specs.Sharing.{any_key}
+use Rattle.lwc_types.specs.declared.key.TheConstants.{SLOTS}
+use Rattle.lwc_types.specs.declared.name.Name.{Name}
+use Rattle.lwc_types.specs.Names.{name_cmp}
 use Rattle.reach.specs.Reach.{is_marked}
 use Rattle.whole_world.specs.Reaping.{AddsMarks}
 use Rattle.whole_world.specs.declared.context_row.ContextRow.{ContextRow}
@@ -23,7 +23,7 @@ use Rattle.whole_world.specs.Sound.{IsWhole}
 use Rattle.whole_world.specs.Tables.{has_name}
 use Rattle.whole_world.proofs.Places.{place_after_set, place_of_replicate}
 use Rattle.whole_world.proofs.Tables.{tied-at}
-use Rattle.lwc_base.proofs.Small.{or_assoc}
+use Rattle.lwc_types.proofs.Small.{or_assoc}
 
 -- a mark that is set is there
 or_set : (old new : Bool) → cond new true old ≡ (old || new)

@@ -9,30 +9,30 @@ use Rattle.lwc_base.specs.declared.cell.Cell.{Cell}
 use Rattle.lwc_base.specs.declared.item.Item.{Item}
 use Rattle.lwc_base.specs.declared.item.Mode.{Mode}
 use Rattle.lwc_base.specs.declared.item.Mode.TheVariants.{Copy, Unmap}
-use Rattle.lwc_base.specs.declared.key.Key.{Key}
-use Rattle.lwc_base.specs.declared.key.Key.TheVariants.{Page}
-use Rattle.lwc_base.specs.declared.name.Name.{Name}
-use Rattle.lwc_base.specs.declared.regs.Regs.{Regs}
-use Rattle.lwc_base.specs.declared.right.Right.{Right}
-use Rattle.lwc_base.specs.declared.key.TheConstants.{NOBODY}
 use Rattle.lwc_base.specs.Capabilities.{is_named}
 use Rattle.lwc_base.specs.Cells.{page_at}
 use Rattle.lwc_base.specs.Fresh.{IsFresh, named_groups}
 use Rattle.lwc_base.specs.Holders.{Rules, InCell, InContext}
 use Rattle.lwc_base.specs.Keys.{ValueOf}
 use Rattle.lwc_base.specs.Modes.{IsSpec, mode, mode_or_copy}
-use Rattle.lwc_base.specs.Names.{name_cmp}
 use Rattle.lwc_base.specs.Overlay.{overlaid_cell, overlaid_right, overlay, ranges_after_overlay, with_overlay}
 use Rattle.lwc_base.specs.Ranges.{ranges, ranges_of}
 use Rattle.lwc_base.specs.Rights.{right_at}
 use Rattle.lwc_base.specs.Sharing.{cloned_cell, cloned_context, cloned_right, share}
 use Rattle.lwc_base.specs.World.{World, Context, Counters, change_context, context, is_live, new_context, next_group}
+use Rattle.lwc_types.specs.declared.key.Key.{Key}
+use Rattle.lwc_types.specs.declared.key.Key.TheVariants.{Page}
+use Rattle.lwc_types.specs.declared.name.Name.{Name}
+use Rattle.lwc_types.specs.declared.regs.Regs.{Regs}
+use Rattle.lwc_types.specs.declared.right.Right.{Right}
+use Rattle.lwc_types.specs.declared.key.TheConstants.{NOBODY}
+use Rattle.lwc_types.specs.Names.{name_cmp}
 use Rattle.whole_world.specs.Holders.{count_of_ranges, holder_after_overlay, holder_of, moved_holder, overlaid_holder, page_holder, side_after_clone, side_after_overlay}
 use Rattle.whole_world.specs.Sharing.{clone_cells, clone_rights, with_taken}
 use Rattle.whole_world.proofs.Runs.{not_new, page-cloned, page-shared, ranges-holders, ranges-shared, seen_from, seen_from-shared}
 use Rattle.whole_world.proofs.SharedCells.{cloned_right-shared, right-shared}
 use Rattle.lwc_base.proofs.Facts.{changes, orders, stays_fresh}
-use Rattle.lwc_base.proofs.Orders.{same_name}
+use Rattle.lwc_types.proofs.Orders.{same_name}
 
 cell_over : (s : World) (d : Name) (k : Key) (m : Option Mode) (mine : Cell (ValueOf k)) →
     cond (is_some m) (cloned_cell s d k (unwrap_or m Unmap)) mine ≡ overlaid_cell s d k m mine

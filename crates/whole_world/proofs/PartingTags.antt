@@ -1,11 +1,11 @@
 -- Which values part, by their tags.
 use Rattle.std.proofs.Common.{◌≡◌, option_to_list, ℕ, refl, ap, ◌∙◌, true, Option, Some, None}
 use Rattle.std.specs.Prelude.{nat_lt, unwrap_or}
-use Rattle.lwc_base.specs.declared.name.Tag.{Tag}
-use Rattle.lwc_base.specs.declared.page.PageValue.{PageValue}
-use Rattle.lwc_base.specs.declared.page.PageValue.TheVariants.{Zero, Data}
 use Rattle.lwc_base.specs.Frames.{tag_of, tags, is_shared_tag, is_parting}
 use Rattle.lwc_base.specs.World.{World}
+use Rattle.lwc_types.specs.declared.name.Tag.{Tag}
+use Rattle.lwc_types.specs.declared.page.PageValue.{PageValue}
+use Rattle.lwc_types.specs.declared.page.PageValue.TheVariants.{Zero, Data}
 use Rattle.whole_world.specs.Tags.{times}
 
 shared-times : (w : World) (tag : Tag) → nat_lt 1 (times tag (tags w)) ≡ is_shared_tag w tag

@@ -9,14 +9,14 @@ use Rattle.std.proofs.lemmas.List.Elements.{All-cons, All-nil}
 use Rattle.std.proofs.lemmas.Option.{get_or_from_slice_get, slice_get-map, slice_get_cases, slice_get_within}
 use Rattle.lwc_base.specs.declared.descriptor.Descriptor.{Descriptor}
 use Rattle.lwc_base.specs.declared.descriptor.Descriptor.TheVariants.{Empty, Console, File, Request, Reply, Ctx}
-use Rattle.lwc_base.specs.declared.descriptor.TheConstants.{SLOTS}
-use Rattle.lwc_base.specs.declared.limits.TheConstants.{MOST_CONTEXTS}
-use Rattle.lwc_base.specs.declared.name.Name.{Name}
 use Rattle.lwc_base.specs.Cells.{slot_at}
 use Rattle.lwc_base.specs.Life as life
 use Rattle.lwc_base.specs.Life.{is_among, is_of, is_reached}
-use Rattle.lwc_base.specs.Names.{name_cmp}
 use Rattle.lwc_base.specs.World.{is_live}
+use Rattle.lwc_types.specs.declared.key.TheConstants.{SLOTS}
+use Rattle.lwc_types.specs.declared.limits.TheConstants.{MOST_CONTEXTS}
+use Rattle.lwc_types.specs.declared.name.Name.{Name}
+use Rattle.lwc_types.specs.Names.{name_cmp}
 use Rattle.reach.specs.Reach as reach
 use Rattle.reach.specs.Reach.{is_marked}
 use Rattle.whole_world.specs.declared.context_row.ContextRow.{ContextRow}
@@ -29,8 +29,8 @@ use Rattle.whole_world.proofs.Tables.{IsPlace, found-at, name-at, nothing-at, pl
 use Rattle.whole_world.proofs.Worlds.{dead-missed, live-found}
 use Rattle.lwc_base.proofs.Life.{or_cases, or_left, or_right, reached_by_way, way_of_reached}
 use Rattle.lwc_base.proofs.Slots.{linked_slot, slot_links}
-use Rattle.lwc_base.proofs.Orders.{name-itself, same_name}
-use Rattle.lwc_base.proofs.Small.{gathered_either, gathered_later, same_bool, same_some}
+use Rattle.lwc_types.proofs.Orders.{name-itself, same_name}
+use Rattle.lwc_types.proofs.Small.{gathered_either, gathered_later, same_bool, same_some}
 
 module _ (w : WholeWorld) where
   abbrev rows : List (Name × ContextRow)

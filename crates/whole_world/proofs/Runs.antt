@@ -10,22 +10,22 @@ use Rattle.lwc_base.specs.declared.cell.Cell.TheVariants as cell
 use Rattle.lwc_base.specs.declared.item.Item.{Item}
 use Rattle.lwc_base.specs.declared.item.Mode.{Mode}
 use Rattle.lwc_base.specs.declared.item.Mode.TheVariants.{Copy, CopyRead, Share, Unmap}
-use Rattle.lwc_base.specs.declared.key.Key.TheVariants.{Page}
-use Rattle.lwc_base.specs.declared.name.Name.{Name}
-use Rattle.lwc_base.specs.declared.page.PageValue.{PageValue}
-use Rattle.lwc_base.specs.declared.page.PageValue.TheVariants.{Zero}
-use Rattle.lwc_base.specs.declared.regs.Regs.{Regs}
-use Rattle.lwc_base.specs.declared.right.Right.TheVariants.{Write}
-use Rattle.lwc_base.specs.declared.size.WorldSize.{WorldSize}
 use Rattle.lwc_base.specs.Cells.{page_at}
 use Rattle.lwc_base.specs.Fresh.{IsFresh}
 use Rattle.lwc_base.specs.Mapping.{mapped_or_not, writable_in}
 use Rattle.lwc_base.specs.Modes.{IsSpec, mode_or_copy}
-use Rattle.lwc_base.specs.Names.{name_cmp}
 use Rattle.lwc_base.specs.Ranges.{are_of_one_kind, is_page, begins_range, ranges, ranges_of}
 use Rattle.lwc_base.specs.Rights.{right_at, same_right}
 use Rattle.lwc_base.specs.Sharing.{shared_cell, cloned_context, cloned_cell, with_shared, moved_values, ranges_after_clone, share}
 use Rattle.lwc_base.specs.World.{World, Context, context, is_live, next_group}
+use Rattle.lwc_types.specs.declared.key.Key.TheVariants.{Page}
+use Rattle.lwc_types.specs.declared.name.Name.{Name}
+use Rattle.lwc_types.specs.declared.page.PageValue.{PageValue}
+use Rattle.lwc_types.specs.declared.page.PageValue.TheVariants.{Zero}
+use Rattle.lwc_types.specs.declared.regs.Regs.{Regs}
+use Rattle.lwc_types.specs.declared.right.Right.TheVariants.{Write}
+use Rattle.lwc_types.specs.declared.size.WorldSize.{WorldSize}
+use Rattle.lwc_types.specs.Names.{name_cmp}
 use Rattle.whole_world.specs.declared.holder.Holder.{Holder}
 use Rattle.whole_world.specs.declared.holder.Side.{Side}
 use Rattle.whole_world.specs.declared.holder.Holder.TheVariants.{Nobody, Own, NewGroup, Group}
@@ -33,7 +33,7 @@ use Rattle.whole_world.specs.Holders.{begins_after, begins_at, cloned_holder, co
 use Rattle.whole_world.proofs.SharedCells.{cloned_right-shared, context-shared, right-shared}
 use Rattle.lwc_base.proofs.Facts.{changes, stays_fresh}
 use Rattle.lwc_base.proofs.Sharing.{value_at-share}
-use Rattle.lwc_base.proofs.Orders.{name-itself, same_name}
+use Rattle.lwc_types.proofs.Orders.{name-itself, same_name}
 
 -- what a page with this cell is to its context, seen from a new group
 abbrev pub seen_from : Name → Cell (Option PageValue) → Holder

@@ -4,10 +4,10 @@ use Rattle.std.specs.Prelude.{All}
 use Rattle.std.specs.List.{flat_map, range_with_len}
 use Rattle.std.proofs.Math.Nat.{mul-le-mul}
 use Rattle.lwc_base.specs.declared.cell.Cell.TheVariants.{Own}
-use Rattle.lwc_base.specs.declared.name.Name.{Name}
-use Rattle.lwc_base.specs.declared.page.PageValue.{PageValue}
 use Rattle.lwc_base.specs.Frames.{tag_of, own_value, tags_of_context, tags_of_group, tags, used}
-use Rattle.lwc_base.specs.declared.limits.TheConstants.{MOST_PAGES}
+use Rattle.lwc_types.specs.declared.name.Name.{Name}
+use Rattle.lwc_types.specs.declared.page.PageValue.{PageValue}
+use Rattle.lwc_types.specs.declared.limits.TheConstants.{MOST_PAGES}
 use Rattle.whole_world.specs.declared.context_row.ContextRow.{ContextRow}
 use Rattle.whole_world.specs.declared.group_row.GroupRow.{GroupRow}
 use Rattle.whole_world.specs.declared.world.WholeWorld.{WholeWorld}
@@ -19,7 +19,7 @@ use Rattle.whole_world.specs.Worlds.{seen}
 use Rattle.whole_world.proofs.Gathered.{flat_map-places, first_of_all, others_of_all, length-flat_map-le}
 use Rattle.whole_world.proofs.Tables.{entries_of, map-entries}
 use Rattle.whole_world.proofs.TagLists.{different-le-length}
-use Rattle.lwc_base.proofs.Small.{one_tag}
+use Rattle.lwc_base.proofs.Tags.{one_tag}
 
 -- pages have no more tags than there are pages
 length-page_tags : {P : Type 0} (value : P → Option PageValue) (pages : List P) → length (page_tags value pages) ≤ length pages

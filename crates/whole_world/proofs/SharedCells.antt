@@ -3,9 +3,6 @@ use Rattle.std.proofs.Common.{◌≡◌, ℕ, ◌≤◌, ap, refl, sym, ◌∙�
 use Rattle.std.proofs.lemmas.Bool.{cases_lt, false≢true}
 use Rattle.lwc_base.specs.declared.cell.Cell.TheVariants.{Common, Own}
 use Rattle.lwc_base.specs.declared.item.Item.{Item}
-use Rattle.lwc_base.specs.declared.key.Key.{Key}
-use Rattle.lwc_base.specs.declared.key.Key.TheVariants.{Page}
-use Rattle.lwc_base.specs.declared.name.Name.{Name}
 use Rattle.lwc_base.specs.declared.cell.Cell.{Cell}
 use Rattle.lwc_base.specs.declared.item.Mode.{Mode}
 use Rattle.lwc_base.specs.declared.item.Mode.TheVariants.{Copy, CopyRead, Share, Unmap}
@@ -15,6 +12,9 @@ use Rattle.lwc_base.specs.Ranges.{has_page, is_page}
 use Rattle.lwc_base.specs.Rights.{read_right, right_at}
 use Rattle.lwc_base.specs.Sharing.{cloned_right, with_shared, is_moved, needs_group, share, shared_cell}
 use Rattle.lwc_base.specs.World.{World, Context, context, is_live, next_group}
+use Rattle.lwc_types.specs.declared.key.Key.{Key}
+use Rattle.lwc_types.specs.declared.key.Key.TheVariants.{Page}
+use Rattle.lwc_types.specs.declared.name.Name.{Name}
 use Rattle.whole_world.proofs.Unnamed.{copied_past}
 use Rattle.lwc_base.proofs.Facts.{changes}
 use Rattle.lwc_base.proofs.Needs.{needed-own}

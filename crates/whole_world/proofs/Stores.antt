@@ -3,20 +3,20 @@ use Rattle.std.proofs.Common.{◌≡◌, ℕ, cond, eqb, ◌+◌, ◌-◌, ◌<�
 use Rattle.std.proofs.lemmas.Bool.{eqb-true, lt-ltb, le-ltb}
 use Rattle.std.specs.Prelude.{if◌then◌else◌, not, count_by, is_some, nat_lt}
 use Rattle.std.specs.List.{range_with_len, list_all}
-use Rattle.lwc_base.specs.declared.limits.TheConstants.{MOST_PAGES}
-use Rattle.lwc_base.specs.declared.name.Name.{Name}
-use Rattle.lwc_base.specs.declared.page.PageValue.{PageValue}
 use Rattle.lwc_base.specs.Cells.{page_at}
 use Rattle.lwc_base.specs.Frames.{is_parting, used}
 use Rattle.lwc_base.specs.Memory.{touched, is_present}
-use Rattle.lwc_base.specs.Pages.{bytes_of}
 use Rattle.lwc_base.specs.Rights.{is_writable, may_write, right_at}
 use Rattle.lwc_base.specs.Store.{Piece, Stored, Absent, ReadOnly, Full, Done, bytes_after, stored_pages, put_pages, stored_value, page_value_at, parting_count, after_store, store}
 use Rattle.lwc_base.specs.World.{World, Counters, change_counters}
+use Rattle.lwc_types.specs.declared.limits.TheConstants.{MOST_PAGES}
+use Rattle.lwc_types.specs.declared.name.Name.{Name}
+use Rattle.lwc_types.specs.declared.page.PageValue.{PageValue}
+use Rattle.lwc_types.specs.Pages.{bytes_of}
 use Rattle.whole_world.specs.States.{world_of}
 use Rattle.whole_world.specs.Worlds.{seen}
 use Rattle.whole_world.specs.declared.world.WholeWorld.{WholeWorld}
-use Rattle.lwc_base.proofs.Small.{steps_left}
+use Rattle.lwc_types.proofs.Small.{steps_left}
 
 -- a world has few pages
 pub few_pages-seen : (w : WholeWorld) → (seen w).size.pages ≤ MOST_PAGES

@@ -15,12 +15,12 @@ use Rattle.std.proofs.lemmas.Bool.Decides.{nat_tests}
 use Rattle.std.proofs.lemmas.Option.{get_or_from_slice_get, slice_get_within}
 use Rattle.std.proofs.lemmas.List.{length-map}
 use Rattle.std.proofs.lemmas.List.Elements.{All-cons, All-head, All-nil, All-tail}
-use Rattle.lwc_base.specs.declared.name.Name.{Name}
-use Rattle.lwc_base.specs.Names.{name_cmp}
+use Rattle.lwc_types.specs.declared.name.Name.{Name}
+use Rattle.lwc_types.specs.Names.{name_cmp}
 use Rattle.whole_world.specs.Tables.{has_name, is_past, map_of}
 use Rattle.lwc_base.proofs.Facts.{orders}
-use Rattle.lwc_base.proofs.Orders.{same_name}
-use Rattle.lwc_base.proofs.Small.{alike, equal_of, mapped_choice, nothing_found, same_some}
+use Rattle.lwc_types.proofs.Orders.{same_name}
+use Rattle.lwc_types.proofs.Small.{alike, equal_of, mapped_choice, nothing_found, same_some}
 
 here : (b : Bool) (n : ℕ) → cond (not b) (1 + n) 0 ≡ 0 → b ≡ true
 here true n e = refl

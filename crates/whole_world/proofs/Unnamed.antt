@@ -6,10 +6,10 @@ use Rattle.std.specs.Option.{option_map}
 use Rattle.std.proofs.lemmas.Bool.Decides.{nat_tests}
 use Rattle.lwc_base.specs.declared.item.Item.{Item}
 use Rattle.lwc_base.specs.declared.item.Mode.TheVariants.{Copy}
-use Rattle.lwc_base.specs.declared.key.Key.{Key}
-use Rattle.lwc_base.specs.declared.key.Kind.{Kind}
-use Rattle.lwc_base.specs.declared.key.Kind.TheVariants.{Page, Slot, Cred}
 use Rattle.lwc_base.specs.Modes.{IsItem, IsSpec, kind_of, limit, mode, mode_or_copy, names, number_of, same_kind}
+use Rattle.lwc_types.specs.declared.key.Key.{Key}
+use Rattle.lwc_types.specs.declared.key.Kind.{Kind}
+use Rattle.lwc_types.specs.declared.key.Kind.TheVariants.{Page, Slot, Cred}
 
 not_below : (from to limit n : ℕ) → to ≤ limit → limit ≤ n → (nat_le from n && nat_lt n to) ≡ false
 not_below from to limit n within past = grind (arith, nat_tests)

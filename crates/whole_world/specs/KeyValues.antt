@@ -1,7 +1,7 @@
 -- A key with a value that is put under it.
-use Rattle.lwc_base.specs.declared.key.Key.{Key}
-use Rattle.lwc_base.specs.declared.key.Key.TheVariants as key
 use Rattle.lwc_base.specs.Keys.{ValueOf}
+use Rattle.lwc_types.specs.declared.key.Key.{Key}
+use Rattle.lwc_types.specs.declared.key.Key.TheVariants as key
 use Rattle.whole_world.specs.declared.key_value.KeyValue.{KeyValue}
 use Rattle.whole_world.specs.declared.key_value.KeyValue.TheVariants.{Page, Slot, Cred}
 

@@ -3,8 +3,8 @@ use Rattle.std.specs.Prelude.{◌≡◌, ℕ, ◌||◌, Bool, List, Option, None
 use Rattle.std.specs.List.{position}
 use Rattle.lwc_base.specs.declared.descriptor.Descriptor.{Descriptor}
 use Rattle.lwc_base.specs.declared.descriptor.Descriptor.TheVariants.{Ctx}
-use Rattle.lwc_base.specs.declared.name.Name.{Name}
 use Rattle.lwc_base.specs.Cells.{slot_at}
+use Rattle.lwc_types.specs.declared.name.Name.{Name}
 use Rattle.reach.specs.Reach.{is_marked}
 use Rattle.whole_world.specs.declared.world.WholeWorld.{WholeWorld}
 use Rattle.whole_world.specs.Tables.{has_name}

@@ -3,14 +3,14 @@ use Rattle.std.specs.Prelude.{ℕ, ◌==◌, if◌then◌else◌, Bool, None, So
 use Rattle.lwc_base.specs.declared.cell.Cell.{Cell}
 use Rattle.lwc_base.specs.declared.cell.Cell.TheVariants.{Own}
 use Rattle.lwc_base.specs.declared.descriptor.Descriptor.TheVariants.{Empty}
-use Rattle.lwc_base.specs.declared.key.Key.{Key}
-use Rattle.lwc_base.specs.declared.key.Key.TheVariants.{Page, Slot, Cred}
-use Rattle.lwc_base.specs.declared.page.PageValue.TheVariants.{Zero}
-use Rattle.lwc_base.specs.declared.right.Right.{Right}
-use Rattle.lwc_base.specs.declared.right.Right.TheVariants.{Write}
 use Rattle.lwc_base.specs.Keys.{ValueOf}
 use Rattle.lwc_base.specs.Mapping as mapping
 use Rattle.lwc_base.specs.World.{Context, Group}
+use Rattle.lwc_types.specs.declared.key.Key.{Key}
+use Rattle.lwc_types.specs.declared.key.Key.TheVariants.{Page, Slot, Cred}
+use Rattle.lwc_types.specs.declared.page.PageValue.TheVariants.{Zero}
+use Rattle.lwc_types.specs.declared.right.Right.{Right}
+use Rattle.lwc_types.specs.declared.right.Right.TheVariants.{Write}
 use Rattle.whole_world.specs.declared.context_row.ContextRow.{ContextRow}
 use Rattle.whole_world.specs.declared.group_row.GroupRow.{GroupRow}
 

@@ -4,17 +4,17 @@ use Rattle.std.specs.Coded.{Unit-prop, le_prop}
 use Rattle.std.specs.FinMap as fm
 use Rattle.lwc_base.specs.declared.cell.Cell.{Cell}
 use Rattle.lwc_base.specs.declared.cell.Cell.TheVariants.{Common, Own}
-use Rattle.lwc_base.specs.declared.descriptor.TheConstants.{SLOTS}
-use Rattle.lwc_base.specs.declared.key.Key.{Key}
-use Rattle.lwc_base.specs.declared.key.Key.TheVariants.{Page, Slot, Cred}
-use Rattle.lwc_base.specs.declared.limits.TheConstants.{MOST_CONTEXTS, MOST_GROUPS, MOST_PAGES}
-use Rattle.lwc_base.specs.declared.name.Name.{Name}
-use Rattle.lwc_base.specs.declared.size.WorldSize.{WorldSize}
 use Rattle.lwc_base.specs.Fresh.{IsFresh, named_groups}
 use Rattle.lwc_base.specs.Holders.{InCell}
 use Rattle.lwc_base.specs.Keys.{ValueOf}
-use Rattle.lwc_base.specs.Names.{name_cmp}
 use Rattle.lwc_base.specs.World.{Counters}
+use Rattle.lwc_types.specs.declared.key.TheConstants.{SLOTS}
+use Rattle.lwc_types.specs.declared.key.Key.{Key}
+use Rattle.lwc_types.specs.declared.key.Key.TheVariants.{Page, Slot, Cred}
+use Rattle.lwc_types.specs.declared.limits.TheConstants.{MOST_CONTEXTS, MOST_GROUPS, MOST_PAGES}
+use Rattle.lwc_types.specs.declared.name.Name.{Name}
+use Rattle.lwc_types.specs.declared.size.WorldSize.{WorldSize}
+use Rattle.lwc_types.specs.Names.{name_cmp}
 use Rattle.whole_world.specs.declared.context_row.ContextRow.{ContextRow}
 use Rattle.whole_world.specs.declared.counts.Counts.{Counts}
 use Rattle.whole_world.specs.declared.group_row.GroupRow.{GroupRow}

@@ -2,8 +2,8 @@
 use Rattle.std.specs.Prelude.{Bool, List, map}
 use Rattle.std.specs.FinMap as fm
 use Rattle.std.specs.Ordering.{is_eq, is_lt}
-use Rattle.lwc_base.specs.declared.name.Name.{Name}
-use Rattle.lwc_base.specs.Names.{name_cmp}
+use Rattle.lwc_types.specs.declared.name.Name.{Name}
+use Rattle.lwc_types.specs.Names.{name_cmp}
 
 -- whether a row has the name
 abbrev pub has_name : {T : Type 0} → Name → Name × T → Bool

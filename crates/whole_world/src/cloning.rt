@@ -1,10 +1,10 @@
 ghost use Rattle.std.specs.Prelude.{◌≡◌, ◌≢◌, ◌<◌, IfOk, IsTrue, OnOk, unwrap_or};
 ghost use Rattle.std.specs.Option.{option_copied};
-ghost use Rattle.lwc_base.specs.declared.descriptor.TheConstants.{SLOTS};
 ghost use Rattle.lwc_base.specs.declared.item.Mode.TheVariants.{Share};
-ghost use Rattle.lwc_base.specs.declared.key.Kind.TheVariants as kind;
 ghost use Rattle.lwc_base.specs.Cells.{value_at, with_cell};
 ghost use Rattle.lwc_base.specs.Modes.{IsKey, IsSpec, mode};
+ghost use Rattle.lwc_types.specs.declared.key.TheConstants.{SLOTS};
+ghost use Rattle.lwc_types.specs.declared.key.Kind.TheVariants as kind;
 ghost use Rattle.whole_world.specs.KeyValues.{key_in, value_in};
 
 use crate::context_row::ContextRow;
@@ -40,12 +40,12 @@ fn mode_or(spec: &Items, key: Key, rest: Mode) -> Mode
 }
 
 impl WholeWorld {
-    ghost use Rattle.lwc_base.specs.declared.key.TheConstants.{NOBODY};
-    ghost use Rattle.lwc_base.specs.declared.key.Key.TheVariants.{Page};
     ghost use Rattle.lwc_base.specs.Ranges.{has_page};
     ghost use Rattle.lwc_base.specs.Rights.{read_right};
     ghost use Rattle.lwc_base.specs.Sharing.{cloned_right};
     ghost use Rattle.lwc_base.specs.World.{context, is_live, new_context};
+    ghost use Rattle.lwc_types.specs.declared.key.TheConstants.{NOBODY};
+    ghost use Rattle.lwc_types.specs.declared.key.Key.TheVariants.{Page};
     ghost use Rattle.whole_world.specs.Rows.{context_of};
     ghost use Rattle.whole_world.specs.Sharing.{clone_cells, clone_rights, is_below, with_cells, with_rights};
     ghost use Rattle.whole_world.specs.Sound.{HasSizeOf, HasSlot, IsWhole};

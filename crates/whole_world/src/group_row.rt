@@ -1,10 +1,10 @@
 ghost use Rattle.std.specs.Prelude.{◌≡◌, ◌<◌, IfOk, None, replicate, vec_len};
 ghost use Rattle.std.specs.Option.{option_copied};
-ghost use Rattle.lwc_base.specs.declared.descriptor.TheConstants.{SLOTS};
 ghost use Rattle.lwc_base.specs.declared.descriptor.Descriptor.TheVariants.{Empty};
-ghost use Rattle.lwc_base.specs.declared.key.Key.TheVariants.{Page, Slot, Cred};
 ghost use Rattle.lwc_base.specs.Cells.{with_value};
 ghost use Rattle.lwc_base.specs.World.{new_group};
+ghost use Rattle.lwc_types.specs.declared.key.TheConstants.{SLOTS};
+ghost use Rattle.lwc_types.specs.declared.key.Key.TheVariants.{Page, Slot, Cred};
 ghost use Rattle.whole_world.specs.KeyValues.{key_in, value_in};
 ghost use Rattle.whole_world.specs.Rows.{group_of};
 ghost use Rattle.whole_world.specs.Sound.{HasGroupSizeOf, HasKey, IsWholeGroup};

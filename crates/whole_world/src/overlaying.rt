@@ -1,7 +1,7 @@
 ghost use Rattle.std.specs.Prelude.{◌≡◌, if◌then◌else◌, ◌<◌, ◌≤◌, ℕ, IsTrue, slice_index_or, vec_len};
-ghost use Rattle.lwc_base.specs.declared.limits.TheConstants.{MOST_PAGES};
 ghost use Rattle.lwc_base.specs.Capabilities.{is_named};
 ghost use Rattle.lwc_base.specs.Modes.{limit};
+ghost use Rattle.lwc_types.specs.declared.limits.TheConstants.{MOST_PAGES};
 ghost use Rattle.whole_world.specs.Rows.{context_of};
 ghost use Rattle.whole_world.specs.Sharing.{key_of, with_taken};
 ghost use Rattle.whole_world.specs.Sound.{HasSizeOf, IsWhole};

@@ -1,8 +1,8 @@
 ghost use Rattle.std.specs.Prelude.{◌≡◌, ◌+◌, ◌*◌, ◌<◌, ◌≤◌, ◌^◌, IfOk, length, unwrap_or};
 ghost use Rattle.std.specs.Option.{option_copied};
-ghost use Rattle.lwc_base.specs.declared.page.PageValue.TheVariants.{Zero};
-ghost use Rattle.lwc_base.specs.Pages.{bytes_of};
 ghost use Rattle.lwc_base.specs.Store.{byte_after, bytes_after, stored_value};
+ghost use Rattle.lwc_types.specs.declared.page.PageValue.TheVariants.{Zero};
+ghost use Rattle.lwc_types.specs.Pages.{bytes_of};
 
 use lwc_base::{OutOfMemory, PAGE_BYTES, PageBytes, PageNumber, PageValue, Tag};
 use std::alloc::Global;

@@ -60,7 +60,6 @@ fn begins_after(before: Holder, here: Holder) -> bool
 }
 
 impl WholeWorld {
-    ghost use Rattle.lwc_base.specs.declared.key.Key.TheVariants.{Page};
     ghost use Rattle.lwc_base.specs.Mapping.{mapped_or_not, writable_in};
     ghost use Rattle.lwc_base.specs.Modes.{IsSpec, mode};
     ghost use Rattle.lwc_base.specs.Overlay.{overlaid_right, ranges_after_overlay};
@@ -68,6 +67,7 @@ impl WholeWorld {
     ghost use Rattle.lwc_base.specs.Rights.{right_at};
     ghost use Rattle.lwc_base.specs.Sharing.{ranges_after_clone};
     ghost use Rattle.lwc_base.specs.World.{context, is_live};
+    ghost use Rattle.lwc_types.specs.declared.key.Key.TheVariants.{Page};
     ghost use Rattle.whole_world.specs.Holders.{holder_after_clone, holder_after_map, holder_after_overlay};
     ghost use Rattle.whole_world.specs.Holders.{holder_in_clone, page_holder};
     ghost use Rattle.whole_world.specs.Holders.{side_after_clone, side_after_map, side_after_overlay};

@@ -1,8 +1,8 @@
 ghost use Rattle.std.specs.Prelude.{◌≡◌, ◌+◌, ◌-◌, ◌<◌, ◌≤◌, ◌^◌, IfNone, IfSome, IsTrue, count_by, is_some};
 ghost use Rattle.std.specs.Prelude.{length, map, not};
 ghost use Rattle.std.specs.Option.{option_copied};
-ghost use Rattle.lwc_base.specs.declared.descriptor.TheConstants.{SLOTS};
-ghost use Rattle.lwc_base.specs.declared.key.Key.TheVariants.{Page, Slot, Cred};
+ghost use Rattle.lwc_types.specs.declared.key.TheConstants.{SLOTS};
+ghost use Rattle.lwc_types.specs.declared.key.Key.TheVariants.{Page, Slot, Cred};
 
 use crate::context_row::ContextRow;
 use crate::group_row::GroupRow;
@@ -173,7 +173,7 @@ impl WholeWorld {
     }
 
     /// The number of pages of a context that are present.
-    #[tactic(auto, using(lwc_base::proofs::Small::count_of_range))]
+    #[tactic(auto, using(lwc_types::proofs::Small::count_of_range))]
     pub(crate) fn present_count(&self, c: Name) -> usize
         requires { IsTrue (is_live (seen self.now) c) }
         ensures present { result ≡ count_by (λ p. is_some (page_at (seen self.now) c p))
@@ -186,7 +186,7 @@ impl WholeWorld {
     }
 
     /// The number of slots of a context that are not empty.
-    #[tactic(auto, using(lwc_base::proofs::Small::count_of_range))]
+    #[tactic(auto, using(lwc_types::proofs::Small::count_of_range))]
     pub(crate) fn filled_count(&self, c: Name) -> usize
         requires { IsTrue (is_live (seen self.now) c) }
         ensures filled { result ≡ count_by (λ n. not (is_empty (slot_at (seen self.now) c n)))
@@ -197,7 +197,7 @@ impl WholeWorld {
     }
 
     /// The byte at an address, 0 where its page is absent.
-    #[tactic(auto, unfolding(lwc_base::specs::Memory::byte_at), using(lwc_base::proofs::Small::zeros_at))]
+    #[tactic(auto, unfolding(lwc_base::specs::Memory::byte_at), using(lwc_types::proofs::Small::zeros_at))]
     fn byte(&self, c: Name, at: usize) -> u8
         requires live { IsTrue (is_live (seen self.now) c) }
         requires within { at < 2 ^ 28 }

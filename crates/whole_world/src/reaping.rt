@@ -1,9 +1,9 @@
 ghost use Rattle.std.specs.Prelude.{◌≡◌, ◌≤◌, [], length};
 ghost use Rattle.std.specs.List.{filter_map, list_any, position};
 ghost use Rattle.std.specs.FinMap as fm;
-ghost use Rattle.lwc_base.specs.declared.limits.TheConstants.{MOST_ROOTS};
 ghost use Rattle.lwc_base.specs.Lending.{descriptor_of};
 ghost use Rattle.lwc_base.specs.Life.{is_in, is_reached, names_group};
+ghost use Rattle.lwc_types.specs.declared.limits.TheConstants.{MOST_ROOTS};
 ghost use Rattle.whole_world.specs.Reaping.{AddsMarks};
 ghost use Rattle.whole_world.specs.Rows.{context_of};
 ghost use Rattle.whole_world.specs.Sound.{IsWhole};
@@ -31,7 +31,7 @@ impl Links for WholeWorld {
 }
 
 impl WholeWorld {
-    ghost use Rattle.lwc_base.specs.declared.limits.TheConstants.{MOST_CONTEXTS};
+    ghost use Rattle.lwc_types.specs.declared.limits.TheConstants.{MOST_CONTEXTS};
     ghost use Rattle.std.specs.Prelude.{◌<◌, IfSome};
     ghost use Rattle.whole_world.specs.Reaping.{place_in};
 

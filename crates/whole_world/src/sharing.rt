@@ -1,14 +1,14 @@
 ghost use Rattle.std.specs.Prelude.{◌≡◌, if◌then◌else◌, ◌+◌, ◌<◌, ◌≤◌, ◌^◌, IsTrue, OnErr, OnOk, true};
 ghost use Rattle.std.specs.Prelude.{vec_len};
 ghost use Rattle.std.specs.List.{list_any, range_with_len};
-ghost use Rattle.lwc_base.specs.declared.descriptor.TheConstants.{SLOTS};
-ghost use Rattle.lwc_base.specs.declared.key.Key.TheVariants.{Page, Slot};
-ghost use Rattle.lwc_base.specs.declared.key.Kind.TheVariants as kind;
 ghost use Rattle.lwc_base.specs.declared.cell.Cell.TheVariants.{Common};
 ghost use Rattle.lwc_base.specs.Cells.{with_cell, with_value};
 ghost use Rattle.lwc_base.specs.Modes.{IsSpec, mode_or_copy};
 ghost use Rattle.lwc_base.specs.Sharing.{any_key, with_shared, moved_value, moved_values, is_moved};
 ghost use Rattle.lwc_base.specs.World.{new_group};
+ghost use Rattle.lwc_types.specs.declared.key.TheConstants.{SLOTS};
+ghost use Rattle.lwc_types.specs.declared.key.Key.TheVariants.{Page, Slot};
+ghost use Rattle.lwc_types.specs.declared.key.Kind.TheVariants as kind;
 ghost use Rattle.whole_world.specs.Rows.{context_of, group_of};
 ghost use Rattle.whole_world.specs.Sharing.{gave, is_below, took};
 ghost use Rattle.whole_world.specs.Sound.{HasGroupSizeOf, HasKey, HasSizeOf, HasSlot, IsWhole, IsWholeGroup};

@@ -12,7 +12,7 @@ impl WholeWorld {
     ghost use Rattle.whole_world.specs.Worlds.{seen};
 
     /// The number of pages that a store to some pages parts.
-    #[tactic(auto, using(lwc_base::proofs::Small::count_of_range))]
+    #[tactic(auto, using(lwc_types::proofs::Small::count_of_range))]
     pub(crate) fn parting_count(&self, c: Name, pages: Range) -> usize
         requires { IsTrue (is_live (seen self.now) c) }
         ensures parting { result ≡ count_by (λ p. is_parting (seen self.now) (page_value_at

@@ -3,7 +3,7 @@ ghost use Rattle.std.specs.Prelude.{vec_capacity, vec_len};
 ghost use Rattle.std.specs.FinMap as fm;
 ghost use Rattle.std.specs.List.{items_where_true, position, position_or_len};
 ghost use Rattle.std.specs.Option.{option_copied};
-ghost use Rattle.lwc_base.specs.Names.{name_cmp};
+ghost use Rattle.lwc_types.specs.Names.{name_cmp};
 ghost use Rattle.whole_world.specs.Tables.{has_name, is_past};
 
 use lwc_base::{Name, OutOfMemory};

@@ -2,8 +2,8 @@ ghost use Rattle.std.specs.Prelude.{◌≡◌, ◌||◌, ◌+◌, ◌++◌, ◌<
 ghost use Rattle.std.specs.Prelude.{length};
 ghost use Rattle.std.specs.List.{flat_map};
 ghost use Rattle.std.specs.Option.{option_copied, option_to_list};
-ghost use Rattle.lwc_base.specs.declared.page.PageValue.{PageValue};
 ghost use Rattle.lwc_base.specs.Frames.{own_value, tag_of};
+ghost use Rattle.lwc_types.specs.declared.page.PageValue.{PageValue};
 ghost use Rattle.whole_world.specs.Tags.{different, has_tag, page_tags, row_tags, rows_count, rows_tags};
 ghost use Rattle.whole_world.specs.Tags.{times};
 

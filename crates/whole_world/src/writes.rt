@@ -1,5 +1,5 @@
 ghost use Rattle.std.specs.Prelude.{◌≡◌, ◌<◌, ◌≤◌, ◌^◌, IsTrue, OnOk};
-ghost use Rattle.lwc_base.specs.declared.descriptor.TheConstants.{SLOTS};
+ghost use Rattle.lwc_types.specs.declared.key.TheConstants.{SLOTS};
 
 use crate::context_row::ContextRow;
 use crate::holder::Holder;
@@ -16,9 +16,9 @@ impl WholeWorld {
     ghost use Rattle.lwc_base.specs.Mapping.{mapped_or_not};
     ghost use Rattle.lwc_base.specs.Modes.{IsKey};
     ghost use Rattle.lwc_base.specs.Saved.{save};
-    ghost use Rattle.lwc_base.specs.declared.limits.TheConstants.{MOST_THREADS};
     ghost use Rattle.lwc_base.specs.Store.{put_pages};
     ghost use Rattle.lwc_base.specs.World.{add_context, change_group, context, is_live, next_context};
+    ghost use Rattle.lwc_types.specs.declared.limits.TheConstants.{MOST_THREADS};
     ghost use Rattle.whole_world.specs.KeyValues.{key_in, value_in};
     ghost use Rattle.whole_world.specs.Rows.{context_of};
     ghost use Rattle.whole_world.specs.Sound.{HasSlot, IsWhole};

@@ -1,11 +1,11 @@
 -- The conditions under which a world is called.
 use Rattle.std.specs.Prelude.{◌≡◌, ◌<◌, ◌≤◌, ◌^◌, ℕ, true}
 use Rattle.std.specs.FinMap as fm
-use Rattle.lwc_base.specs.declared.name.Name.{Name}
-use Rattle.lwc_base.specs.declared.limits.TheConstants.{MOST_CONTEXTS, MOST_FRAMES, MOST_GROUPS, MOST_JOBS}
-use Rattle.lwc_base.specs.declared.limits.TheConstants.{MOST_PAGES, MOST_RANGES}
-use Rattle.lwc_base.specs.declared.size.WorldSize.{WorldSize}
 use Rattle.lwc_base.specs.World.{World, is_live}
+use Rattle.lwc_types.specs.declared.name.Name.{Name}
+use Rattle.lwc_types.specs.declared.limits.TheConstants.{MOST_CONTEXTS, MOST_FRAMES, MOST_GROUPS, MOST_JOBS}
+use Rattle.lwc_types.specs.declared.limits.TheConstants.{MOST_PAGES, MOST_RANGES}
+use Rattle.lwc_types.specs.declared.size.WorldSize.{WorldSize}
 
 -- the sizes that a world may be opened with
 pub record IsSize (size : WorldSize) : Type 0 where

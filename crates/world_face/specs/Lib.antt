@@ -3,10 +3,10 @@ pub use Rattle.lwc_base.specs.Frames
 pub use Rattle.lwc_base.specs.Mapping
 pub use Rattle.lwc_base.specs.Memory
 pub use Rattle.lwc_base.specs.Modes
-pub use Rattle.lwc_base.specs.Names
-pub use Rattle.lwc_base.specs.Pages
+pub use Rattle.lwc_types.specs.Names
+pub use Rattle.lwc_types.specs.Pages
 pub use Rattle.lwc_base.specs.Ranges
-pub use Rattle.lwc_base.specs.Registers
+pub use Rattle.lwc_types.specs.Registers
 pub use Rattle.lwc_base.specs.Sharing
 pub use Rattle.lwc_base.specs.Slots
 pub use Rattle.lwc_base.specs.Store

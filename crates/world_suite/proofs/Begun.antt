@@ -1,17 +1,17 @@
 -- What a world has in which a context has been made and its first pages mapped.
 use Rattle.std.proofs.Common.{◌≡◌, true, false, ◌||◌, ℕ, ◌+◌, [], ◌∷◌, refl, subst, sym, ap, ◌∙◌}
 use Rattle.std.specs.FinMap as fm
-use Rattle.lwc_base.specs.declared.name.Name.{Name}
-use Rattle.lwc_base.specs.declared.size.WorldSize.{WorldSize}
 use Rattle.lwc_base.specs.Facts.{AddsContext, KeepsNames}
 use Rattle.lwc_base.specs.Fresh.{IsFresh}
 use Rattle.lwc_base.specs.Mapping.{map_pages}
-use Rattle.lwc_base.specs.Names.{name_cmp}
 use Rattle.lwc_base.specs.World.{World, Context, Counters, Group, is_live, next_context, add_context, empty_world}
 use Rattle.lwc_base.specs.Life.{Root, reap}
 use Rattle.lwc_base.proofs.Facts.{changes, counts, stays_fresh}
-use Rattle.lwc_base.proofs.Orders.{name-itself}
 use Rattle.lwc_base.proofs.Reaped.{kept-by_way}
+use Rattle.lwc_types.specs.declared.name.Name.{Name}
+use Rattle.lwc_types.specs.declared.size.WorldSize.{WorldSize}
+use Rattle.lwc_types.specs.Names.{name_cmp}
+use Rattle.lwc_types.proofs.Orders.{name-itself}
 use Rattle.world_face.specs.Calls.{IsLive}
 use Rattle.world_suite.specs.Begun.{IsBegun}
 

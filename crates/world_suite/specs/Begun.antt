@@ -1,7 +1,7 @@
 -- What a world is that a test begins with.
 use Rattle.std.specs.Prelude.{◌≡◌, ℕ}
-use Rattle.lwc_base.specs.declared.name.Name.{Name}
 use Rattle.lwc_base.specs.World.{World}
+use Rattle.lwc_types.specs.declared.name.Name.{Name}
 use Rattle.world_face.specs.Calls.{HasGroupPlace, HasPlace, IsLive}
 
 -- a world of four pages in which this context is live, one more may be made, and job 1 has named nothing

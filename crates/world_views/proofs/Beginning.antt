@@ -2,7 +2,7 @@
 use Rattle.std.proofs.Common.{◌≡◌, ◌≢◌, ℕ, ◌+◌, refl, ap, subst, ◌∙◌, arith}
 use Rattle.lwc_base.specs.Holders.{InContext}
 use Rattle.lwc_base.specs.World.{World}
-use Rattle.lwc_base.specs.declared.name.Name.{Name}
+use Rattle.lwc_types.specs.declared.name.Name.{Name}
 use Rattle.snapshot_host.specs.Begin.{begin, begun_context}
 use Rattle.world_views.proofs.Keeping.{add-keeps}
 use Rattle.world_views.proofs.Together.{add-alike}

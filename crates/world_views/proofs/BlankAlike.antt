@@ -2,7 +2,7 @@
 use Rattle.std.proofs.Common.{ℕ, Bool}
 use Rattle.lwc_base.specs.Channels.{Channels}
 use Rattle.lwc_base.specs.World.{World}
-use Rattle.lwc_base.specs.declared.name.Name.{Name}
+use Rattle.lwc_types.specs.declared.name.Name.{Name}
 use Rattle.world_views.proofs.BlankCalls.{create-blank, overlay-blank, restrict-blank, switch-blank}
 use Rattle.world_views.proofs.BlankPlainly.{plain-blank, syscall-blank}
 use Rattle.world_views.specs.Outside.{CallsAlike, IsOutside}

@@ -9,11 +9,8 @@ use Rattle.lwc_base.specs.Cells.{page_at, slot_at, uid_at, value_at, value_of}
 use Rattle.lwc_base.specs.Keys.{ValueOf, is_there}
 use Rattle.lwc_base.specs.Memory.{byte_at, bytes_for, is_present, load, touched}
 use Rattle.lwc_base.specs.Modes.{mode_or_copy}
-use Rattle.lwc_base.specs.Names.{name_cmp}
-use Rattle.lwc_base.specs.Pages.{bytes_of}
 use Rattle.lwc_base.specs.Ranges.{are_of_one_kind, begins_range, is_page, ranges, ranges_of}
 use Rattle.lwc_base.specs.Rights.{is_writable, may_write, same_right}
-use Rattle.lwc_base.specs.Registers.{fresh_registers}
 use Rattle.lwc_base.specs.Sharing.{any_key, has_own, is_moved, needs_group}
 use Rattle.lwc_base.specs.Saved.{entered}
 use Rattle.lwc_base.specs.Slots.{lowest_empty}
@@ -22,17 +19,20 @@ use Rattle.lwc_base.specs.World.{World, Context, context, group, is_live, new_co
 use Rattle.lwc_base.specs.declared.cell.Cell.{Cell}
 use Rattle.lwc_base.specs.declared.cell.Cell.TheVariants.{Own, Common}
 use Rattle.lwc_base.specs.declared.descriptor.Descriptor.{Descriptor}
-use Rattle.lwc_base.specs.declared.descriptor.TheConstants.{SLOTS}
 use Rattle.lwc_base.specs.declared.item.Item.{Item}
 use Rattle.lwc_base.specs.declared.item.Mode.{Mode}
 use Rattle.lwc_base.specs.declared.item.Mode.TheVariants.{Copy, Share, Unmap, CopyRead}
-use Rattle.lwc_base.specs.declared.key.Key.{Key}
-use Rattle.lwc_base.specs.declared.key.Key.TheVariants.{Page, Slot, Cred}
-use Rattle.lwc_base.specs.declared.name.Name.{Name}
-use Rattle.lwc_base.specs.declared.page.PageValue.{PageValue}
-use Rattle.lwc_base.specs.declared.page.PageValue.TheVariants.{Zero, Data}
-use Rattle.lwc_base.specs.declared.page.TheConstants.{PAGE_BYTES}
-use Rattle.lwc_base.proofs.Orders.{other_name}
+use Rattle.lwc_types.specs.Names.{name_cmp}
+use Rattle.lwc_types.specs.Pages.{bytes_of}
+use Rattle.lwc_types.specs.Registers.{fresh_registers}
+use Rattle.lwc_types.specs.declared.key.TheConstants.{SLOTS}
+use Rattle.lwc_types.specs.declared.key.Key.{Key}
+use Rattle.lwc_types.specs.declared.key.Key.TheVariants.{Page, Slot, Cred}
+use Rattle.lwc_types.specs.declared.name.Name.{Name}
+use Rattle.lwc_types.specs.declared.page.PageValue.{PageValue}
+use Rattle.lwc_types.specs.declared.page.PageValue.TheVariants.{Zero, Data}
+use Rattle.lwc_types.specs.declared.page.TheConstants.{PAGE_BYTES}
+use Rattle.lwc_types.proofs.Orders.{other_name}
 use Rattle.world_views.proofs.JobTables.{changed_entry, get-changed_entry}
 use Rattle.world_views.specs.Blank.{blank, blank_cell, blank_context, blank_contexts, blank_found, blank_page, blank_value, tells_registers}
 

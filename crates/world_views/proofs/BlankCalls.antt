@@ -9,7 +9,6 @@ use Rattle.lwc_base.specs.Capabilities.{covers, empty_cap, full_cap, restricted}
 use Rattle.lwc_base.specs.Cells.{put_slot}
 use Rattle.lwc_base.specs.Overlay as base
 use Rattle.lwc_base.specs.Refusals.{first_refusal}
-use Rattle.lwc_base.specs.Registers.{fresh_registers}
 use Rattle.lwc_base.specs.Saved.{entered}
 use Rattle.lwc_base.specs.Sharing.{clone_context, needs_group}
 use Rattle.lwc_base.specs.Slots.{lowest_empty}
@@ -20,13 +19,14 @@ use Rattle.lwc_base.specs.declared.descriptor.Cap.{Cap}
 use Rattle.lwc_base.specs.declared.descriptor.Descriptor.{Descriptor}
 use Rattle.lwc_base.specs.declared.descriptor.Descriptor.TheVariants.{Empty, Console, File, Request, Reply, Ctx}
 use Rattle.lwc_base.specs.declared.item.Item.{Item}
-use Rattle.lwc_base.specs.declared.key.Key.TheVariants.{Slot}
-use Rattle.lwc_base.specs.declared.limits.TheConstants.{MOST_CONTEXTS_OF_JOB, MOST_GROUPS_OF_JOB}
-use Rattle.lwc_base.specs.declared.name.Name.{Name}
-use Rattle.lwc_base.specs.declared.refusal.Refusal.{Refusal}
-use Rattle.lwc_base.specs.declared.refusal.Refusal.TheVariants.{NoSlot, NoSlotThere, NotCovered, TooManyContexts, TooManyGroups, TooManyRanges}
-use Rattle.lwc_base.specs.declared.regs.Regs.{Regs}
-use Rattle.lwc_base.specs.declared.size.WorldSize.{WorldSize}
+use Rattle.lwc_types.specs.Registers.{fresh_registers}
+use Rattle.lwc_types.specs.declared.key.Key.TheVariants.{Slot}
+use Rattle.lwc_types.specs.declared.limits.TheConstants.{MOST_CONTEXTS_OF_JOB, MOST_GROUPS_OF_JOB}
+use Rattle.lwc_types.specs.declared.name.Name.{Name}
+use Rattle.lwc_types.specs.declared.refusal.Refusal.{Refusal}
+use Rattle.lwc_types.specs.declared.refusal.Refusal.TheVariants.{NoSlot, NoSlotThere, NotCovered, TooManyContexts, TooManyGroups, TooManyRanges}
+use Rattle.lwc_types.specs.declared.regs.Regs.{Regs}
+use Rattle.lwc_types.specs.declared.size.WorldSize.{WorldSize}
 use Rattle.lwc_create.specs.Create as creating
 use Rattle.lwc_overlay.specs.Named.{link}
 use Rattle.lwc_overlay.specs.Named as named
@@ -36,7 +36,7 @@ use Rattle.lwc_switch.specs.Switch as switching
 use Rattle.res_spec.specs.declared.items.SpecCall.{SpecCall}
 use Rattle.res_spec.specs.declared.items.SpecCall.TheVariants as spec_call
 use Rattle.guest_call.proofs.NotRefused.{spec_asked}
-use Rattle.lwc_base.proofs.Orders.{cases_name}
+use Rattle.lwc_types.proofs.Orders.{cases_name}
 use Rattle.world_views.proofs.BlankChanges.{asks-alike, blanks-alike, changes-alike}
 use Rattle.world_views.proofs.BlankNamed.{descriptor-blank, first-append, item_refusals-blank, items-blank, link_or, none-append, nothing-covered, slot_refusals-blank}
 use Rattle.world_views.specs.Outside.{IsOutside, LacksKeys, blank_end, covered, covered_end}

@@ -12,9 +12,7 @@ use Rattle.lwc_base.specs.Mapping.{map_pages, mapped_or_not, on_pages, unmap_pag
 use Rattle.lwc_base.specs.Memory.{is_present, touched}
 use Rattle.lwc_base.specs.Modes.{mode, mode_or_copy}
 use Rattle.std.specs.List.{list_any, range_with_len}
-use Rattle.lwc_base.specs.Names.{name_cmp}
 use Rattle.lwc_base.specs.Overlay.{overlaid_cell, overlaid_right, overlay, ranges_after_overlay, with_overlay}
-use Rattle.lwc_base.specs.Pages.{bytes_of}
 use Rattle.lwc_base.specs.Ranges.{has_page, ranges, ranges_of}
 use Rattle.lwc_base.specs.Rights.{is_writable, read_right, right_at}
 use Rattle.lwc_base.specs.Saved.{save, with_saved}
@@ -26,15 +24,17 @@ use Rattle.lwc_base.specs.declared.cell.Cell.TheVariants.{Own, Common}
 use Rattle.lwc_base.specs.declared.item.Item.{Item}
 use Rattle.lwc_base.specs.declared.item.Mode.{Mode}
 use Rattle.lwc_base.specs.declared.item.Mode.TheVariants.{Copy, Share, Unmap, CopyRead}
-use Rattle.lwc_base.specs.declared.key.Key.{Key}
-use Rattle.lwc_base.specs.declared.key.Key.TheVariants.{Cred, Page, Slot}
-use Rattle.lwc_base.specs.declared.name.Name.{Name}
-use Rattle.lwc_base.specs.declared.page.PageValue.{PageValue}
-use Rattle.lwc_base.specs.declared.page.PageValue.TheVariants.{Zero}
-use Rattle.lwc_base.specs.declared.regs.Regs.{Regs}
-use Rattle.lwc_base.specs.declared.right.Right.{Right}
 use Rattle.lwc_base.proofs.Clones.{next_context-share}
-use Rattle.lwc_base.proofs.Orders.{name_cmp-IsAntisymmetric, name_cmp-total, same_name}
+use Rattle.lwc_types.specs.Names.{name_cmp}
+use Rattle.lwc_types.specs.Pages.{bytes_of}
+use Rattle.lwc_types.specs.declared.key.Key.{Key}
+use Rattle.lwc_types.specs.declared.key.Key.TheVariants.{Cred, Page, Slot}
+use Rattle.lwc_types.specs.declared.name.Name.{Name}
+use Rattle.lwc_types.specs.declared.page.PageValue.{PageValue}
+use Rattle.lwc_types.specs.declared.page.PageValue.TheVariants.{Zero}
+use Rattle.lwc_types.specs.declared.regs.Regs.{Regs}
+use Rattle.lwc_types.specs.declared.right.Right.{Right}
+use Rattle.lwc_types.proofs.Orders.{name_cmp-IsAntisymmetric, name_cmp-total, same_name}
 use Rattle.world_views.proofs.JobTables.{changed_entry, get-changed_entry}
 use Rattle.world_views.proofs.BlankCounts.{keys-blank, groups_of-blank, live_of-blank, parting-blank, reap-blank, used-blank}
 use Rattle.world_views.proofs.BlankAsked.{enters-blank, slot_cell-blank, uid-blank, uid_cell-blank, bytes-blank, cell-blank, context-blank, get-blank, live-blank, lowest-blank, needs-blank, present-blank, ranges-blank, slot-blank, summary-blank, value-blank, writable-blank}

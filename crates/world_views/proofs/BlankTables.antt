@@ -7,9 +7,9 @@ use Rattle.std.specs.declared.cmp.Ordering.{Ordering}
 use Rattle.std.specs.declared.cmp.Ordering.TheVariants.{Less, Equal, Greater}
 use Rattle.std.specs.FinMap as fm
 use Rattle.std.specs.FinMap.Entries.{by_order, find, is_sorted, length-put, put}
-use Rattle.lwc_base.specs.Names.{name_cmp}
-use Rattle.lwc_base.specs.declared.name.Name.{Name}
-use Rattle.lwc_base.proofs.Orders.{name_cmp-total}
+use Rattle.lwc_types.specs.Names.{name_cmp}
+use Rattle.lwc_types.specs.declared.name.Name.{Name}
+use Rattle.lwc_types.proofs.Orders.{name_cmp-total}
 use Rattle.world_views.proofs.JobTables.{changed_entry}
 
 -- a list of rows in a row, row by row

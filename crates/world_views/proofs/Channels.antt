@@ -4,10 +4,10 @@ use Rattle.std.proofs.lemmas.Option.{unwrap_or-slice_get}
 use Rattle.std.specs.Prelude.{nat_lt, slice_get, unwrap_or}
 use Rattle.std.specs.Option.{option_map}
 use Rattle.lwc_base.specs.Channels.{Channels, bytes_in, contents}
-use Rattle.lwc_base.specs.declared.channels.FileImage.{FileImage}
 use Rattle.lwc_base.specs.declared.descriptor.Descriptor.{Descriptor}
 use Rattle.lwc_base.specs.declared.descriptor.Descriptor.TheVariants.{Empty, Console, File, Request, Reply, Ctx}
-use Rattle.lwc_base.specs.declared.limits.TheConstants.{MOST_REPLY_BYTES}
+use Rattle.lwc_types.specs.declared.file_image.FileImage.{FileImage}
+use Rattle.lwc_types.specs.declared.limits.TheConstants.{MOST_REPLY_BYTES}
 use Rattle.lwc_syscall.specs.Plain.{left, passes_limit, written}
 use Rattle.world_views.proofs.JobPlainly.{slice_get-set}
 use Rattle.world_views.specs.ByJob.{IsSlotOf}

@@ -6,10 +6,10 @@ use Rattle.std.specs.FinSet as set
 use Rattle.std.specs.List.{AllByRecursion, Contains, filter, list_any, sum_by}
 use Rattle.std.specs.Prelude.{slice_index_or}
 use Rattle.std.specs.Ordering.{eq_by_cmp}
-use Rattle.lwc_base.specs.Names.{tag_cmp}
-use Rattle.lwc_base.specs.declared.name.Tag.{Tag}
 use Rattle.lwc_base.proofs.Facts.{orders}
-use Rattle.lwc_base.proofs.Orders.{same_tag}
+use Rattle.lwc_types.specs.Names.{tag_cmp}
+use Rattle.lwc_types.specs.declared.name.Tag.{Tag}
+use Rattle.lwc_types.proofs.Orders.{same_tag}
 use Rattle.world_views.specs.JobFrames.{different}
 
 -- whether a tag is of a job

@@ -9,11 +9,11 @@ use Rattle.std.specs.Option.{option_map}
 use Rattle.std.specs.Ordering.{eq_by_cmp, is_eq, is_lt}
 use Rattle.std.specs.FinMap as fm
 use Rattle.std.specs.FinMap.Entries.{below_all, find, find-where_key, is_sorted, is_sorted-where_key, same_entries, where_key}
-use Rattle.lwc_base.specs.Names.{name_cmp}
-use Rattle.lwc_base.specs.declared.name.Name.{Name}
 use Rattle.lwc_base.proofs.Facts.{orders}
-use Rattle.lwc_base.proofs.Orders.{same_name}
 use Rattle.lwc_base.proofs.Reaped.{none_below}
+use Rattle.lwc_types.specs.Names.{name_cmp}
+use Rattle.lwc_types.specs.declared.name.Name.{Name}
+use Rattle.lwc_types.proofs.Orders.{same_name}
 use Rattle.world_views.proofs.JobTables.{at}
 
 -- whether a name is of a job

@@ -11,7 +11,6 @@ use Rattle.lwc_base.specs.Mapping.{map_pages, mapped_or_not, unmap_pages, with_z
 use Rattle.lwc_base.specs.Memory.{touched}
 use Rattle.lwc_base.specs.Modes.{mode, mode_or_copy}
 use Rattle.lwc_base.specs.Overlay.{overlaid_cell, overlaid_right, overlay, with_overlay}
-use Rattle.lwc_base.specs.Pages.{bytes_of}
 use Rattle.lwc_base.specs.Saved.{save, with_saved}
 use Rattle.lwc_base.specs.Sharing.{clone_context, cloned_cell, cloned_context, cloned_right, moved_value, moved_values, needs_group, share, with_shared}
 use Rattle.lwc_base.specs.Store.{Piece, after_store, bytes_after, page_value_at, parting_count, stored_pages, put_pages, stored_value}
@@ -21,15 +20,16 @@ use Rattle.lwc_base.specs.declared.cell.Cell.TheVariants.{Own, Common}
 use Rattle.lwc_base.specs.declared.item.Item.{Item}
 use Rattle.lwc_base.specs.declared.item.Mode.{Mode}
 use Rattle.lwc_base.specs.declared.item.Mode.TheVariants.{Copy, Share, Unmap, CopyRead}
-use Rattle.lwc_base.specs.declared.key.Key.{Key}
-use Rattle.lwc_base.specs.declared.key.Key.TheVariants.{Page}
-use Rattle.lwc_base.specs.declared.name.Name.{Name}
-use Rattle.lwc_base.specs.declared.page.PageValue.{PageValue}
-use Rattle.lwc_base.specs.declared.page.PageValue.TheVariants.{Zero}
-use Rattle.lwc_base.specs.declared.regs.Regs.{Regs}
-use Rattle.lwc_base.specs.declared.right.Right.{Right}
 use Rattle.lwc_base.specs.Ranges.{is_page}
 use Rattle.lwc_base.specs.Rights.{read_right}
+use Rattle.lwc_types.specs.Pages.{bytes_of}
+use Rattle.lwc_types.specs.declared.key.Key.{Key}
+use Rattle.lwc_types.specs.declared.key.Key.TheVariants.{Page}
+use Rattle.lwc_types.specs.declared.name.Name.{Name}
+use Rattle.lwc_types.specs.declared.page.PageValue.{PageValue}
+use Rattle.lwc_types.specs.declared.page.PageValue.TheVariants.{Zero}
+use Rattle.lwc_types.specs.declared.regs.Regs.{Regs}
+use Rattle.lwc_types.specs.declared.right.Right.{Right}
 use Rattle.world_views.proofs.JobTables.{at}
 use Rattle.world_views.proofs.Keeping.{context-in, keeps-put_pages, keeps-share, stored_pages_fit}
 use Rattle.world_views.proofs.Reading.{cell-alike, needs-alike, rights-alike, value-alike}

@@ -9,10 +9,10 @@ use Rattle.lwc_base.specs.Memory.{is_present}
 use Rattle.lwc_base.specs.Rights.{is_writable}
 use Rattle.lwc_base.specs.Store.{Absent, Done, Full, ReadOnly, Piece, Stored, after_store, parting_count, store}
 use Rattle.lwc_base.specs.World.{World}
-use Rattle.lwc_base.specs.declared.name.Name.{Name}
-use Rattle.lwc_base.specs.declared.page.TheConstants.{PAGE_BYTES}
-use Rattle.lwc_base.specs.declared.refusal.Refusal.{Refusal}
-use Rattle.lwc_base.specs.declared.refusal.Refusal.TheVariants.{BadCall}
+use Rattle.lwc_types.specs.declared.name.Name.{Name}
+use Rattle.lwc_types.specs.declared.page.TheConstants.{PAGE_BYTES}
+use Rattle.lwc_types.specs.declared.refusal.Refusal.{Refusal}
+use Rattle.lwc_types.specs.declared.refusal.Refusal.TheVariants.{BadCall}
 use Rattle.lwc_syscall.specs.Plain.{Outcome, answering, becoming, closing, copying, mapping, opening, plain, reading, refused_or, store_at, writing}
 use Rattle.lwc_syscall.specs.declared.answer.CallAnswer.TheVariants.{Exit, Refused}
 use Rattle.lwc_syscall.specs.declared.calls.CallContexts.{CallContexts}

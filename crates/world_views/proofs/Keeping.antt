@@ -12,7 +12,6 @@ use Rattle.lwc_base.specs.Mapping.{map_pages, mapped_or_not, unmap_pages}
 use Rattle.lwc_base.specs.Memory.{touched}
 use Rattle.lwc_base.specs.Modes.{mode, mode_or_copy}
 use Rattle.lwc_base.specs.Overlay.{overlaid_cell, overlay}
-use Rattle.lwc_base.specs.Registers.{fresh_registers}
 use Rattle.lwc_base.specs.Saved.{save}
 use Rattle.lwc_base.specs.Sharing.{clone_context, cloned_cell, cloned_context, is_moved, moved_value, moved_values, needs_group, share, shared_cell, with_shared}
 use Rattle.lwc_base.specs.Store.{Piece, after_store, stored_pages, put_pages, stored_value}
@@ -22,14 +21,15 @@ use Rattle.lwc_base.specs.declared.cell.Cell.TheVariants.{Own, Common}
 use Rattle.lwc_base.specs.declared.item.Item.{Item}
 use Rattle.lwc_base.specs.declared.item.Mode.{Mode}
 use Rattle.lwc_base.specs.declared.item.Mode.TheVariants.{Copy, Share, Unmap, CopyRead}
-use Rattle.lwc_base.specs.declared.key.Key.{Key}
-use Rattle.lwc_base.specs.declared.key.Key.TheVariants.{Page, Slot, Cred}
-use Rattle.lwc_base.specs.declared.name.Name.{Name}
-use Rattle.lwc_base.specs.declared.page.PageValue.{PageValue}
-use Rattle.lwc_base.specs.declared.page.PageValue.TheVariants.{Zero, Data}
-use Rattle.lwc_base.specs.declared.regs.Regs.{Regs}
 use Rattle.lwc_base.proofs.Holders as holders
 use Rattle.lwc_base.proofs.Holders.{keeps-add_context, keeps-add_group, keeps-change_context, keeps-change_counters, keeps-on_pages}
+use Rattle.lwc_types.specs.Registers.{fresh_registers}
+use Rattle.lwc_types.specs.declared.key.Key.{Key}
+use Rattle.lwc_types.specs.declared.key.Key.TheVariants.{Page, Slot, Cred}
+use Rattle.lwc_types.specs.declared.name.Name.{Name}
+use Rattle.lwc_types.specs.declared.page.PageValue.{PageValue}
+use Rattle.lwc_types.specs.declared.page.PageValue.TheVariants.{Zero, Data}
+use Rattle.lwc_types.specs.declared.regs.Regs.{Regs}
 use Rattle.world_views.proofs.JobTables.{at}
 use Rattle.world_views.proofs.Views.{contexts-alike, hidden-add_context, hidden-add_group, hidden-change_context, hidden-change_counters, hidden-change_group, pages-alike, seen}
 use Rattle.world_views.specs.ByJob.{Home, HasHome, IsPageOf, IsValueOf, KeepsJobs, by_job}

@@ -10,9 +10,7 @@ use Rattle.lwc_base.specs.Keys.{ValueOf}
 use Rattle.lwc_base.specs.Memory.{byte_at, bytes_for, is_present, load, touched}
 use Rattle.lwc_base.specs.Rights.{is_writable, may_write}
 use Rattle.lwc_base.specs.Modes.{mode_or_copy}
-use Rattle.lwc_base.specs.Pages.{bytes_of}
 use Rattle.lwc_base.specs.Ranges.{begins_range, ranges, ranges_of}
-use Rattle.lwc_base.specs.Registers.{fresh_registers}
 use Rattle.lwc_base.specs.Saved.{entered}
 use Rattle.lwc_base.specs.Sharing.{any_key, is_moved, needs_group}
 use Rattle.lwc_base.specs.Slots.{lowest_empty}
@@ -20,12 +18,14 @@ use Rattle.lwc_base.specs.Summaries.{is_empty}
 use Rattle.lwc_base.specs.World.{World, Context, Group, context, group, is_live, new_context, new_group}
 use Rattle.lwc_base.specs.declared.cell.Cell.{Cell}
 use Rattle.lwc_base.specs.declared.cell.Cell.TheVariants.{Own, Common}
-use Rattle.lwc_base.specs.declared.descriptor.TheConstants.{SLOTS}
 use Rattle.lwc_base.specs.declared.item.Item.{Item}
-use Rattle.lwc_base.specs.declared.key.Key.{Key}
-use Rattle.lwc_base.specs.declared.key.Key.TheVariants.{Page, Slot}
-use Rattle.lwc_base.specs.declared.name.Name.{Name}
-use Rattle.lwc_base.specs.declared.page.TheConstants.{PAGE_BYTES}
+use Rattle.lwc_types.specs.Pages.{bytes_of}
+use Rattle.lwc_types.specs.Registers.{fresh_registers}
+use Rattle.lwc_types.specs.declared.key.TheConstants.{SLOTS}
+use Rattle.lwc_types.specs.declared.key.Key.{Key}
+use Rattle.lwc_types.specs.declared.key.Key.TheVariants.{Page, Slot}
+use Rattle.lwc_types.specs.declared.name.Name.{Name}
+use Rattle.lwc_types.specs.declared.page.TheConstants.{PAGE_BYTES}
 use Rattle.world_views.proofs.JobTables.{at}
 use Rattle.world_views.proofs.Keeping.{context-in}
 use Rattle.world_views.proofs.Views.{contexts-alike, groups-alike, pages-alike, seen}

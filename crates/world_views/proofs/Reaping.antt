@@ -11,22 +11,22 @@ use Rattle.lwc_base.specs.Cells.{slot_at}
 use Rattle.lwc_base.specs.Holders.{InCell, InContext, Keeps}
 use Rattle.lwc_base.specs.Keys.{ValueOf}
 use Rattle.lwc_base.specs.Life.{Link, Reaches, Root, is_among, is_in, is_of, is_reached, links, names_group, reap}
-use Rattle.lwc_base.specs.Names.{name_cmp}
-use Rattle.lwc_base.specs.Registers.{fresh_registers}
 use Rattle.lwc_base.specs.World.{World, Context, context, is_live, new_context}
 use Rattle.lwc_base.specs.declared.cell.Cell.{Cell}
 use Rattle.lwc_base.specs.declared.cell.Cell.TheVariants.{Own, Common}
 use Rattle.lwc_base.specs.declared.descriptor.Descriptor.{Descriptor}
 use Rattle.lwc_base.specs.declared.descriptor.Descriptor.TheVariants.{Ctx}
-use Rattle.lwc_base.specs.declared.descriptor.TheConstants.{SLOTS}
-use Rattle.lwc_base.specs.declared.key.Key.{Key}
-use Rattle.lwc_base.specs.declared.key.Key.TheVariants.{Slot}
-use Rattle.lwc_base.specs.declared.name.Name.{Name}
 use Rattle.lwc_base.proofs.Facts.{orders}
-use Rattle.lwc_base.proofs.Orders.{same_name}
 use Rattle.lwc_base.proofs.Life.{or_right, reached_by_way, way_of_reached}
 use Rattle.lwc_base.proofs.Reaped.{number_in, some_key, some_value}
-use Rattle.lwc_base.proofs.Small.{same_bool}
+use Rattle.lwc_types.specs.Names.{name_cmp}
+use Rattle.lwc_types.specs.Registers.{fresh_registers}
+use Rattle.lwc_types.specs.declared.key.TheConstants.{SLOTS}
+use Rattle.lwc_types.specs.declared.key.Key.{Key}
+use Rattle.lwc_types.specs.declared.key.Key.TheVariants.{Slot}
+use Rattle.lwc_types.specs.declared.name.Name.{Name}
+use Rattle.lwc_types.proofs.Orders.{same_name}
+use Rattle.lwc_types.proofs.Small.{same_bool}
 use Rattle.world_views.proofs.JobTables.{at}
 use Rattle.world_views.proofs.Keeping.{value_at-in}
 use Rattle.world_views.proofs.Reading.{live-alike, value-alike}

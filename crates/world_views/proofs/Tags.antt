@@ -13,18 +13,18 @@ use Rattle.std.specs.FinMap as fm
 use Rattle.lwc_base.specs.Cells.{page_at, value_at, value_of}
 use Rattle.lwc_base.specs.Frames.{is_parting, is_shared_tag, own_value, tag_of, tags, tags_of_context, tags_of_group}
 use Rattle.lwc_base.specs.Holders.{InCell, InContext, InGroup, Keeps}
-use Rattle.lwc_base.specs.Names.{tag_cmp}
-use Rattle.lwc_base.specs.Registers.{fresh_registers}
 use Rattle.lwc_base.specs.Store.{page_value_at}
 use Rattle.lwc_base.specs.World.{World, Context, Group, context, group, new_context, new_group}
 use Rattle.lwc_base.specs.declared.cell.Cell.{Cell}
 use Rattle.lwc_base.specs.declared.cell.Cell.TheVariants.{Own, Common}
-use Rattle.lwc_base.specs.declared.key.Key.TheVariants.{Page}
-use Rattle.lwc_base.specs.declared.name.Name.{Name}
-use Rattle.lwc_base.specs.declared.name.Tag.{Tag}
-use Rattle.lwc_base.specs.declared.page.PageValue.{PageValue}
-use Rattle.lwc_base.specs.declared.page.PageValue.TheVariants.{Zero, Data}
 use Rattle.lwc_base.proofs.Facts.{orders}
+use Rattle.lwc_types.specs.Names.{tag_cmp}
+use Rattle.lwc_types.specs.Registers.{fresh_registers}
+use Rattle.lwc_types.specs.declared.key.Key.TheVariants.{Page}
+use Rattle.lwc_types.specs.declared.name.Name.{Name}
+use Rattle.lwc_types.specs.declared.name.Tag.{Tag}
+use Rattle.lwc_types.specs.declared.page.PageValue.{PageValue}
+use Rattle.lwc_types.specs.declared.page.PageValue.TheVariants.{Zero, Data}
 use Rattle.world_views.proofs.Entries.{count-flat_map, job_weights, of_job, one_weighs, same_weights, sum_of_job, two_weigh}
 use Rattle.world_views.proofs.JobTables.{at}
 use Rattle.world_views.proofs.Keeping.{value_at-in}

@@ -12,11 +12,11 @@ use Rattle.lwc_base.specs.Ranges.{ranges}
 use Rattle.lwc_base.specs.Sharing.{cloned_context, ranges_after_clone, share}
 use Rattle.lwc_base.specs.World.{World, Context, Counters, add_context, context, groups_of, live_of}
 use Rattle.lwc_base.specs.declared.item.Item.{Item}
-use Rattle.lwc_base.specs.declared.key.Key.TheVariants.{Page}
-use Rattle.lwc_base.specs.declared.name.Name.{Name}
-use Rattle.lwc_base.specs.declared.size.WorldSize.{WorldSize}
 use Rattle.lwc_base.proofs.Reaped.{context-kept, kept-by_way, reap-reaped, reap-stays}
 use Rattle.lwc_base.proofs.Reaps.{keeps-reap}
+use Rattle.lwc_types.specs.declared.key.Key.TheVariants.{Page}
+use Rattle.lwc_types.specs.declared.name.Name.{Name}
+use Rattle.lwc_types.specs.declared.size.WorldSize.{WorldSize}
 use Rattle.world_views.proofs.Entries.{keys_of_job}
 use Rattle.world_views.proofs.JobAlike.{alike-after_store, alike-clone, alike-mapped, alike-overlay, alike-put_at, alike-save, alike-share, cloned-alike, count-alike}
 use Rattle.world_views.proofs.JobTables.{at}

@@ -10,19 +10,19 @@ use Rattle.std.specs.Prelude.{count_by, is_some, nat_lt, unwrap_or}
 use Rattle.std.specs.Ordering.{eq_by_cmp}
 use Rattle.lwc_base.specs.Frames.{own_value, tag_of, tags, tags_of_context, tags_of_group, used}
 use Rattle.lwc_base.specs.Holders.{InCell, IsGroup}
-use Rattle.lwc_base.specs.Names.{tag_cmp}
-use Rattle.lwc_base.specs.Registers.{fresh_registers}
 use Rattle.lwc_base.specs.World.{World, Context, Group, context, group, is_live, new_context, new_group}
 use Rattle.lwc_base.specs.declared.cell.Cell.{Cell}
 use Rattle.lwc_base.specs.declared.cell.Cell.TheVariants.{Own, Common}
-use Rattle.lwc_base.specs.declared.key.Key.TheVariants.{Page}
-use Rattle.lwc_base.specs.declared.name.Name.{Name}
-use Rattle.lwc_base.specs.declared.name.Tag.{Tag}
-use Rattle.lwc_base.specs.declared.page.PageValue.{PageValue}
-use Rattle.lwc_base.specs.declared.page.PageValue.TheVariants.{Zero, Data}
 use Rattle.lwc_base.proofs.Facts.{orders}
-use Rattle.lwc_base.proofs.Orders.{same_tag}
-use Rattle.lwc_base.proofs.Small.{same_bool}
+use Rattle.lwc_types.specs.Names.{tag_cmp}
+use Rattle.lwc_types.specs.Registers.{fresh_registers}
+use Rattle.lwc_types.specs.declared.key.Key.TheVariants.{Page}
+use Rattle.lwc_types.specs.declared.name.Name.{Name}
+use Rattle.lwc_types.specs.declared.name.Tag.{Tag}
+use Rattle.lwc_types.specs.declared.page.PageValue.{PageValue}
+use Rattle.lwc_types.specs.declared.page.PageValue.TheVariants.{Zero, Data}
+use Rattle.lwc_types.proofs.Orders.{same_tag}
+use Rattle.lwc_types.proofs.Small.{same_bool}
 use Rattle.world_views.proofs.Counting.{all_jobs, in_filter, is_in_list, same_different, tag_of_job, two_jobs}
 use Rattle.world_views.proofs.Entries.{each_entry, one_weighs}
 use Rattle.world_views.proofs.Tags.{home_found, in_context, in_context-there, in_range, is_tag, one_tag, times, times-alike}

@@ -3,9 +3,9 @@ use Rattle.std.proofs.Common.{◌≡◌, refl, ap, ◌∙◌, cond, Option, Some
 use Rattle.std.specs.Option.{option_map}
 use Rattle.std.specs.Ordering.{eq_by_cmp}
 use Rattle.std.specs.FinMap as fm
-use Rattle.lwc_base.specs.Names.{name_cmp}
 use Rattle.lwc_base.specs.World.{World, Context, Group, change_context, changed_context, change_group, changed_group}
-use Rattle.lwc_base.specs.declared.name.Name.{Name}
+use Rattle.lwc_types.specs.Names.{name_cmp}
+use Rattle.lwc_types.specs.declared.name.Name.{Name}
 use Rattle.world_views.proofs.JobTables.{changed_entry, get-changed_entry}
 
 module _ (w : World) (c : Name) where

@@ -3,17 +3,17 @@ use Rattle.std.specs.Prelude.{◌||◌, if◌then◌else◌, Bool, not, Option, 
 use Rattle.std.specs.FinMap as fm
 use Rattle.std.specs.Ordering.{eq_by_cmp}
 use Rattle.lwc_base.specs.Keys.{ValueOf}
-use Rattle.lwc_base.specs.Names.{name_cmp}
-use Rattle.lwc_base.specs.Pages.{zero_page}
 use Rattle.lwc_base.specs.Store.{Absent, Done, Full, ReadOnly, Stored}
 use Rattle.lwc_base.specs.World.{World, Context}
 use Rattle.lwc_base.specs.declared.cell.Cell.{Cell}
 use Rattle.lwc_base.specs.declared.cell.Cell.TheVariants.{Own, Common}
-use Rattle.lwc_base.specs.declared.key.Key.{Key}
-use Rattle.lwc_base.specs.declared.key.Key.TheVariants.{Page, Slot, Cred}
-use Rattle.lwc_base.specs.declared.name.Name.{Name}
-use Rattle.lwc_base.specs.declared.page.PageValue.{PageValue}
-use Rattle.lwc_base.specs.declared.page.PageValue.TheVariants.{Zero, Data}
+use Rattle.lwc_types.specs.Names.{name_cmp}
+use Rattle.lwc_types.specs.Pages.{zero_page}
+use Rattle.lwc_types.specs.declared.key.Key.{Key}
+use Rattle.lwc_types.specs.declared.key.Key.TheVariants.{Page, Slot, Cred}
+use Rattle.lwc_types.specs.declared.name.Name.{Name}
+use Rattle.lwc_types.specs.declared.page.PageValue.{PageValue}
+use Rattle.lwc_types.specs.declared.page.PageValue.TheVariants.{Zero, Data}
 
 -- what is under a page, with zero bytes in place of its bytes; its tag stays
 abbrev pub blank_page : Option PageValue → Option PageValue

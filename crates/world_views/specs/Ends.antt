@@ -4,7 +4,7 @@ use Rattle.guest_call.specs.Guest.{descriptor_for}
 use Rattle.lwc_base.specs.Channels.{Channels}
 use Rattle.lwc_base.specs.Store.{Piece}
 use Rattle.lwc_base.specs.World.{World}
-use Rattle.lwc_base.specs.declared.refusal.Refusal.TheVariants.{NoFrame}
+use Rattle.lwc_types.specs.declared.refusal.Refusal.TheVariants.{NoFrame}
 use Rattle.lwc_syscall.specs.Plain.{Outcome, moved}
 use Rattle.lwc_syscall.specs.declared.answer.CallAnswer.TheVariants.{Refused}
 use Rattle.lwc_syscall.specs.declared.calls.CallContexts.{CallContexts}

@@ -2,9 +2,6 @@
 -- see.
 use Rattle.std.specs.Prelude.{◌≡◌, ℕ, Bool, List}
 use Rattle.lwc_base.specs.declared.item.Item.{Item}
-use Rattle.lwc_base.specs.declared.key.Key.{Key}
-use Rattle.lwc_base.specs.declared.name.Name.{Name}
-use Rattle.lwc_base.specs.declared.regs.Regs.{Regs}
 use Rattle.lwc_base.specs.Cells.{put_at, value_at}
 use Rattle.lwc_base.specs.Keys.{ValueOf}
 use Rattle.lwc_base.specs.Mapping.{mapped_or_not}
@@ -17,6 +14,9 @@ use Rattle.lwc_base.specs.Sharing.{clone_context, needs_group, ranges_after_clon
 use Rattle.lwc_base.specs.Slots.{lowest_empty}
 use Rattle.lwc_base.specs.Store.{Piece, after_store, parting_count}
 use Rattle.lwc_base.specs.World.{World, context, groups_of, is_live, live_of}
+use Rattle.lwc_types.specs.declared.key.Key.{Key}
+use Rattle.lwc_types.specs.declared.name.Name.{Name}
+use Rattle.lwc_types.specs.declared.regs.Regs.{Regs}
 use Rattle.world_views.specs.ByJob.{Home, IsValueOf, KeepsJobs, LooksAlike}
 use Rattle.world_views.specs.Views.{seen_by, view}
 

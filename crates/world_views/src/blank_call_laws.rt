@@ -4,7 +4,7 @@
 ghost use Rattle.std.specs.Prelude.{ℕ, Bool};
 ghost use Rattle.lwc_base.specs.Channels.{Channels};
 ghost use Rattle.lwc_base.specs.World.{World};
-ghost use Rattle.lwc_base.specs.declared.name.Name.{Name};
+ghost use Rattle.lwc_types.specs.declared.name.Name.{Name};
 ghost use Rattle.world_views.specs.Outside.{CallsAlike, IsOutside};
 
 /// A call from another context, with no descriptor that opens the blank one, is the same call where that is

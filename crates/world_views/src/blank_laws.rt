@@ -3,7 +3,7 @@
 
 ghost use Rattle.std.specs.Prelude.{◌≢◌, Bool};
 ghost use Rattle.lwc_base.specs.World.{World};
-ghost use Rattle.lwc_base.specs.declared.name.Name.{Name};
+ghost use Rattle.lwc_types.specs.declared.name.Name.{Name};
 ghost use Rattle.world_views.specs.BlankFacts.{AsksAlike, BlanksAlike, ChangesAlike};
 
 /// What is asked of another context is answered the same where one context is blank.

@@ -14,9 +14,9 @@ ghost use Rattle.lwc_base.specs.Store.{Piece, after_store};
 ghost use Rattle.lwc_base.specs.World.{World, is_live};
 ghost use Rattle.lwc_base.specs.declared.item.Item.{Item};
 ghost use Rattle.lwc_base.specs.declared.item.Mode.TheVariants.{Share};
-ghost use Rattle.lwc_base.specs.declared.key.Key.{Key};
-ghost use Rattle.lwc_base.specs.declared.name.Name.{Name};
-ghost use Rattle.lwc_base.specs.declared.regs.Regs.{Regs};
+ghost use Rattle.lwc_types.specs.declared.key.Key.{Key};
+ghost use Rattle.lwc_types.specs.declared.name.Name.{Name};
+ghost use Rattle.lwc_types.specs.declared.regs.Regs.{Regs};
 
 /// What is put under a key, where something is there, is read under it, and each context reads the same under
 /// each other key.

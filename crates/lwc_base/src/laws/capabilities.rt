@@ -4,8 +4,8 @@ ghost use Rattle.lwc_base.specs.Capabilities.{restricted};
 ghost use Rattle.lwc_base.specs.Modes.{IsKey};
 ghost use Rattle.lwc_base.specs.declared.descriptor.Cap.{Cap};
 ghost use Rattle.lwc_base.specs.declared.item.Item.{Item};
-ghost use Rattle.lwc_base.specs.declared.key.Key.{Key};
-ghost use Rattle.lwc_base.specs.declared.limits.TheConstants.{MOST_PAGES};
+ghost use Rattle.lwc_types.specs.declared.key.Key.{Key};
+ghost use Rattle.lwc_types.specs.declared.limits.TheConstants.{MOST_PAGES};
 
 /// A capability is the set of its keys: each set of keys has one, and two with the same keys are equal.
 pub fn capabilities_are_sets_of_keys()

@@ -10,9 +10,9 @@ ghost use Rattle.lwc_base.specs.Store.{Piece, after_store};
 ghost use Rattle.lwc_base.specs.World.{World, add_context, empty_world, is_live, new_context};
 ghost use Rattle.lwc_base.specs.declared.descriptor.Descriptor.{Descriptor};
 ghost use Rattle.lwc_base.specs.declared.item.Item.{Item};
-ghost use Rattle.lwc_base.specs.declared.name.Name.{Name};
-ghost use Rattle.lwc_base.specs.declared.regs.Regs.{Regs};
-ghost use Rattle.lwc_base.specs.declared.size.WorldSize.{WorldSize};
+ghost use Rattle.lwc_types.specs.declared.name.Name.{Name};
+ghost use Rattle.lwc_types.specs.declared.regs.Regs.{Regs};
+ghost use Rattle.lwc_types.specs.declared.size.WorldSize.{WorldSize};
 
 /// A descriptor that a slot of a live context has names a file or a request that is there, and has been read
 /// at most up to its end. This stays so whatever a run changes: what is put into a slot has to be so too.

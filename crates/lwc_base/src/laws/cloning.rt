@@ -9,8 +9,8 @@ ghost use Rattle.lwc_base.specs.World.{World, context, group, is_live, next_grou
 ghost use Rattle.lwc_base.specs.declared.cell.Cell.TheVariants.{Common, Own};
 ghost use Rattle.lwc_base.specs.declared.item.Item.{Item};
 ghost use Rattle.lwc_base.specs.declared.item.Mode.TheVariants.{Share, Unmap};
-ghost use Rattle.lwc_base.specs.declared.key.Key.{Key};
-ghost use Rattle.lwc_base.specs.declared.name.Name.{Name};
+ghost use Rattle.lwc_types.specs.declared.key.Key.{Key};
+ghost use Rattle.lwc_types.specs.declared.name.Name.{Name};
 
 /// In a fresh world, each context reads the same under each key once values are shared.
 #[tactic(auto, using(crate::proofs::Sharing::shared_values))]

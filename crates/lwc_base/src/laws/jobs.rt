@@ -11,9 +11,9 @@ ghost use Rattle.lwc_base.specs.Store.{Piece, after_store};
 ghost use Rattle.lwc_base.specs.World.{Context, World, add_context, empty_world, is_live, new_context};
 ghost use Rattle.lwc_base.specs.declared.descriptor.Descriptor.{Descriptor};
 ghost use Rattle.lwc_base.specs.declared.item.Item.{Item};
-ghost use Rattle.lwc_base.specs.declared.name.Name.{Name};
-ghost use Rattle.lwc_base.specs.declared.regs.Regs.{Regs};
-ghost use Rattle.lwc_base.specs.declared.size.WorldSize.{WorldSize};
+ghost use Rattle.lwc_types.specs.declared.name.Name.{Name};
+ghost use Rattle.lwc_types.specs.declared.regs.Regs.{Regs};
+ghost use Rattle.lwc_types.specs.declared.size.WorldSize.{WorldSize};
 
 /// What a job's contexts and groups name is of that job. This stays so whatever a run changes, if what is put
 /// into a slot is so too, and each job makes contexts of its own ones alone.

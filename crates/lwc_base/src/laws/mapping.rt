@@ -3,9 +3,9 @@ ghost use Rattle.lwc_base.specs.Cells.{page_at};
 ghost use Rattle.lwc_base.specs.Mapping.{map_pages, unmap_pages};
 ghost use Rattle.lwc_base.specs.Memory.{byte_at};
 ghost use Rattle.lwc_base.specs.World.{World, is_live};
-ghost use Rattle.lwc_base.specs.declared.name.Name.{Name};
-ghost use Rattle.lwc_base.specs.declared.page.PageValue.TheVariants.{Zero};
-ghost use Rattle.lwc_base.specs.declared.page.TheConstants.{PAGE_BYTES};
+ghost use Rattle.lwc_types.specs.declared.name.Name.{Name};
+ghost use Rattle.lwc_types.specs.declared.page.PageValue.TheVariants.{Zero};
+ghost use Rattle.lwc_types.specs.declared.page.TheConstants.{PAGE_BYTES};
 
 /// A page that is mapped is zeros, and each byte of it reads 0, whatever was there. One that is unmapped is
 /// absent.

@@ -2,7 +2,7 @@ ghost use Rattle.std.specs.Prelude.{◌≡◌, ℕ, List, None, Some, All, true,
 ghost use Rattle.std.specs.List.{Contains};
 ghost use Rattle.lwc_base.specs.Modes.{IsSpec, mode, names};
 ghost use Rattle.lwc_base.specs.declared.item.Item.{Item};
-ghost use Rattle.lwc_base.specs.declared.key.Key.{Key};
+ghost use Rattle.lwc_types.specs.declared.key.Key.{Key};
 
 /// The item of a specifier that names a key gives the key its mode, and a key that no item names has none.
 pub fn an_item_gives_its_mode()

@@ -9,8 +9,8 @@ ghost use Rattle.lwc_base.specs.declared.cell.Cell.TheVariants.{Own};
 ghost use Rattle.lwc_base.specs.declared.item.Item.{Item};
 ghost use Rattle.lwc_base.specs.declared.item.Mode.{Mode};
 ghost use Rattle.lwc_base.specs.declared.item.Mode.TheVariants.{Share};
-ghost use Rattle.lwc_base.specs.declared.key.Key.{Key};
-ghost use Rattle.lwc_base.specs.declared.name.Name.{Name};
+ghost use Rattle.lwc_types.specs.declared.key.Key.{Key};
+ghost use Rattle.lwc_types.specs.declared.name.Name.{Name};
 
 /// An overlay changes what the context that gets it has under the keys that items name. Under each other key
 /// it reads as before, and so does each other context under every key, the one that is taken from among them.

@@ -3,7 +3,7 @@ ghost use Rattle.lwc_base.specs.Ranges.{begins_range, ranges};
 ghost use Rattle.lwc_base.specs.Runs.{IsOneRun};
 ghost use Rattle.lwc_base.specs.World.{Context};
 ghost use Rattle.lwc_base.specs.declared.cell.Cell.TheVariants.{Own};
-ghost use Rattle.lwc_base.specs.declared.key.Key.TheVariants.{Page};
+ghost use Rattle.lwc_types.specs.declared.key.Key.TheVariants.{Page};
 
 /// Present pages that are one run are one range, where no page is present there is no range, and each further
 /// page adds the range that begins at it.

@@ -14,14 +14,14 @@ ghost use Rattle.lwc_base.specs.World.{World, context, is_live};
 ghost use Rattle.lwc_base.specs.declared.cell.Cell.TheVariants.{Own};
 ghost use Rattle.lwc_base.specs.declared.item.Item.{Item};
 ghost use Rattle.lwc_base.specs.declared.item.Mode.TheVariants.{Copy, CopyRead, Share};
-ghost use Rattle.lwc_base.specs.declared.key.Key.{Key};
-ghost use Rattle.lwc_base.specs.declared.key.Key.TheVariants.{Page};
-ghost use Rattle.lwc_base.specs.declared.name.Name.{Name};
-ghost use Rattle.lwc_base.specs.declared.page.PageValue.{PageValue};
-ghost use Rattle.lwc_base.specs.declared.page.TheConstants.{PAGE_BYTES};
-ghost use Rattle.lwc_base.specs.declared.regs.Regs.{Regs};
-ghost use Rattle.lwc_base.specs.declared.right.Right.{Right};
-ghost use Rattle.lwc_base.specs.declared.right.Right.TheVariants.{Read, Write};
+ghost use Rattle.lwc_types.specs.declared.key.Key.{Key};
+ghost use Rattle.lwc_types.specs.declared.key.Key.TheVariants.{Page};
+ghost use Rattle.lwc_types.specs.declared.name.Name.{Name};
+ghost use Rattle.lwc_types.specs.declared.page.PageValue.{PageValue};
+ghost use Rattle.lwc_types.specs.declared.page.TheConstants.{PAGE_BYTES};
+ghost use Rattle.lwc_types.specs.declared.regs.Regs.{Regs};
+ghost use Rattle.lwc_types.specs.declared.right.Right.{Right};
+ghost use Rattle.lwc_types.specs.declared.right.Right.TheVariants.{Read, Write};
 
 /// The rights of a context's pages stay, whatever is put, stored, shared or saved, in it or in others.
 #[tactic(auto, using(crate::proofs::Rights::rights_stay))]

@@ -2,9 +2,9 @@ ghost use Rattle.std.specs.Prelude.{◌≡◌, ◌≢◌, ℕ, Some, true};
 ghost use Rattle.lwc_base.specs.Cells.{value_at};
 ghost use Rattle.lwc_base.specs.Saved.{entered, save};
 ghost use Rattle.lwc_base.specs.World.{World, context, is_live};
-ghost use Rattle.lwc_base.specs.declared.key.Key.{Key};
-ghost use Rattle.lwc_base.specs.declared.name.Name.{Name};
-ghost use Rattle.lwc_base.specs.declared.regs.Regs.{Regs};
+ghost use Rattle.lwc_types.specs.declared.key.Key.{Key};
+ghost use Rattle.lwc_types.specs.declared.name.Name.{Name};
+ghost use Rattle.lwc_types.specs.declared.regs.Regs.{Regs};
 
 /// The registers that a context keeps for a thread are those that the thread enters it with. Those of other
 /// threads stay, and so do each value, the registers that the context begins with, and all other contexts.

@@ -3,8 +3,8 @@ ghost use Rattle.lwc_base.specs.Cells.{slot_at};
 ghost use Rattle.lwc_base.specs.Slots.{lowest_empty};
 ghost use Rattle.lwc_base.specs.Summaries.{is_empty};
 ghost use Rattle.lwc_base.specs.World.{World};
-ghost use Rattle.lwc_base.specs.declared.descriptor.TheConstants.{SLOTS};
-ghost use Rattle.lwc_base.specs.declared.name.Name.{Name};
+ghost use Rattle.lwc_types.specs.declared.key.TheConstants.{SLOTS};
+ghost use Rattle.lwc_types.specs.declared.name.Name.{Name};
 
 /// The lowest empty slot of a context is one of its slots, and empty.
 pub fn the_lowest_empty_slot_is_empty()

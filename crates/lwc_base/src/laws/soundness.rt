@@ -11,9 +11,9 @@ ghost use Rattle.lwc_base.specs.Store.{Done, Piece, store};
 ghost use Rattle.lwc_base.specs.World.{World, add_context, empty_world, is_live, new_context};
 ghost use Rattle.lwc_base.specs.declared.descriptor.Descriptor.{Descriptor};
 ghost use Rattle.lwc_base.specs.declared.item.Item.{Item};
-ghost use Rattle.lwc_base.specs.declared.name.Name.{Name};
-ghost use Rattle.lwc_base.specs.declared.regs.Regs.{Regs};
-ghost use Rattle.lwc_base.specs.declared.size.WorldSize.{WorldSize};
+ghost use Rattle.lwc_types.specs.declared.name.Name.{Name};
+ghost use Rattle.lwc_types.specs.declared.regs.Regs.{Regs};
+ghost use Rattle.lwc_types.specs.declared.size.WorldSize.{WorldSize};
 
 /// The world in which nothing is live is sound, and each change that a run makes of a sound world keeps it
 /// sound.

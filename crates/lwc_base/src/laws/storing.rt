@@ -6,10 +6,10 @@ ghost use Rattle.lwc_base.specs.Memory.{byte_at};
 ghost use Rattle.lwc_base.specs.Sound.{IsSound};
 ghost use Rattle.lwc_base.specs.Store.{Done, Piece, byte_after, parting_count, store};
 ghost use Rattle.lwc_base.specs.World.{World, is_live};
-ghost use Rattle.lwc_base.specs.declared.key.Key.{Key};
-ghost use Rattle.lwc_base.specs.declared.key.Key.TheVariants.{Page};
-ghost use Rattle.lwc_base.specs.declared.name.Name.{Name};
-ghost use Rattle.lwc_base.specs.declared.page.TheConstants.{PAGE_BYTES};
+ghost use Rattle.lwc_types.specs.declared.key.Key.{Key};
+ghost use Rattle.lwc_types.specs.declared.key.Key.TheVariants.{Page};
+ghost use Rattle.lwc_types.specs.declared.name.Name.{Name};
+ghost use Rattle.lwc_types.specs.declared.page.TheConstants.{PAGE_BYTES};
 
 /// What is stored reads back, and each other byte of the context is as it was. A byte of another context
 /// stays where its page is apart, and is the same as the context's where its page is common. Under keys that

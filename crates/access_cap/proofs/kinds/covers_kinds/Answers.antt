@@ -1,6 +1,6 @@
 use Rattle.access_cap.specs.Kinds.{has_kinds, is_chosen}
-use Rattle.lwc_base.specs.declared.key.Key.{Key}
 use Rattle.lwc_base.specs.Modes.{kind_of}
+use Rattle.lwc_types.specs.declared.key.Key.{Key}
 use Rattle.access_cap.proofs.Covered.{had_exactly}
 use Rattle.access_cap.proofs.kinds.covers_kinds.Goals as goal
 

@@ -1,6 +1,6 @@
 use Rattle.std.proofs.Common.{◌≡◌, ◌∙◌, ◌&&◌, ◌/◌, ◌%◌, ap, List, ℕ, get_or, refl, arith}
 use Rattle.lwc_base.specs.Capabilities.{has_bit, has_key}
-use Rattle.lwc_base.specs.declared.key.Key.TheVariants.{Page, Slot, Cred}
+use Rattle.lwc_types.specs.declared.key.Key.TheVariants.{Page, Slot, Cred}
 use Rattle.access_cap.proofs.Bits.{has_bit-zero}
 use Rattle.access_cap.proofs.Keys.{both_same, kept, left_out, masked_bit, zero_at}
 use Rattle.access_cap.proofs.kinds.of_kinds.Goals.{then-contains, else-contains, then-contains-2, else-contains-2}

@@ -1,5 +1,5 @@
 use Rattle.std.proofs.Common.{◌∙◌, arith, refl}
-use Rattle.lwc_base.specs.declared.key.Key.TheVariants.{Page, Slot, Cred}
+use Rattle.lwc_types.specs.declared.key.Key.TheVariants.{Page, Slot, Cred}
 use Rattle.std.proofs.lemmas.Nat.{and_le_r}
 use Rattle.access_cap.proofs.Keys.{all_words, both_bits, is_meet_word, masked_bit, meet_is, one_word_more}
 use Rattle.access_cap.proofs.sets.meet.Goals as goal

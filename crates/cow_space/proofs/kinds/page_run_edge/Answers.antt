@@ -1,6 +1,6 @@
 use Rattle.std.proofs.Common.{◌≡◌, List, ap, arith, subst, sym, true, false, ◌∙◌}
 use Rattle.std.proofs.lemmas.List.{take_all}
-use Rattle.lwc_base.specs.declared.limits.TheConstants.{MOST_PAGES}
+use Rattle.lwc_types.specs.declared.limits.TheConstants.{MOST_PAGES}
 use Rattle.range_map.proofs.Alike.{edge_more}
 use Rattle.cow_space.specs.declared.page_runs.PageRun.{PageRun}
 use Rattle.cow_space.specs.Changes.{is_edge, page_run_at}

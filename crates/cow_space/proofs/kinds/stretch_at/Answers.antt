@@ -1,7 +1,7 @@
 use Rattle.std.proofs.Common.{◌≡◌, ◌∙◌, Bool, true, false, cond, sym, ap, arith, refl, Option, None, Some}
 use Rattle.std.specs.Prelude.{unwrap_or}
-use Rattle.lwc_base.specs.declared.right.Right.{Right}
-use Rattle.lwc_base.specs.declared.right.Right.TheVariants.{Read}
+use Rattle.lwc_types.specs.declared.right.Right.{Right}
+use Rattle.lwc_types.specs.declared.right.Right.TheVariants.{Read}
 use Rattle.range_map.specs.Kinds.{kind_of, state_of}
 use Rattle.cow_space.specs.Changes.{origin_cell, origin_right}
 use Rattle.cow_space.specs.Cells.{place_of, rights_of}

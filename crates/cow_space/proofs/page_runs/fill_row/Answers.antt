@@ -2,8 +2,8 @@ use Rattle.std.proofs.Common.{◌<◌, ◌≡◌, ℕ, ◌∙◌, inl, ⊎_elim,
 use Rattle.std.specs.Option.{MatchOption}
 use Rattle.std.proofs.lemmas.Bool.{cases_eq}
 use Rattle.std.proofs.Math.ListN.{length-set}
-use Rattle.lwc_base.specs.declared.limits.TheConstants.{MOST_PAGES}
-use Rattle.lwc_base.specs.declared.page.PageValue.{PageValue}
+use Rattle.lwc_types.specs.declared.limits.TheConstants.{MOST_PAGES}
+use Rattle.lwc_types.specs.declared.page.PageValue.{PageValue}
 use Rattle.page_tree.proofs.OpenLemmas.{passed-later}
 use Rattle.range_map.specs.Kinds.{is_between}
 use Rattle.cow_space.specs.declared.page_runs.PageRun.{PageRun}

@@ -1,6 +1,6 @@
 use Rattle.std.proofs.Common.{◌≡◌, ◌≤◌, ℕ, arith, inl, subst, sym}
 use Rattle.std.proofs.lemmas.List.{get_or_default}
-use Rattle.lwc_base.specs.declared.limits.TheConstants.{MOST_PAGES, MOST_RANGES}
+use Rattle.lwc_types.specs.declared.limits.TheConstants.{MOST_PAGES, MOST_RANGES}
 use Rattle.range_map.specs.Kinds.{put_state, ranges, state_at}
 use Rattle.range_map.proofs.Edges.{none}
 use Rattle.cow_space.proofs.PartLemmas.{append-few, ends, have-all, have-more, taken}

@@ -3,7 +3,7 @@ use Rattle.std.specs.List.{position}
 use Rattle.std.proofs.lemmas.Iterator.{YieldsList-from_slice}
 use Rattle.std.proofs.lemmas.Iterator.Search.{position_from_yields_List}
 use Rattle.guest_asm.proofs.words.place_of.Goals as goal
-use Rattle.lwc_base.proofs.Small.{or_len}
+use Rattle.lwc_types.proofs.Small.{or_len}
 
 pub returns-clause-place : goal.returns-clause-place
 returns-clause-place c =

@@ -5,7 +5,7 @@ use Rattle.std.proofs.lemmas.Iterator.Search.{position_from_yields_List}
 use Rattle.guest_asm.specs.Lexis.{is_separator}
 use Rattle.guest_asm.proofs.Lexis.{not_not}
 use Rattle.guest_asm.proofs.words.word_start.Goals as goal
-use Rattle.lwc_base.proofs.Small.{or_len}
+use Rattle.lwc_types.proofs.Small.{or_len}
 
 pub returns-clause-place : goal.returns-clause-place
 returns-clause-place c =

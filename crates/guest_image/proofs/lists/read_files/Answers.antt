@@ -1,8 +1,8 @@
 use Rattle.std.proofs.Common.{length, refl}
 use Rattle.std.proofs.lemmas.Result.{err_from_is_err_and}
 use Rattle.std.proofs.lemmas.List.Sums.{sum_by_push}
-use Rattle.lwc_base.specs.Outcomes.{Fails}
-use Rattle.lwc_base.specs.declared.channels.FileImage.{FileImage}
+use Rattle.lwc_types.specs.Outcomes.{Fails}
+use Rattle.lwc_types.specs.declared.file_image.FileImage.{FileImage}
 use Rattle.guest_image.specs.Reading.{next_file}
 use Rattle.guest_image.proofs.Loops.{continues, ends, is_done}
 use Rattle.guest_image.proofs.lists.read_files.Goals as goal

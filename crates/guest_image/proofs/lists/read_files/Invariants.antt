@@ -1,5 +1,5 @@
 use Rattle.std.proofs.Common.{◌≡◌, ◌-◌, ◌≤◌}
-use Rattle.lwc_base.specs.declared.limits.TheConstants.{MOST_FILE_BYTES}
+use Rattle.lwc_types.specs.declared.limits.TheConstants.{MOST_FILE_BYTES}
 use Rattle.guest_image.specs.Limits.{content}
 use Rattle.guest_image.specs.Reading.{list_at, next_file, files_at}
 use Rattle.guest_image.proofs.lists.read_files.Given as goal

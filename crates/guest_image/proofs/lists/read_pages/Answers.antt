@@ -4,7 +4,7 @@ use Rattle.guest_image.specs.Reading.{next_page}
 use Rattle.guest_image.proofs.Loops.{continues, ends, is_done}
 use Rattle.guest_image.proofs.Push.{last_page, page_ranges}
 use Rattle.guest_image.proofs.lists.read_pages.Goals as goal
-use Rattle.lwc_base.specs.Outcomes.{Fails}
+use Rattle.lwc_types.specs.Outcomes.{Fails}
 
 pub returns-in_err-page : goal.returns-in_err-page
 returns-in_err-page c =

@@ -1,5 +1,5 @@
 use Rattle.std.proofs.Common.{◌≡◌, ◌-◌, ◌≤◌}
-use Rattle.lwc_base.specs.declared.limits.TheConstants.{MOST_RANGES}
+use Rattle.lwc_types.specs.declared.limits.TheConstants.{MOST_RANGES}
 use Rattle.guest_image.specs.Numbers.{last, ranges}
 use Rattle.guest_image.specs.Limits.{page_numbers}
 use Rattle.guest_image.specs.Reading.{list_at, next_page, pages_at}

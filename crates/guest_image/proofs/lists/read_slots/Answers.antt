@@ -4,7 +4,7 @@ use Rattle.guest_image.specs.Reading.{next_slot}
 use Rattle.guest_image.proofs.Loops.{continues, ends, is_done}
 use Rattle.guest_image.proofs.Push.{last_slot}
 use Rattle.guest_image.proofs.lists.read_slots.Goals as goal
-use Rattle.lwc_base.specs.Outcomes.{Fails}
+use Rattle.lwc_types.specs.Outcomes.{Fails}
 
 pub returns-in_err-slot : goal.returns-in_err-slot
 returns-in_err-slot c =

@@ -1,7 +1,7 @@
 use Rattle.std.proofs.Common.{◌≡◌, Some, arith, get_or, slice_get}
 use Rattle.guest_isa.specs.declared.op.Op.TheVariants.{Li}
 use Rattle.guest_isa.specs.declared.instr.Instr.{Instr}
-use Rattle.lwc_base.specs.declared.regs.Regs.{Regs}
+use Rattle.lwc_types.specs.declared.regs.Regs.{Regs}
 use Rattle.guest_machine.specs.declared.progress.Next.TheVariants.{BadPc, Shared}
 use Rattle.guest_machine.proofs.Runs.{begins, goes_on, paused, read_at, stop_past, stop_private, stop_shared, stopped}
 use Rattle.guest_machine.proofs.advancing.run_on.Goals as goal

@@ -4,7 +4,7 @@ use Rattle.std.proofs.lemmas.List.Elements.{All-append}
 use Rattle.kernel_core.proofs.Reaping.{home_more, length-contexts, length-homes, live_roots}
 use Rattle.kernel_core.specs.Machine.{homes_of}
 use Rattle.kernel_core.specs.Step.{contexts_of}
-use Rattle.lwc_base.specs.declared.name.Name.{Name}
+use Rattle.lwc_types.specs.declared.name.Name.{Name}
 use Rattle.world_face.specs.Calls.{IsLive}
 use Rattle.lwc_base.proofs.Reaped.{reap-reaped}
 use Rattle.kernel_core.proofs.kernel.drop_unreached.Goals as goal

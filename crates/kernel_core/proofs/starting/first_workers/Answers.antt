@@ -3,8 +3,8 @@ use Rattle.kernel_core.proofs.HomeMade.{worker_pushed}
 use Rattle.kernel_core.specs.declared.thread.Thread.{Thread}
 use Rattle.kernel_core.specs.Start.{first_workers}
 use Rattle.kernel_core.specs.Step.{waiting}
-use Rattle.lwc_base.specs.Registers.{fresh_registers}
-use Rattle.lwc_base.specs.declared.name.Name.{Name}
+use Rattle.lwc_types.specs.Registers.{fresh_registers}
+use Rattle.lwc_types.specs.declared.name.Name.{Name}
 use Rattle.kernel_core.proofs.starting.first_workers.Goals as goal
 
 pub workers-init : goal.workers-init

@@ -1,7 +1,7 @@
 use Rattle.std.proofs.Common.{◌∙◌, ◌++◌, ◌∷◌, [], List, ap, arith, length}
 use Rattle.kernel_core.proofs.HomeMade.{after_here, before_here, home_pushed}
 use Rattle.kernel_core.proofs.Reaping.{length-homes}
-use Rattle.lwc_base.specs.declared.name.Name.{Name}
+use Rattle.lwc_types.specs.declared.name.Name.{Name}
 use Rattle.kernel_core.proofs.starting.put_homes.Goals as goal
 
 pub put_home-requires-clause-before : goal.put_home-requires-clause-before

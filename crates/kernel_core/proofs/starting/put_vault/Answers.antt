@@ -1,5 +1,5 @@
 use Rattle.std.proofs.Common.{◌∙◌, ap, arith, refl}
-use Rattle.lwc_base.specs.Registers.{fresh_registers}
+use Rattle.lwc_types.specs.Registers.{fresh_registers}
 use Rattle.kernel_core.proofs.Vaults.{all_there, as_before, begun, by_frames, can_put_here, first_lives, frames_stay, has_place, may_name_vault, name_is, put_here, vault_put}
 use Rattle.kernel_core.proofs.starting.put_vault.Goals as goal
 

@@ -2,7 +2,7 @@ use Rattle.std.proofs.Common.{◌∙◌, ℕ, List, ap, arith, rules}
 use Rattle.std.specs.Prelude.{slice_index}
 use Rattle.kernel_core.proofs.Building.{as_here, first_made, frames_here, from_here, has_first_place, may_name_first, opened_by}
 use Rattle.kernel_core.proofs.Started.{all_put}
-use Rattle.lwc_base.specs.Registers.{fresh_registers}
+use Rattle.lwc_types.specs.Registers.{fresh_registers}
 use Rattle.kernel_core.proofs.starting.start_world.Goals as goal
 
 pub first-requires-clause-place : goal.first-requires-clause-place

@@ -1,6 +1,6 @@
 use Rattle.std.proofs.Common.{refl, subst, sym}
-use Rattle.lwc_base.specs.declared.limits.TheConstants.{MOST_PAGES}
 use Rattle.lwc_base.specs.Modes.{IsSpec, mode, mode_or_copy}
+use Rattle.lwc_types.specs.declared.limits.TheConstants.{MOST_PAGES}
 use Rattle.lazy_world.specs.Clones.{CopiesPages}
 use Rattle.lazy_world.proofs.CloneOrigins.{copied_here, still_copied}
 use Rattle.lazy_world.proofs.cloning.copies_pages.Goals as goal

@@ -1,7 +1,7 @@
 use Rattle.std.proofs.Common.{◌≡◌, ◌≢◌, ◌<◌, ◌≤◌, ℕ, length, take}
 use Rattle.std.specs.Prelude.{All}
-use Rattle.lwc_base.specs.declared.key.Key.TheVariants.{Page}
 use Rattle.lwc_base.specs.Modes.{mode}
+use Rattle.lwc_types.specs.declared.key.Key.TheVariants.{Page}
 use Rattle.cow_space.specs.Changes.{IsPageRun}
 use Rattle.lazy_world.specs.Clones.{item_gift}
 use Rattle.lazy_world.specs.Origins.{gift_at}

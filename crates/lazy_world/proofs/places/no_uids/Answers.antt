@@ -1,6 +1,6 @@
 use Rattle.std.proofs.Common.{◌≡◌, ◌++◌, [], ◌∷◌, replicate, ap, ◌∙◌, arith}
 use Rattle.lwc_base.specs.declared.cell.Cell.TheVariants.{Own}
-use Rattle.lwc_base.specs.declared.key.TheConstants.{NOBODY}
+use Rattle.lwc_types.specs.declared.key.TheConstants.{NOBODY}
 use Rattle.lazy_world.proofs.PlaceLemmas.{replicate_push}
 use Rattle.lazy_world.proofs.places.no_uids.Goals as goal
 

@@ -1,7 +1,7 @@
 use Rattle.std.proofs.Common.{◌≢◌, Some, take}
 use Rattle.lwc_base.specs.declared.item.Mode.TheVariants.{Share}
-use Rattle.lwc_base.specs.declared.key.Key.{Key}
 use Rattle.lwc_base.specs.Modes.{mode}
+use Rattle.lwc_types.specs.declared.key.Key.{Key}
 use Rattle.lazy_world.proofs.sharing.shares_nothing.Given as goal
 
 abbrev pub invariant-loop-item : goal.invariant-loop-item

@@ -1,10 +1,10 @@
 use Rattle.std.proofs.Common.{◌∙◌, ◌∷◌, [], arith, ap, length, length-append, subst, sym, List}
 use Rattle.std.proofs.lemmas.List.{take_all}
 use Rattle.lwc_base.specs.declared.item.Item.{Item}
-use Rattle.lwc_base.specs.declared.key.Key.TheVariants.{Page}
-use Rattle.lwc_base.specs.declared.limits.TheConstants.{MOST_PAGES}
 use Rattle.lwc_base.specs.Modes.{IsSpec, mode}
-use Rattle.lwc_base.specs.declared.range.Range.{Range}
+use Rattle.lwc_types.specs.declared.key.Key.TheVariants.{Page}
+use Rattle.lwc_types.specs.declared.limits.TheConstants.{MOST_PAGES}
+use Rattle.lwc_types.specs.declared.range.Range.{Range}
 use Rattle.cow_space.specs.Changes.{have_page}
 use Rattle.lazy_world.specs.Transfers.{is_read}
 use Rattle.lazy_world.proofs.CloneOrigins.{read_passed, read_pushed}

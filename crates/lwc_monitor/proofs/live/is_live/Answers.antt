@@ -1,6 +1,6 @@
 use Rattle.std.proofs.Common.{arith, sym, ap, ◌∙◌}
-use Rattle.lwc_base.specs.declared.name.Name.{Name}
 use Rattle.lwc_base.specs.World.{is_live}
+use Rattle.lwc_types.specs.declared.name.Name.{Name}
 use Rattle.lwc_monitor.proofs.Names.{found, is_named, none_left, passed}
 use Rattle.lwc_monitor.proofs.Pairs.{alike, same-one}
 use Rattle.lwc_monitor.proofs.live.is_live.Goals as goal

@@ -2,8 +2,8 @@ use Rattle.std.proofs.Common.{◌≡◌, ◌∙◌, arith, false, inl, inr, subs
 use Rattle.std.proofs.Math.Nat.{eq-or-lt_of_le}
 use Rattle.lwc_base.proofs.Caps.{none_below, some_below}
 use Rattle.lwc_base.specs.World.{context}
-use Rattle.lwc_base.specs.declared.descriptor.TheConstants.{SLOTS}
-use Rattle.lwc_base.specs.declared.key.Key.TheVariants.{Slot}
+use Rattle.lwc_types.specs.declared.key.TheConstants.{SLOTS}
+use Rattle.lwc_types.specs.declared.key.Key.TheVariants.{Slot}
 use Rattle.lwc_monitor.proofs.trapping.has_common_slot.Goals as goal
 use Rattle.lwc_monitor.specs.Traps.{has_common_slot, is_common}
 

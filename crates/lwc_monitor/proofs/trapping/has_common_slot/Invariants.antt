@@ -1,6 +1,6 @@
 use Rattle.std.proofs.Common.{◌≡◌, ◌<◌, ℕ, false}
 use Rattle.lwc_base.specs.World.{context}
-use Rattle.lwc_base.specs.declared.key.Key.TheVariants.{Slot}
+use Rattle.lwc_types.specs.declared.key.Key.TheVariants.{Slot}
 use Rattle.lwc_monitor.proofs.trapping.has_common_slot.Given as goal
 use Rattle.lwc_monitor.specs.Traps.{is_common}
 

@@ -3,8 +3,8 @@ use Rattle.std.specs.List.{position}
 use Rattle.std.specs.Ordering.{is_gt}
 use Rattle.std.proofs.lemmas.Iterator.{YieldsList-from_slice}
 use Rattle.std.proofs.lemmas.Iterator.Search.{position_from_yields_List}
-use Rattle.lwc_base.specs.Names.{name_cmp}
-use Rattle.lwc_base.specs.declared.name.Name.{Name}
+use Rattle.lwc_types.specs.Names.{name_cmp}
+use Rattle.lwc_types.specs.declared.name.Name.{Name}
 use Rattle.lwc_monitor.proofs.Pairs.{place-is}
 use Rattle.lwc_monitor.proofs.traps.place_for.Goals as goal
 

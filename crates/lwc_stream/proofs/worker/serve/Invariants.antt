@@ -1,5 +1,5 @@
 use Rattle.std.proofs.Common.{◌≡◌, ◌≤◌, ◌-◌, length}
-use Rattle.lwc_base.specs.declared.limits.TheConstants.{MOST_STEPS}
+use Rattle.lwc_types.specs.declared.limits.TheConstants.{MOST_STEPS}
 use Rattle.lwc_stream.specs.Replies.{finished_by}
 use Rattle.process_core.specs.Running.{AreAdvances, IsPassOf}
 use Rattle.lwc_stream.proofs.worker.serve.Given as goal

@@ -1,9 +1,9 @@
 use Rattle.std.proofs.Common.{subst, sym}
 use Rattle.guest_call.specs.Guest.{with_answer}
 use Rattle.lwc_base.specs.declared.descriptor.Descriptor.TheVariants.{Ctx}
-use Rattle.lwc_base.specs.declared.key.Key.TheVariants.{Slot}
 use Rattle.lwc_base.specs.Capabilities.{empty_cap}
 use Rattle.lwc_base.specs.Saved.{save}
+use Rattle.lwc_types.specs.declared.key.Key.TheVariants.{Slot}
 use Rattle.lwc_switch.proofs.Rest.{leaves_rest}
 use Rattle.lwc_switch.specs.Switch.{LeavesRest}
 use Rattle.guest_call.proofs.Changes.{putting, saving}

@@ -1,6 +1,6 @@
 use Rattle.std.proofs.Common.{rules, [], ◌∷◌, is_none}
-use Rattle.lwc_base.specs.declared.refusal.Refusal.TheVariants.{NoSlotThere}
 use Rattle.lwc_base.specs.Slots.{lowest_empty}
+use Rattle.lwc_types.specs.declared.refusal.Refusal.TheVariants.{NoSlotThere}
 use Rattle.lwc_switch.specs.Switch.{refusals, target}
 use Rattle.lwc_switch.proofs.switching.allowed.Goals as goal
 

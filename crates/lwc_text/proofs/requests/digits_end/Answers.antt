@@ -4,7 +4,7 @@ use Rattle.std.proofs.lemmas.Iterator.{YieldsList-from_slice}
 use Rattle.std.proofs.lemmas.Iterator.Search.{position_from_yields_List}
 use Rattle.hex.specs.Hex.{is_hex_digit}
 use Rattle.lwc_text.proofs.requests.digits_end.Goals as goal
-use Rattle.lwc_base.proofs.Small.{or_len}
+use Rattle.lwc_types.proofs.Small.{or_len}
 use Rattle.lwc_text.proofs.RequestLines.{all_digits}
 
 pub returns-clause-place : goal.returns-clause-place

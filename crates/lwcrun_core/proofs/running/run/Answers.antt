@@ -1,6 +1,6 @@
 use Rattle.std.proofs.Common.{◌≡◌, ◌≤◌, ◌*◌, ◌∙◌, IfOk, List, [], ℕ, length, refl, subst, arith}
 use Rattle.std.proofs.Math.Nat.{mul-le-mul_left, mul-le-mul_right}
-use Rattle.lwc_base.specs.declared.limits.TheConstants.{MOST_BUDGET, MOST_THREADS}
+use Rattle.lwc_types.specs.declared.limits.TheConstants.{MOST_BUDGET, MOST_THREADS}
 use Rattle.lwcrun_core.specs.Works.{IsText, inputs_of, run_plan}
 use Rattle.lwcrun_core.specs.Works as works
 use Rattle.kernel_core.proofs.Others.{work_at_start}

@@ -3,7 +3,7 @@ use Rattle.kernel_core.specs.Kernel.{AreRequests}
 use Rattle.kernel_core.specs.Machine.{work}
 use Rattle.kernel_core.specs.Start.{Inputs, start}
 use Rattle.kernel_core.proofs.Others.{work_at_serve}
-use Rattle.lwc_base.specs.declared.limits.TheConstants.{MOST_STEPS}
+use Rattle.lwc_types.specs.declared.limits.TheConstants.{MOST_STEPS}
 use Rattle.lwc_gen.specs.Generated.{generated}
 use Rattle.lwc_gen.proofs.Served.{can_open, few_steps}
 use Rattle.lwcrun_core.proofs.running.summary_text.Goals as goal

@@ -1,6 +1,6 @@
 use Rattle.std.proofs.Common.{◌≡◌, ◌≤◌, ◌<◌, ◌∙◌, Err, ap, sym, length, arith}
 use Rattle.lwc_text.specs.declared.fault.InputRule.TheVariants as inputs
-use Rattle.lwc_base.specs.declared.limits.TheConstants.{MOST_STEPS}
+use Rattle.lwc_types.specs.declared.limits.TheConstants.{MOST_STEPS}
 use Rattle.lwcrun_inputs.specs.Inputs.{bounded_requests_of, serve_steps}
 use Rattle.lwcrun_inputs.specs.declared.ending.Rejection.TheVariants as rejections
 use Rattle.lwcrun_inputs.proofs.Readers.{bounded_limited, fails_so, handed_on, passed, rejected, requests_bounded, requests_refused, too_much_work}

@@ -1,5 +1,5 @@
 use Rattle.std.proofs.Common.{◌≡◌, ◌<◌, ◌-◌, ◌∙◌, arith, subst, sym, Some, refl}
-use Rattle.lwc_base.specs.declared.limits.TheConstants.{MOST_PAGES}
+use Rattle.lwc_types.specs.declared.limits.TheConstants.{MOST_PAGES}
 use Rattle.range_map.specs.Kinds.{state_after}
 use Rattle.range_map.proofs.Built.{HasRunsBelow, all_built, none_built, run_absent, run_present}
 use Rattle.range_map.proofs.Ranges.{first_begins, one_more, ranges_grow}

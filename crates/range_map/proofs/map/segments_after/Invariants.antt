@@ -1,6 +1,6 @@
 use Rattle.std.proofs.Common.{◌≡◌, ◌<◌, ◌≤◌, ◌-◌}
 use Rattle.std.specs.Prelude.{is_some}
-use Rattle.lwc_base.specs.declared.limits.TheConstants.{MOST_PAGES}
+use Rattle.lwc_types.specs.declared.limits.TheConstants.{MOST_PAGES}
 use Rattle.range_map.specs.Kinds.{begins_range, state_after}
 use Rattle.range_map.proofs.Built.{HasRunsBelow}
 use Rattle.range_map.proofs.map.segments_after.Given as goal

@@ -1,5 +1,5 @@
 use Rattle.std.proofs.Common.{◌-◌}
-use Rattle.lwc_base.specs.declared.limits.TheConstants.{MOST_CONTEXTS}
+use Rattle.lwc_types.specs.declared.limits.TheConstants.{MOST_CONTEXTS}
 use Rattle.reach.proofs.Found.{HasRoots, IsBetween, IsSearch}
 use Rattle.reach.proofs.marks.mark.Given as goal
 

@@ -2,8 +2,8 @@ use Rattle.std.proofs.Common.{◌≡◌, ℕ, ◌<◌, ⊎_elim, Bool, true, fal
 use Rattle.std.proofs.lemmas.Bool.{cases_eq}
 use Rattle.std.proofs.lemmas.List.{get_or-set_same, length-replicate}
 use Rattle.lwc_base.specs.declared.cell.Cell.TheVariants as cell
-use Rattle.lwc_base.specs.declared.name.Tag.{Tag}
-use Rattle.lwc_base.specs.declared.page.PageValue.TheVariants.{Zero, Data}
+use Rattle.lwc_types.specs.declared.name.Tag.{Tag}
+use Rattle.lwc_types.specs.declared.page.PageValue.TheVariants.{Zero, Data}
 use Rattle.range_map.specs.Kinds.{is_between}
 use Rattle.cow_space.specs.declared.page_runs.Origin.TheVariants.{Zeros}
 use Rattle.cow_space.specs.declared.page_runs.PageRun.{PageRun}
@@ -12,7 +12,7 @@ use Rattle.cow_space.specs.Changes.{cell_by, changed_place, origin_cell}
 use Rattle.cow_space.specs.Seen.{cells}
 use Rattle.cow_space.specs.Tags.{IsNewTag}
 use Rattle.table_suite.proofs.places.written.Goals as goal
-use Rattle.lwc_base.proofs.Small.{at-new}
+use Rattle.lwc_types.proofs.Small.{at-new}
 
 -- zeros have no tag
 zeros-new : (n : ℕ) (old new : List Place) (s : PageRun) (tag : Tag) → old ≡ replicate n no_pages → new ≡ set old 0 (changed_place old 0 (s ∷ [])) → 0 < length old → s.origin ≡ Zeros → IsNewTag new tag

@@ -1,5 +1,5 @@
 use Rattle.std.proofs.Common.{◌≡◌, ◌+◌, ◌-◌, ◌≤◌, length}
-use Rattle.lwc_base.specs.declared.limits.TheConstants.{MOST_STEPS}
+use Rattle.lwc_types.specs.declared.limits.TheConstants.{MOST_STEPS}
 use Rattle.process_core.specs.Running.{AreAdvances, IsPassOf}
 use Rattle.thread_carrier.specs.Turned.{HasTurned}
 use Rattle.thread_carrier.proofs.carrier.carry.Given as goal

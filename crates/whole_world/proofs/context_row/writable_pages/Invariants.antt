@@ -1,6 +1,6 @@
 use Rattle.std.proofs.Common.{◌≡◌}
 use Rattle.std.specs.Prelude.{replicate}
-use Rattle.lwc_base.specs.declared.right.Right.TheVariants.{Write}
+use Rattle.lwc_types.specs.declared.right.Right.TheVariants.{Write}
 use Rattle.whole_world.proofs.context_row.writable_pages.Given as goal
 
 abbrev pub invariant-loop : goal.invariant-loop

@@ -1,6 +1,6 @@
 use Rattle.std.proofs.Common.{◌≡◌, ◌∙◌, ap, arith, ◌+◌, ◌*◌, length, length-set, get_or}
-use Rattle.lwc_base.specs.declared.page.TheConstants.{PAGE_BYTES}
 use Rattle.lwc_base.specs.Store.{byte_after, bytes_after}
+use Rattle.lwc_types.specs.declared.page.TheConstants.{PAGE_BYTES}
 use Rattle.whole_world.proofs.Places.{written_more, written_all}
 use Rattle.whole_world.proofs.pages.put_piece.Goals as goal
 

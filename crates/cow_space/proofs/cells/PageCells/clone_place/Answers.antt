@@ -13,7 +13,7 @@ use Rattle.cow_space.specs.Tags.{used}
 use Rattle.cow_space.proofs.FreeLemmas.{free-same}
 use Rattle.cow_space.proofs.Taken.{cloned-used}
 use Rattle.cow_space.proofs.cells.PageCells.clone_place.Goals as goal
-use Rattle.lwc_base.specs.declared.limits.TheConstants.{MOST_PAGES}
+use Rattle.lwc_types.specs.declared.limits.TheConstants.{MOST_PAGES}
 
 pub index-requires : goal.index-requires
 index-requires c = omega (arith, kinds-in c.args.self.now c.args.from c.requires.from)

@@ -2,7 +2,7 @@ use Rattle.std.proofs.Common.{ap, ◌∙◌, arith}
 use Rattle.range_map.specs.Kinds.{ranges}
 use Rattle.cow_space.proofs.Views.{kinds-in, read-states}
 use Rattle.cow_space.proofs.cells.PageCells.count.Goals as goal
-use Rattle.lwc_base.specs.declared.limits.TheConstants.{MOST_PAGES}
+use Rattle.lwc_types.specs.declared.limits.TheConstants.{MOST_PAGES}
 
 pub index-requires : goal.index-requires
 index-requires c = omega (arith, kinds-in c.args.self.now c.args.i c.requires)

@@ -1,5 +1,5 @@
 use Rattle.std.proofs.Common.{◌≡◌, ◌<◌, ◌≤◌, ◌+◌, ℕ, suc, ◌∙◌, ap, sym, List, Option, None, Some}
-use Rattle.lwc_base.specs.declared.right.Right.{Right}
+use Rattle.lwc_types.specs.declared.right.Right.{Right}
 use Rattle.range_map.specs.declared.segment.PageState.{PageState}
 use Rattle.range_map.specs.Kinds.{ranges}
 use Rattle.cow_space.specs.Cells.{Place}

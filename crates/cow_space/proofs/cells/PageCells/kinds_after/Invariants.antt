@@ -1,5 +1,5 @@
 use Rattle.std.proofs.Common.{◌≤◌, ◌-◌}
-use Rattle.lwc_base.specs.declared.limits.TheConstants.{MOST_PAGES}
+use Rattle.lwc_types.specs.declared.limits.TheConstants.{MOST_PAGES}
 use Rattle.cow_space.specs.Changes.{changed_states}
 use Rattle.cow_space.specs.Seen.{cells, rights}
 use Rattle.cow_space.proofs.KindChanges.{HaveBelow}

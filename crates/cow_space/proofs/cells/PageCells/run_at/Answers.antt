@@ -1,5 +1,5 @@
 use Rattle.std.proofs.Common.{◌≡◌, ◌≢◌, ◌≤◌, ◌∙◌, ℕ, ap, subst, arith, Option}
-use Rattle.lwc_base.specs.declared.limits.TheConstants.{MOST_PAGES, MOST_RANGES}
+use Rattle.lwc_types.specs.declared.limits.TheConstants.{MOST_PAGES, MOST_RANGES}
 use Rattle.range_map.specs.Kinds.{ranges}
 use Rattle.range_map.specs.declared.segment.PageState.{PageState}
 use Rattle.cow_space.proofs.Views.{kinds-in, read-states}

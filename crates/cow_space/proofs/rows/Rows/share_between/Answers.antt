@@ -14,7 +14,7 @@ use Rattle.cow_space.proofs.RowViews.{nodes-left, tree-in, tree-read}
 use Rattle.page_tree.proofs.PageLemmas.{range_short-le}
 use Rattle.page_tree.proofs.LinkLemmas.{link_short-le}
 use Rattle.cow_space.proofs.rows.Rows.share_between.Goals as goal
-use Rattle.lwc_base.proofs.Small.{set-again}
+use Rattle.lwc_types.proofs.Small.{set-again}
 
 pub index_mut-requires : goal.index_mut-requires
 index_mut-requires c =

@@ -1,7 +1,7 @@
 use Rattle.std.proofs.Common.{◌∙◌, rules, sym}
 use Rattle.std.specs.FinMap as fm
 use Rattle.std.proofs.lemmas.List.Sorted.{answers_always}
-use Rattle.lwc_base.specs.Names.{name_cmp}
+use Rattle.lwc_types.specs.Names.{name_cmp}
 use Rattle.ctx_table.proofs.Rows.{at_last, past_last, searched}
 use Rattle.ctx_table.proofs.index.Index.search.Goals as goal
 

@@ -1,6 +1,6 @@
 use Rattle.std.proofs.Common.{arith}
 use Rattle.ctx_table.proofs.NameSlots.{none-indexed, placed}
-use Rattle.lwc_base.specs.declared.limits.TheConstants.{MOST_GROUPS}
+use Rattle.lwc_types.specs.declared.limits.TheConstants.{MOST_GROUPS}
 use Rattle.ctx_table.proofs.names.Names.open.Goals as goal
 
 pub invariant_of-result : goal.invariant_of-result

@@ -2,7 +2,7 @@ use Rattle.std.proofs.Common.{◌∙◌, ap, sym, arith, List, count_by}
 use Rattle.std.specs.Prelude.{◌==◌}
 use Rattle.ctx_table.proofs.Alike.{same_names}
 use Rattle.ctx_table.proofs.Taken.{few_names, live}
-use Rattle.lwc_base.specs.declared.name.Name.{Name}
+use Rattle.lwc_types.specs.declared.name.Name.{Name}
 use Rattle.ctx_table.proofs.table.CtxTable.live_of.Goals as goal
 
 pub overflow_cast-result : goal.overflow_cast-result

@@ -2,7 +2,7 @@ use Rattle.std.proofs.Common.{◌∙◌, ap, sym, List}
 use Rattle.std.specs.List.{slice_get}
 use Rattle.ctx_table.proofs.Alike.{same_names}
 use Rattle.ctx_table.proofs.Taken.{live}
-use Rattle.lwc_base.specs.declared.name.Name.{Name}
+use Rattle.lwc_types.specs.declared.name.Name.{Name}
 use Rattle.ctx_table.proofs.table.CtxTable.nth.Goals as goal
 
 pub returns : goal.returns

@@ -5,7 +5,7 @@ use Rattle.std.proofs.lemmas.List.{map-set}
 use Rattle.ctx_table.proofs.Held.{not_some, remove-indexed, remove-map_of}
 use Rattle.ctx_table.proofs.Taken.{index_at, is_place, kept_at, place_name, places-set, slot-read}
 use Rattle.ctx_table.proofs.table.CtxTable.remove.Goals as goal
-use Rattle.lwc_base.proofs.Small.{same_some}
+use Rattle.lwc_types.proofs.Small.{same_some}
 
 pub remove-requires : goal.remove-requires
 remove-requires g c = ap is_some (index_at _ _ c.self.view_is _ c.self.invariant c.args.name c.place_of-place.result c.place_of-place.ensures.there)

@@ -3,9 +3,9 @@ use Rattle.std.proofs.lemmas.List.{map-set, set-get_or}
 use Rattle.ctx_table.specs.Slots.{name_in}
 use Rattle.ctx_table.proofs.Held.{update-indexed, update-map_of}
 use Rattle.ctx_table.proofs.Taken.{held_entry, index_at, is_place, kept_at, named_held, name-read, places-set, slot-read}
-use Rattle.lwc_base.specs.declared.name.Name.{Name}
+use Rattle.lwc_types.specs.declared.name.Name.{Name}
 use Rattle.ctx_table.proofs.table.CtxTable.save.Goals as goal
-use Rattle.lwc_base.proofs.Small.{same_some}
+use Rattle.lwc_types.proofs.Small.{same_some}
 
 pub save-requires-clause-held : goal.save-requires-clause-held
 save-requires-clause-held g c =

@@ -1,7 +1,7 @@
 use Rattle.std.proofs.Common.{◌≡◌, ℕ, [], ◌-◌, length, replicate, ap, ◌∙◌, arith}
 use Rattle.std.proofs.lemmas.List.{length-replicate}
 use Rattle.pool_base.specs.Paired.{paired}
-use Rattle.lwc_base.specs.Pages.{zero_page}
+use Rattle.lwc_types.specs.Pages.{zero_page}
 use Rattle.frame_pool.specs.View.{content, no_tag, seen_frame, seen_contents, seen_frames}
 use Rattle.frame_pool.proofs.PoolLemmas.{seen_new}
 use Rattle.frame_pool.proofs.pool.Pool.open.Goals as goal

@@ -1,5 +1,5 @@
 use Rattle.std.proofs.Common.{arith}
-use Rattle.lwc_base.specs.Pages.{zero_bytes, zero_page}
+use Rattle.lwc_types.specs.Pages.{zero_bytes, zero_page}
 use Rattle.frame_pool.proofs.PoolLemmas.{seen_length, seen_count, seen_free, seen_taken}
 use Rattle.frame_pool.proofs.pool.Pool.take.Goals as goal
 

@@ -1,6 +1,6 @@
 use Rattle.std.proofs.Common.{◌+◌, ◌*◌, ◌≤◌, length, subst, sym}
-use Rattle.lwc_base.specs.declared.page.TheConstants.{PAGE_BYTES}
 use Rattle.lwc_base.specs.World.{World}
+use Rattle.lwc_types.specs.declared.page.TheConstants.{PAGE_BYTES}
 use Rattle.world_face.specs.Calls.{IsLive, MayName}
 use Rattle.lazy_world.specs.CachedRoots.{AreReached}
 use Rattle.lazy_world.specs.Worlds.{seen}

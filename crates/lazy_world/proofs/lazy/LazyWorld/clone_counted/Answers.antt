@@ -1,7 +1,7 @@
 use Rattle.std.proofs.Common.{ap, subst, sym, ◌∙◌, Some}
 use Rattle.lwc_base.specs.Sharing.{clone_context}
 use Rattle.lwc_base.specs.World.{World, next_context}
-use Rattle.lwc_base.specs.declared.name.Name.{Name}
+use Rattle.lwc_types.specs.declared.name.Name.{Name}
 use Rattle.lazy_world.specs.CachedRoots.{AreReached, with_cached_root}
 use Rattle.lazy_world.specs.Worlds.{parts, seen}
 use Rattle.lazy_world.proofs.CachedRootLemmas.{reached-clone}

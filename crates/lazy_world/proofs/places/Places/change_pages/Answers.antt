@@ -1,6 +1,6 @@
 use Rattle.std.proofs.Common.{arith, ◌≤◌, ◌∙◌, ap, length, length-set, set, subst, sym, ℕ, List}
 use Rattle.std.specs.Prelude.{All}
-use Rattle.lwc_base.specs.declared.limits.TheConstants.{MOST_PAGES, MOST_RANGES}
+use Rattle.lwc_types.specs.declared.limits.TheConstants.{MOST_PAGES, MOST_RANGES}
 use Rattle.range_map.specs.Kinds.{ranges}
 use Rattle.fd_table.specs.Seen as slots_seen
 use Rattle.cow_space.specs.Seen as pages_seen

@@ -1,6 +1,6 @@
 use Rattle.std.proofs.Common.{◌∙◌, ap, arith, length, length-set, refl, set, subst, sym, List, ℕ}
 use Rattle.lwc_base.specs.declared.cell.Cell.TheVariants.{Own}
-use Rattle.lwc_base.specs.declared.key.TheConstants.{NOBODY}
+use Rattle.lwc_types.specs.declared.key.TheConstants.{NOBODY}
 use Rattle.fd_table.specs.Seen as slots_seen
 use Rattle.fd_table.specs.Slots.{Slot, row_of}
 use Rattle.cow_space.specs.Cells.{all_write, rights_of}

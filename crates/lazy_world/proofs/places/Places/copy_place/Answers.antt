@@ -1,5 +1,5 @@
 use Rattle.std.proofs.Common.{◌∙◌, ap, arith, length, length-set, refl, set, subst, sym, List, ℕ}
-use Rattle.lwc_base.specs.declared.key.Key.TheVariants.{Slot}
+use Rattle.lwc_types.specs.declared.key.Key.TheVariants.{Slot}
 use Rattle.fd_table.specs.Seen as slots_seen
 use Rattle.fd_table.specs.Slots as slots
 use Rattle.cow_space.specs.Seen as pages_seen

@@ -2,8 +2,8 @@ use Rattle.std.proofs.Common.{◌≡◌, ◌∙◌, ap, refl, subst, sym, Bool, 
 use Rattle.lwc_base.specs.declared.cell.Cell.{Cell}
 use Rattle.lwc_base.specs.declared.cell.Cell.TheVariants.{Own, Common}
 use Rattle.lwc_base.specs.declared.descriptor.Descriptor.{Descriptor}
-use Rattle.lwc_base.specs.declared.key.Key.TheVariants.{Slot}
-use Rattle.lwc_base.specs.declared.name.Name.{Name}
+use Rattle.lwc_types.specs.declared.key.Key.TheVariants.{Slot}
+use Rattle.lwc_types.specs.declared.name.Name.{Name}
 use Rattle.fd_table.specs.Slots.{cell_of, is_common}
 use Rattle.lazy_world.specs.declared.key_value.KeyValue.{KeyValue}
 use Rattle.lazy_world.specs.Cells.{Row}

@@ -1,6 +1,6 @@
 use Rattle.std.proofs.Common.{ap, sym, not, ◌∙◌}
 use Rattle.lazy_world.specs.Seen.{rows}
-use Rattle.lwc_base.specs.declared.key.Key.TheVariants.{Slot}
+use Rattle.lwc_types.specs.declared.key.Key.TheVariants.{Slot}
 use Rattle.lazy_world.proofs.AddLemmas.{no_slot}
 use Rattle.lazy_world.proofs.CopyLemmas.{no-bit}
 use Rattle.lazy_world.proofs.places.Places.has_no_slot.Goals as goal

@@ -1,5 +1,5 @@
 use Rattle.std.proofs.Common.{◌≡◌, ℕ, Option, ap, sym, ◌∙◌, true, false, not, Bool, refl}
-use Rattle.lwc_base.specs.declared.key.Key.TheVariants.{Page}
+use Rattle.lwc_types.specs.declared.key.Key.TheVariants.{Page}
 use Rattle.range_map.specs.declared.segment.PageState.{PageState}
 use Rattle.lazy_world.specs.Seen.{rights, rows}
 use Rattle.lazy_world.proofs.CommonPages.{common-cell, own-cell}

@@ -1,7 +1,7 @@
 use Rattle.std.proofs.Common.{arith}
 use Rattle.std.proofs.lemmas.List.{get_or_read}
 use Rattle.lwc_base.specs.declared.cell.Cell.TheVariants.{Own}
-use Rattle.lwc_base.specs.declared.key.TheConstants.{NOBODY}
+use Rattle.lwc_types.specs.declared.key.TheConstants.{NOBODY}
 use Rattle.lazy_world.specs.Cells.{rows_of}
 use Rattle.lazy_world.specs.Seen.{rows}
 use Rattle.lazy_world.proofs.places.Places.uid.Goals as goal

@@ -1,6 +1,6 @@
 use Rattle.std.proofs.Common.{◌∙◌, None, Some, arith, ap, cond, get_or, sym}
 use Rattle.std.proofs.lemmas.List.{get_or_default}
-use Rattle.lwc_base.specs.Registers.{fresh_registers}
+use Rattle.lwc_types.specs.Registers.{fresh_registers}
 use Rattle.lazy_world.specs.Registers.{KeptRegisters}
 use Rattle.lazy_world.proofs.RegisterLemmas.{read-there}
 use Rattle.lazy_world.proofs.registers.Registers.saved.Goals as goal

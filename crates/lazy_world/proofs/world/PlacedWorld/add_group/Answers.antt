@@ -2,11 +2,11 @@ use Rattle.std.proofs.Common.{◌≡◌, ◌<◌, ◌+◌, ◌∙◌, ap, arith,
 use Rattle.std.specs.FinMap as fm
 use Rattle.lwc_base.specs.declared.cell.Cell.{Cell}
 use Rattle.lwc_base.specs.declared.cell.Cell.TheVariants.{Own}
-use Rattle.lwc_base.specs.declared.key.Key.TheVariants.{Cred}
-use Rattle.lwc_base.specs.declared.key.TheConstants.{NOBODY}
-use Rattle.lwc_base.specs.declared.name.Name.{Name}
 use Rattle.lwc_base.specs.Keys.{with_key}
 use Rattle.lwc_base.specs.World.{add_group, new_group, next_group}
+use Rattle.lwc_types.specs.declared.key.Key.TheVariants.{Cred}
+use Rattle.lwc_types.specs.declared.key.TheConstants.{NOBODY}
+use Rattle.lwc_types.specs.declared.name.Name.{Name}
 use Rattle.ctx_table.specs.Contexts.{first_free}
 use Rattle.ctx_table.specs.NameTables.{NameTable}
 use Rattle.lazy_world.specs.declared.counts.Counts.{Counts}

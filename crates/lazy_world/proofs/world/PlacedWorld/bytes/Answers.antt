@@ -1,18 +1,18 @@
 use Rattle.std.proofs.Common.{◌≡◌, ◌≤◌, ◌∙◌, ℕ, Bool, true, false, List, Some, None, refl, sym, ap, arith, length, map}
 use Rattle.std.specs.Prelude.{is_some}
 use Rattle.std.specs.List.{list_all, range_with_len}
-use Rattle.lwc_base.specs.declared.name.Name.{Name}
 use Rattle.lwc_base.specs.World.{context}
+use Rattle.lwc_types.specs.declared.name.Name.{Name}
 use Rattle.lazy_world.specs.Memory.{byte_in, page_in}
 use Rattle.lazy_world.specs.Seen.{rows}
-use Rattle.lwc_base.specs.declared.limits.TheConstants.{MOST_PAGES}
 use Rattle.lwc_base.specs.Memory.{load, touched}
+use Rattle.lwc_types.specs.declared.limits.TheConstants.{MOST_PAGES}
 use Rattle.lazy_world.specs.declared.world.PlacedWorld.{PlacedWorld}
 use Rattle.lazy_world.specs.States.{context_at, world_of}
 use Rattle.lazy_world.specs.Worlds.{parts, seen}
 use Rattle.lazy_world.proofs.MemoryLemmas.{byte-in, present-touched}
 use Rattle.lazy_world.proofs.world.PlacedWorld.bytes.Goals as goal
-use Rattle.lwc_base.proofs.Small.{load-absent, load-present}
+use Rattle.lwc_base.proofs.Loads.{load-absent, load-present}
 
 few : (w : PlacedWorld) → (seen w).size.pages ≤ MOST_PAGES
 unfolding seen parts world_of

@@ -1,8 +1,8 @@
 use Rattle.std.proofs.Common.{◌+◌, ◌≤◌, min, ◌∙◌, ap, arith, sym, subst}
 use Rattle.std.proofs.Math.Nat.{min-le_right}
-use Rattle.lwc_base.specs.declared.key.Key.TheVariants.{Page}
 use Rattle.lwc_base.specs.World.{Context, context}
 use Rattle.lwc_base.specs.Ranges.{ranges_of}
+use Rattle.lwc_types.specs.declared.key.Key.TheVariants.{Page}
 use Rattle.lazy_world.specs.Cells.{HasNoPages, put_rights, put_row}
 use Rattle.lazy_world.specs.Seen.{node_steps, rights, rows}
 use Rattle.lazy_world.specs.Sound.{HasOldTags, HasOneHome}

@@ -1,12 +1,12 @@
 use Rattle.std.proofs.Common.{◌≡◌, ◌+◌, ◌<◌, ◌≤◌, ◌∙◌, ap, arith, false, length, sym, subst, true}
 use Rattle.std.specs.FinMap as fm
-use Rattle.lwc_base.specs.declared.key.TheConstants.{NOBODY}
-use Rattle.lwc_base.specs.declared.limits.TheConstants.{MOST_RANGES}
-use Rattle.lwc_base.specs.declared.size.WorldSize.{WorldSize}
 use Rattle.lwc_base.specs.Fresh.{IsFresh}
 use Rattle.lwc_base.specs.Ranges.{ranges_of}
 use Rattle.lwc_base.specs.Sharing.{needs_group, ranges_after_clone, share}
 use Rattle.lwc_base.specs.World.{Context, add_context, context, is_live, new_context, next_context}
+use Rattle.lwc_types.specs.declared.key.TheConstants.{NOBODY}
+use Rattle.lwc_types.specs.declared.limits.TheConstants.{MOST_RANGES}
+use Rattle.lwc_types.specs.declared.size.WorldSize.{WorldSize}
 use Rattle.world_face.specs.Calls.{HasPlace}
 use Rattle.lazy_world.specs.Cells.{is_nothing}
 use Rattle.lazy_world.specs.Worlds.{parts, seen}

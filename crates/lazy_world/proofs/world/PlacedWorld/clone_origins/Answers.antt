@@ -1,5 +1,5 @@
 use Rattle.std.proofs.Common.{◌≡◌, ℕ, ◌∙◌, arith}
-use Rattle.lwc_base.specs.declared.key.Key.TheVariants.{Page}
+use Rattle.lwc_types.specs.declared.key.Key.TheVariants.{Page}
 use Rattle.lazy_world.specs.Transfers.{given_or}
 use Rattle.lazy_world.specs.Seen.{count, rows}
 use Rattle.lazy_world.specs.Origins.{page_origin}

@@ -1,9 +1,9 @@
 use Rattle.std.proofs.Common.{◌∙◌, None, ap, sym}
 use Rattle.std.specs.Option.{option_map}
 use Rattle.lwc_base.specs.declared.cell.Cell.TheVariants.{Own}
-use Rattle.lwc_base.specs.declared.key.Key.TheVariants.{Page}
 use Rattle.lwc_base.specs.Modes.{mode, mode_or_copy}
 use Rattle.lwc_base.specs.Ranges.{is_page}
+use Rattle.lwc_types.specs.declared.key.Key.TheVariants.{Page}
 use Rattle.lazy_world.specs.Transfers.{given_or, taken_right}
 use Rattle.lazy_world.specs.Seen.{rights, rows}
 use Rattle.lazy_world.specs.Origins.{gift_right, shown_right}

@@ -1,7 +1,7 @@
 use Rattle.std.proofs.Common.{arith, ◌≡◌, ◌≤◌, ◌∙◌, ℕ, ap, min, sym, subst}
-use Rattle.lwc_base.specs.declared.limits.TheConstants.{MOST_PAGES, MOST_RANGES}
-use Rattle.lwc_base.specs.declared.key.Key.TheVariants.{Page}
 use Rattle.lwc_base.specs.World.{Context, context}
+use Rattle.lwc_types.specs.declared.limits.TheConstants.{MOST_PAGES, MOST_RANGES}
+use Rattle.lwc_types.specs.declared.key.Key.TheVariants.{Page}
 use Rattle.range_map.specs.Kinds.{ranges}
 use Rattle.lazy_world.specs.Cells.{HasNoPages, HasOwnPages, is_own, put_rights, put_row, states_of}
 use Rattle.lazy_world.specs.Clones.{CopiesPages}

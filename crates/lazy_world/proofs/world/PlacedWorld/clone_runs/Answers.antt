@@ -2,9 +2,9 @@ use Rattle.std.proofs.Common.{◌≡◌, Some, get_or, ◌∙◌, ◌++◌, ◌�
 use Rattle.std.specs.Prelude.{All}
 use Rattle.std.specs.Option.{option_map, option_or}
 use Rattle.std.proofs.lemmas.List.{take_all}
-use Rattle.lwc_base.specs.declared.key.Key.TheVariants.{Page}
 use Rattle.lwc_base.specs.Modes.{mode}
-use Rattle.lwc_base.specs.declared.right.Right.TheVariants.{Write}
+use Rattle.lwc_types.specs.declared.key.Key.TheVariants.{Page}
+use Rattle.lwc_types.specs.declared.right.Right.TheVariants.{Write}
 use Rattle.range_map.specs.Kinds.{state_at}
 use Rattle.range_map.specs.declared.segment.Segment.{Segment}
 use Rattle.range_map.specs.declared.segment.SegmentKind.TheVariants.{Own}

@@ -1,8 +1,8 @@
 use Rattle.std.proofs.Common.{◌≡◌, ◌≢◌, ◌+◌, ◌<◌, ◌≤◌, ℕ, length, take}
 use Rattle.std.specs.Prelude.{All}
 use Rattle.std.specs.Option.{option_map, option_or}
-use Rattle.lwc_base.specs.declared.key.Key.TheVariants.{Page}
 use Rattle.lwc_base.specs.Modes.{mode}
+use Rattle.lwc_types.specs.declared.key.Key.TheVariants.{Page}
 use Rattle.range_map.specs.Kinds.{state_at}
 use Rattle.cow_space.specs.Changes.{IsPageRun}
 use Rattle.lazy_world.specs.Clones.{item_gift, state_gift}

@@ -1,7 +1,7 @@
 use Rattle.std.proofs.Common.{◌≡◌, ◌∙◌, ℕ, Some, ap, arith, sym}
 use Rattle.cow_space.specs.Maps.{data_of}
-use Rattle.lwc_base.specs.declared.key.Key.TheVariants.{Page}
 use Rattle.lwc_base.specs.Frames.{own_value}
+use Rattle.lwc_types.specs.declared.key.Key.TheVariants.{Page}
 use Rattle.range_map.specs.declared.segment.SegmentKind.TheVariants.{Own}
 use Rattle.range_map.specs.Kinds.{kind_of}
 use Rattle.lazy_world.specs.declared.world.PlacedWorld.{PlacedWorld}

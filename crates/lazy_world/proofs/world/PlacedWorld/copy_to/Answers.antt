@@ -3,7 +3,7 @@ use Rattle.lazy_world.specs.Memory.{byte_in}
 use Rattle.lazy_world.specs.Seen.{rows}
 use Rattle.lazy_world.specs.Worlds.{seen}
 use Rattle.lazy_world.proofs.world.PlacedWorld.copy_to.Goals as goal
-use Rattle.lwc_base.proofs.Small.{filled_from}
+use Rattle.lwc_types.proofs.Small.{filled_from}
 
 pub returns : goal.returns
 returns c =

@@ -1,7 +1,7 @@
 use Rattle.std.proofs.Common.{◌≡◌, ℕ, ◌+◌, ◌-◌, ◌/◌, ◌<◌, get_or}
 use Rattle.std.specs.Option.{option_copied}
 use Rattle.cow_space.specs.Maps.{data_of}
-use Rattle.lwc_base.specs.declared.page.TheConstants.{PAGE_BYTES}
+use Rattle.lwc_types.specs.declared.page.TheConstants.{PAGE_BYTES}
 use Rattle.lazy_world.specs.Memory.{byte_in, page_in}
 use Rattle.lazy_world.specs.Seen.{rows}
 use Rattle.lazy_world.specs.Worlds.{seen}

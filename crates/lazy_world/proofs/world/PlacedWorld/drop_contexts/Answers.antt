@@ -1,8 +1,8 @@
 use Rattle.std.proofs.Common.{ℕ, ◌<◌, ◌∙◌, List, ap, arith, subst, sym}
 use Rattle.std.specs.Prelude.{All}
 use Rattle.std.specs.FinMap as fm
-use Rattle.lwc_base.specs.declared.limits.TheConstants.{MOST_CONTEXTS}
 use Rattle.lwc_base.specs.Life.{is_reached}
+use Rattle.lwc_types.specs.declared.limits.TheConstants.{MOST_CONTEXTS}
 use Rattle.reach.specs.Reach.{is_marked}
 use Rattle.lazy_world.specs.Reaping.{keeps}
 use Rattle.lazy_world.specs.States.{context_at}

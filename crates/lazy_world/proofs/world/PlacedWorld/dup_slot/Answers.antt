@@ -2,10 +2,10 @@ use Rattle.std.proofs.Common.{◌≡◌, ◌∙◌, ap, false, refl, subst, sym,
 use Rattle.lwc_base.specs.declared.cell.Cell.{Cell}
 use Rattle.lwc_base.specs.declared.cell.Cell.TheVariants.{Own, Common}
 use Rattle.lwc_base.specs.declared.descriptor.Descriptor.{Descriptor}
-use Rattle.lwc_base.specs.declared.key.Key.TheVariants as key
 use Rattle.lwc_base.specs.Cells.{put_slot, value_of}
 use Rattle.lwc_base.specs.Keys.{with_key}
 use Rattle.lwc_base.specs.World.{World}
+use Rattle.lwc_types.specs.declared.key.Key.TheVariants as key
 use Rattle.fd_table.specs.Slots.{is_common}
 use Rattle.lazy_world.specs.declared.key_value.KeyValue.TheVariants as values
 use Rattle.lazy_world.specs.declared.world.PlacedWorld.{PlacedWorld}

@@ -1,10 +1,10 @@
 use Rattle.std.proofs.Common.{◌≡◌, ◌+◌, ◌≤◌, ◌∙◌, ℕ, ap, arith, refl, sym, subst}
-use Rattle.lwc_base.specs.declared.limits.TheConstants.{MOST_PAGES, MOST_RANGES}
 use Rattle.lwc_base.specs.World.{Context}
+use Rattle.lwc_types.specs.declared.limits.TheConstants.{MOST_PAGES, MOST_RANGES}
 use Rattle.range_map.specs.Kinds.{ranges}
 use Rattle.lazy_world.specs.Cells.{no_row, put_rights, put_row, states_of}
 use Rattle.cow_space.specs.Cells.{all_write}
-use Rattle.lwc_base.specs.declared.right.Right.{Right}
+use Rattle.lwc_types.specs.declared.right.Right.{Right}
 use Rattle.lazy_world.specs.Transfers.{transferred_rights, transferred_row}
 use Rattle.lazy_world.specs.Seen.{rights, rows}
 use Rattle.lazy_world.specs.declared.world.PlacedWorld.{PlacedWorld}

@@ -1,7 +1,7 @@
 use Rattle.std.proofs.Common.{◌≡◌, ℕ, ◌<◌, ◌≤◌, Some, true}
 use Rattle.std.specs.Prelude.{slice_get}
 use Rattle.std.specs.FinMap as fm
-use Rattle.lwc_base.specs.declared.name.Name.{Name}
+use Rattle.lwc_types.specs.declared.name.Name.{Name}
 use Rattle.reach.specs.Reach.{is_marked}
 use Rattle.lazy_world.proofs.world.PlacedWorld.first_unmarked.Given as goal
 

@@ -1,6 +1,6 @@
 use Rattle.std.proofs.Common.{ap, sym, ◌∙◌}
 use Rattle.std.specs.Option.{option_map}
-use Rattle.lwc_base.specs.declared.key.Key.TheVariants.{Page}
+use Rattle.lwc_types.specs.declared.key.Key.TheVariants.{Page}
 use Rattle.range_map.specs.declared.segment.PageState.{PageState}
 use Rattle.lazy_world.specs.Seen.{rights, rows}
 use Rattle.lazy_world.proofs.world.PlacedWorld.found_page.Goals as goal

@@ -3,7 +3,7 @@ use Rattle.lwc_base.specs.declared.cell.Cell.{Cell}
 use Rattle.lwc_base.specs.declared.cell.Cell.TheVariants.{Own, Common}
 use Rattle.lwc_base.specs.declared.descriptor.Lent.{Lent}
 use Rattle.fd_table.specs.Slots.{cell_of}
-use Rattle.lwc_base.specs.declared.key.Key.TheVariants.{Slot}
+use Rattle.lwc_types.specs.declared.key.Key.TheVariants.{Slot}
 use Rattle.lazy_world.specs.Transfers.{owner}
 use Rattle.lazy_world.specs.Seen.{rows}
 use Rattle.lazy_world.proofs.world.PlacedWorld.found_slot.Goals as goal

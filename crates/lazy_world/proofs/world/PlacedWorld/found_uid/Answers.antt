@@ -1,5 +1,5 @@
 use Rattle.std.proofs.Common.{ap, ◌∙◌, Some}
-use Rattle.lwc_base.specs.declared.key.Key.TheVariants.{Cred}
+use Rattle.lwc_types.specs.declared.key.Key.TheVariants.{Cred}
 use Rattle.lazy_world.specs.Transfers.{owner}
 use Rattle.lazy_world.specs.Seen.{rows}
 use Rattle.lazy_world.proofs.world.PlacedWorld.found_uid.Goals as goal

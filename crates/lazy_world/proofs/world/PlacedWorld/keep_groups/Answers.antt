@@ -1,7 +1,7 @@
 use Rattle.std.proofs.Common.{◌∙◌, ◌+◌, ℕ, ap, arith, sym}
 use Rattle.std.specs.FinMap as fm
-use Rattle.lwc_base.specs.Names.{name_cmp}
 use Rattle.lwc_base.specs.World.{World}
+use Rattle.lwc_types.specs.Names.{name_cmp}
 use Rattle.reach.specs.Reach.{is_marked}
 use Rattle.lazy_world.specs.Reaping.{keeps, left_by, passes}
 use Rattle.lazy_world.specs.Worlds.{parts, seen}

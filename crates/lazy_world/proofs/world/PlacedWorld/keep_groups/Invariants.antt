@@ -1,5 +1,5 @@
 use Rattle.std.proofs.Common.{◌≡◌}
-use Rattle.lwc_base.specs.declared.name.Name.{Name}
+use Rattle.lwc_types.specs.declared.name.Name.{Name}
 use Rattle.lazy_world.specs.Reaping.{NamesNone, keeps, left_by}
 use Rattle.lazy_world.specs.Worlds.{parts, seen}
 use Rattle.lazy_world.proofs.world.PlacedWorld.keep_groups.Given as goal

@@ -1,8 +1,8 @@
 use Rattle.std.proofs.Common.{◌≡◌, ◌-◌, arith, refl, unwrap_or}
 use Rattle.std.proofs.lemmas.Bool.{ltb-false, ltb-true}
-use Rattle.lwc_base.specs.declared.page.PageValue.TheVariants.{Zero}
 use Rattle.lwc_base.specs.Frames.{is_parting}
-use Rattle.lwc_base.proofs.Small.{count_of_range}
+use Rattle.lwc_types.specs.declared.page.PageValue.TheVariants.{Zero}
+use Rattle.lwc_types.proofs.Small.{count_of_range}
 use Rattle.lazy_world.specs.declared.world.PlacedWorld.{PlacedWorld}
 use Rattle.lazy_world.specs.Memory.{page_in}
 use Rattle.lazy_world.specs.Seen.{rows}

@@ -1,7 +1,7 @@
 use Rattle.std.proofs.Common.{◌∙◌, ap, sym, eqb, List}
 use Rattle.std.specs.Prelude.{count_by}
-use Rattle.lwc_base.specs.declared.name.Name.{Name}
 use Rattle.lwc_base.specs.World.{live_of}
+use Rattle.lwc_types.specs.declared.name.Name.{Name}
 use Rattle.lazy_world.specs.Worlds.{parts, seen}
 use Rattle.lazy_world.proofs.WorldLemmas.{names-contexts}
 use Rattle.lazy_world.proofs.world.PlacedWorld.live_of.Goals as goal

@@ -1,8 +1,8 @@
 use Rattle.std.proofs.Common.{◌∙◌, inl, inr, arith, sym}
 use Rattle.std.proofs.lemmas.Bool.{cases_lt}
-use Rattle.lwc_base.specs.declared.key.Key.TheVariants.{Slot}
 use Rattle.lwc_base.specs.Cells.{value_of}
 use Rattle.lwc_base.specs.Summaries.{is_empty}
+use Rattle.lwc_types.specs.declared.key.Key.TheVariants.{Slot}
 use Rattle.lazy_world.specs.Seen.{rows}
 use Rattle.lazy_world.specs.Worlds.{seen}
 use Rattle.lazy_world.proofs.EmptyLemmas.{find-here, find-missed}

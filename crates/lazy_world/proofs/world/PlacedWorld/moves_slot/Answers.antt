@@ -1,8 +1,8 @@
 use Rattle.std.proofs.Common.{ap}
 use Rattle.std.specs.Prelude.{unwrap_or}
 use Rattle.lwc_base.specs.declared.item.Mode.TheVariants.{Copy}
-use Rattle.lwc_base.specs.declared.key.Key.TheVariants.{Slot}
 use Rattle.lwc_base.specs.Sharing.{is_moved}
+use Rattle.lwc_types.specs.declared.key.Key.TheVariants.{Slot}
 use Rattle.lazy_world.specs.Seen.{rows}
 use Rattle.lazy_world.proofs.world.PlacedWorld.moves_slot.Goals as goal
 

@@ -1,5 +1,5 @@
 use Rattle.std.proofs.Common.{◌≡◌, ◌<◌, ℕ, false}
-use Rattle.lwc_base.specs.declared.key.Key.TheVariants.{Slot}
+use Rattle.lwc_types.specs.declared.key.Key.TheVariants.{Slot}
 use Rattle.lazy_world.specs.Transfers.{moves}
 use Rattle.lazy_world.specs.Seen.{rows}
 use Rattle.lazy_world.proofs.world.PlacedWorld.moves_slot.Given as goal

@@ -1,6 +1,6 @@
 use Rattle.std.proofs.Common.{Bool, arith, ap, sym, true, false, ◌≡◌}
-use Rattle.lwc_base.specs.declared.key.Key.TheVariants.{Slot, Cred}
 use Rattle.lwc_base.specs.World.{Context, context}
+use Rattle.lwc_types.specs.declared.key.Key.TheVariants.{Slot, Cred}
 use Rattle.lazy_world.specs.Seen.{rows}
 use Rattle.lazy_world.specs.States.{world_of}
 use Rattle.lazy_world.specs.Worlds.{parts, seen}

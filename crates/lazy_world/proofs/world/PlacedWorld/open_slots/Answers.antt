@@ -1,5 +1,5 @@
 use Rattle.std.proofs.Common.{◌∙◌, arith, sym}
-use Rattle.lwc_base.specs.declared.key.Key.TheVariants.{Slot}
+use Rattle.lwc_types.specs.declared.key.Key.TheVariants.{Slot}
 use Rattle.lazy_world.specs.Seen.{rows}
 use Rattle.lazy_world.specs.Worlds.{seen}
 use Rattle.lazy_world.proofs.CopyLemmas.{own-filled}

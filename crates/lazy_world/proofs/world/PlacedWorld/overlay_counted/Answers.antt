@@ -1,6 +1,6 @@
 use Rattle.std.proofs.Common.{◌≡◌, ◌∙◌, ap, rules, subst, sym}
-use Rattle.lwc_base.specs.declared.name.Name.{Name}
 use Rattle.lwc_base.specs.Overlay.{overlay, ranges_after_overlay}
+use Rattle.lwc_types.specs.declared.name.Name.{Name}
 use Rattle.world_face.specs.Calls.{AreFew}
 use Rattle.lazy_world.specs.Worlds.{seen}
 use Rattle.lazy_world.proofs.RenameLemmas.{names-differ}

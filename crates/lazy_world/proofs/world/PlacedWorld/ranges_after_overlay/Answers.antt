@@ -1,6 +1,6 @@
 use Rattle.std.proofs.Common.{◌≡◌, ◌∙◌, ap, rules, sym}
-use Rattle.lwc_base.specs.declared.name.Name.{Name}
 use Rattle.lwc_base.specs.Ranges.{ranges_of}
+use Rattle.lwc_types.specs.declared.name.Name.{Name}
 use Rattle.lazy_world.specs.Followed.{followed}
 use Rattle.lazy_world.specs.Worlds.{parts, seen}
 use Rattle.lazy_world.specs.declared.transfer.Transfer.TheVariants.{Mark, Overlay}

@@ -1,7 +1,7 @@
 use Rattle.std.proofs.Common.{◌≤◌, ◌∙◌, arith, refl, sym, subst}
-use Rattle.lwc_base.specs.declared.limits.TheConstants.{MOST_RANGES}
 use Rattle.lwc_base.specs.Fresh.{IsFresh}
 use Rattle.lwc_base.specs.Ranges.{ranges_of}
+use Rattle.lwc_types.specs.declared.limits.TheConstants.{MOST_RANGES}
 use Rattle.lazy_world.specs.States.{world_of}
 use Rattle.lazy_world.specs.Worlds.{parts, seen}
 use Rattle.lazy_world.proofs.MovedLemmas.{live-past, moved-few}

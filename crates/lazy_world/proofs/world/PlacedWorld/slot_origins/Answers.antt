@@ -1,6 +1,6 @@
 use Rattle.std.proofs.Common.{◌∙◌, ℕ, ◌<◌, inl, inr, arith, length-set, refl, subst, sym, Option}
 use Rattle.std.proofs.lemmas.Bool.{cases_lt}
-use Rattle.lwc_base.specs.declared.key.Key.TheVariants.{Slot}
+use Rattle.lwc_types.specs.declared.key.Key.TheVariants.{Slot}
 use Rattle.cow_space.specs.declared.page_runs.Origin.{Origin}
 use Rattle.lazy_world.specs.Transfers.{Gives, transferred_row}
 use Rattle.lazy_world.specs.Seen.{count, rows}

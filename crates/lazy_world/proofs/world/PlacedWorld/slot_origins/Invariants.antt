@@ -1,5 +1,5 @@
 use Rattle.std.proofs.Common.{◌≡◌, ℕ, ◌-◌, ◌<◌, ◌≤◌, length, None}
-use Rattle.lwc_base.specs.declared.key.Key.TheVariants.{Slot}
+use Rattle.lwc_types.specs.declared.key.Key.TheVariants.{Slot}
 use Rattle.lazy_world.specs.Transfers.{Gives, transferred_row}
 use Rattle.lazy_world.specs.Seen.{count, rows}
 use Rattle.lazy_world.specs.Origins.{slot_origin}

@@ -2,22 +2,22 @@ use Rattle.std.proofs.Common.{◌≡◌, ◌≤◌, ◌<◌, ◌∙◌, ℕ, ◌
 use Rattle.std.specs.FinMap as fm
 use Rattle.std.specs.List.{range_with_len}
 use Rattle.std.proofs.lemmas.Bool.{cases_Bool}
-use Rattle.lwc_base.specs.declared.limits.TheConstants.{MOST_PAGES}
-use Rattle.lwc_base.specs.declared.name.Name.{Name}
-use Rattle.lwc_base.specs.declared.name.Tag.{Tag}
 use Rattle.lwc_base.specs.Memory.{touched}
 use Rattle.lwc_base.specs.Store.{Done, Piece, store}
+use Rattle.lwc_types.specs.declared.limits.TheConstants.{MOST_PAGES}
+use Rattle.lwc_types.specs.declared.name.Name.{Name}
+use Rattle.lwc_types.specs.declared.name.Tag.{Tag}
 use Rattle.lazy_world.specs.declared.places.Places.{Places}
 use Rattle.lazy_world.specs.declared.world.PlacedWorld.{PlacedWorld}
 use Rattle.lazy_world.specs.States.{Parts, context_at, world_of}
 use Rattle.lazy_world.specs.Worlds.{parts, seen}
 use Rattle.std.specs.Prelude.{count_by, is_some}
 use Rattle.std.specs.List.{list_all}
-use Rattle.lwc_base.specs.declared.right.Right.TheVariants.{Write}
 use Rattle.lwc_base.specs.Frames.{used}
 use Rattle.lwc_base.specs.Memory.{is_present}
 use Rattle.lwc_base.specs.Rights.{is_writable, may_write}
 use Rattle.lwc_base.specs.World.{context}
+use Rattle.lwc_types.specs.declared.right.Right.TheVariants.{Write}
 use Rattle.lazy_world.proofs.StoreLemmas.{count-one, store-done, writable-touched}
 use Rattle.lwc_base.specs.Cells.{page_at}
 use Rattle.cow_space.specs.Cells.{IsOwnPage, place_of}

@@ -3,7 +3,7 @@ use Rattle.std.specs.Prelude.{◌==◌}
 use Rattle.std.specs.List.{list_any}
 use Rattle.std.specs.Option.{option_map}
 use Rattle.lwc_base.specs.declared.item.Item.{Item}
-use Rattle.lwc_base.specs.declared.key.Key.TheVariants.{Page}
+use Rattle.lwc_types.specs.declared.key.Key.TheVariants.{Page}
 use Rattle.std.proofs.lemmas.Bool.{cases_lt}
 use Rattle.lwc_base.specs.Modes.{mode}
 use Rattle.lazy_world.specs.Transfers.{CanGet, given_or, origin_of, reads}

@@ -1,7 +1,7 @@
 use Rattle.std.proofs.Common.{◌∙◌, ap, sym}
-use Rattle.lwc_base.specs.declared.key.Key.TheVariants.{Cred}
 use Rattle.lwc_base.specs.Cells.{value_at, value_of}
 use Rattle.lwc_base.specs.World.{Context}
+use Rattle.lwc_types.specs.declared.key.Key.TheVariants.{Cred}
 use Rattle.lazy_world.specs.Worlds.{parts, seen}
 use Rattle.lazy_world.proofs.world.PlacedWorld.uid.Goals as goal
 

@@ -1,13 +1,13 @@
 use Rattle.std.proofs.Common.{◌≡◌, ◌≢◌, ◌+◌, ◌<◌, ◌≤◌, ◌∙◌, ℕ, Bool, true, false, [], ◌∷◌, Some, arith, ap, cond, length, subst, sym, get_or, refl, set}
 use Rattle.std.specs.FinMap as fm
 use Rattle.std.specs.Prelude.{is_some}
-use Rattle.lwc_base.specs.declared.key.Key.TheVariants.{Page}
-use Rattle.lwc_base.specs.declared.name.Name.{Name}
-use Rattle.lwc_base.specs.declared.name.Tag.{Tag}
 use Rattle.lwc_base.specs.Cells.{page_at}
 use Rattle.lwc_base.specs.Frames.{used}
 use Rattle.lwc_base.specs.Store.{Piece}
 use Rattle.lwc_base.specs.World.{Counters}
+use Rattle.lwc_types.specs.declared.key.Key.TheVariants.{Page}
+use Rattle.lwc_types.specs.declared.name.Name.{Name}
+use Rattle.lwc_types.specs.declared.name.Tag.{Tag}
 use Rattle.cow_space.specs.Cells.{place_of}
 use Rattle.cow_space.specs.Tags as places
 use Rattle.cow_space.specs.Writes.{write_page, written_value}

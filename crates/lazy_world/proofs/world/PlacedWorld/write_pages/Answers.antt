@@ -1,9 +1,9 @@
 use Rattle.std.proofs.Common.{◌≡◌, ◌-◌, ◌<◌, ◌≤◌, ◌∙◌, ℕ, ap, arith, refl, sym}
 use Rattle.std.specs.List.{range_with_len}
-use Rattle.lwc_base.specs.declared.name.Name.{Name}
-use Rattle.lwc_base.specs.declared.size.WorldSize.{WorldSize}
 use Rattle.lwc_base.specs.Store.{Piece}
 use Rattle.lwc_base.specs.World.{World}
+use Rattle.lwc_types.specs.declared.name.Name.{Name}
+use Rattle.lwc_types.specs.declared.size.WorldSize.{WorldSize}
 use Rattle.lazy_world.specs.Stores.{parts_at, store_pages}
 use Rattle.lazy_world.specs.Worlds.{seen}
 use Rattle.lazy_world.proofs.StepLemmas.{first-count, first-there, step-count, step-live, step-size, step-stored, step-tags, step-there, taken-one}

@@ -1,8 +1,8 @@
 use Rattle.std.proofs.Common.{arith, rules, ◌≡◌}
 use Rattle.std.proofs.lemmas.Fn.{filter_same}
 use Rattle.std.specs.FinMap.Entries.{where_key}
-use Rattle.lwc_base.specs.Names.{name_cmp}
 use Rattle.lwc_base.specs.World.{is_live}
+use Rattle.lwc_types.specs.Names.{name_cmp}
 use Rattle.lwc_monitor.proofs.Pairs.{kept, kept-sorted}
 use Rattle.lwc_monitor.proofs.traps.Traps.keep_live.Goals as goal
 

@@ -1,6 +1,6 @@
 use Rattle.std.proofs.Common.{ap, ◌∙◌, Option}
 use Rattle.std.specs.Option.{option_map}
-use Rattle.lwc_base.specs.declared.name.Name.{Name}
+use Rattle.lwc_types.specs.declared.name.Name.{Name}
 use Rattle.lwc_monitor.proofs.Pairs.{get-is}
 use Rattle.lwc_monitor.proofs.traps.Traps.monitor_of.Goals as goal
 

@@ -1,7 +1,7 @@
 use Rattle.std.proofs.Common.{◌≡◌, ap, arith, length, List}
 use Rattle.std.specs.FinMap as fm
-use Rattle.lwc_base.specs.Names.{name_cmp}
-use Rattle.lwc_base.specs.declared.name.Name.{Name}
+use Rattle.lwc_types.specs.Names.{name_cmp}
+use Rattle.lwc_types.specs.declared.name.Name.{Name}
 use Rattle.lwc_monitor.proofs.Pairs.{entries-are, inserted, inserted-sorted, place-within}
 use Rattle.lwc_monitor.proofs.traps.Traps.trap.Goals as goal
 

@@ -1,5 +1,5 @@
 use Rattle.std.proofs.Common.{arith, refl, ◌-◌, ◌<◌}
-use Rattle.lwc_base.specs.declared.limits.TheConstants.{MOST_PAGES}
+use Rattle.lwc_types.specs.declared.limits.TheConstants.{MOST_PAGES}
 use Rattle.range_map.specs.Kinds.{ranges, state_after}
 use Rattle.range_map.proofs.Ranges.{few_ranges, first_begins, one_more}
 use Rattle.range_map.proofs.map.RangeMap.count_after.Goals as goal

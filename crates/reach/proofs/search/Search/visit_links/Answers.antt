@@ -1,5 +1,5 @@
 use Rattle.std.proofs.Common.{◌≡◌, arith, sym, ◌∙◌}
-use Rattle.lwc_base.specs.declared.descriptor.TheConstants.{SLOTS}
+use Rattle.lwc_types.specs.declared.key.TheConstants.{SLOTS}
 use Rattle.reach.specs.Search as spec
 use Rattle.reach.proofs.Found.{links-next, links-none, links-past, within-next, within-past}
 use Rattle.reach.proofs.search.Search.visit_links.Goals as goal

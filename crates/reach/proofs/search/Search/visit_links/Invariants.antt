@@ -1,5 +1,5 @@
 use Rattle.std.proofs.Common.{◌≡◌, ◌-◌, ◌≤◌}
-use Rattle.lwc_base.specs.declared.descriptor.TheConstants.{SLOTS}
+use Rattle.lwc_types.specs.declared.key.TheConstants.{SLOTS}
 use Rattle.reach.specs.Search as spec
 use Rattle.reach.proofs.search.Search.visit_links.Given as goal
 

@@ -1,9 +1,9 @@
 use Rattle.std.proofs.Common.{◌≡◌, ◌∙◌, ap, subst, sym, true, vec_len}
 use Rattle.std.specs.Vec.{with_item}
 use Rattle.lwc_base.specs.declared.cell.Cell.TheVariants.{Common}
-use Rattle.lwc_base.specs.declared.key.Key.TheVariants.{Cred, Page, Slot}
 use Rattle.lwc_base.specs.Cells.{with_cell}
 use Rattle.lwc_base.specs.Sharing.{has_own}
+use Rattle.lwc_types.specs.declared.key.Key.TheVariants.{Cred, Page, Slot}
 use Rattle.whole_world.specs.Holders.{holder}
 use Rattle.whole_world.specs.Rows.{cell_of, context_of}
 use Rattle.whole_world.specs.Sound.{HasKey}

@@ -1,5 +1,5 @@
 use Rattle.std.proofs.Common.{arith}
-use Rattle.lwc_base.specs.declared.key.Kind.TheVariants as kind
+use Rattle.lwc_types.specs.declared.key.Kind.TheVariants as kind
 use Rattle.whole_world.specs.Rows.{group_of}
 use Rattle.whole_world.proofs.Moves.{context_gives, group_takes, not_below}
 use Rattle.whole_world.proofs.Worlds.{still_whole, still_whole_group}

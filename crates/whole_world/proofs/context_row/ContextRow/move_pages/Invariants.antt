@@ -1,5 +1,5 @@
 use Rattle.std.proofs.Common.{◌≡◌}
-use Rattle.lwc_base.specs.declared.key.Kind.TheVariants as kind
+use Rattle.lwc_types.specs.declared.key.Kind.TheVariants as kind
 use Rattle.whole_world.specs.Rows.{context_of, group_of}
 use Rattle.whole_world.specs.Sharing.{gave, is_below, took}
 use Rattle.whole_world.specs.Sound.{IsWhole, IsWholeGroup}

@@ -1,9 +1,9 @@
 use Rattle.std.proofs.Common.{◌∙◌, ap, cond, None, refl, Some, arith}
 use Rattle.lwc_base.specs.declared.cell.Cell.TheVariants.{Own}
-use Rattle.lwc_base.specs.declared.key.Key.TheVariants.{Page}
-use Rattle.lwc_base.specs.declared.page.PageValue.TheVariants.{Zero}
-use Rattle.lwc_base.specs.declared.right.Right.TheVariants.{Write}
 use Rattle.lwc_base.specs.Cells.{with_cell}
+use Rattle.lwc_types.specs.declared.key.Key.TheVariants.{Page}
+use Rattle.lwc_types.specs.declared.page.PageValue.TheVariants.{Zero}
+use Rattle.lwc_types.specs.declared.right.Right.TheVariants.{Write}
 use Rattle.whole_world.specs.Rows.{context_of, with_right}
 use Rattle.whole_world.proofs.Rows.{on_pages-none, on_pages-more}
 use Rattle.whole_world.proofs.context_row.ContextRow.set_pages.Goals as goal

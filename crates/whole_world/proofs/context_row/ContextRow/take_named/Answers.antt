@@ -1,6 +1,6 @@
 use Rattle.std.proofs.Common.{◌≡◌, ap, cond, false, refl, rules, sym, true}
-use Rattle.lwc_base.specs.declared.key.Key.TheVariants.{Cred}
 use Rattle.lwc_base.specs.Capabilities.{is_named}
+use Rattle.lwc_types.specs.declared.key.Key.TheVariants.{Cred}
 use Rattle.whole_world.proofs.Taking.{context-taken}
 use Rattle.whole_world.proofs.context_row.ContextRow.take_named.Goals as goal
 

@@ -1,7 +1,7 @@
 use Rattle.std.proofs.Common.{rules, tests, sym, ◌∙◌}
 use Rattle.std.proofs.lemmas.Iterator.{YieldsList-from_slice}
 use Rattle.std.proofs.lemmas.Iterator.Search.{any_from_yields_List}
-use Rattle.lwc_base.specs.declared.name.Name.{Name}
+use Rattle.lwc_types.specs.declared.name.Name.{Name}
 use Rattle.whole_world.specs.declared.group_row.GroupRow.{GroupRow}
 use Rattle.whole_world.specs.Tags.{has_tag, page_tags}
 use Rattle.whole_world.proofs.TagLists.{has_tag-flat_map}

@@ -1,8 +1,8 @@
 use Rattle.std.proofs.Common.{◌≡◌}
 use Rattle.std.specs.Prelude.{unwrap_or}
-use Rattle.lwc_base.specs.declared.key.Key.TheVariants.{Page}
 use Rattle.lwc_base.specs.Modes.{mode}
 use Rattle.lwc_base.specs.Sharing.{cloned_right}
+use Rattle.lwc_types.specs.declared.key.Key.TheVariants.{Page}
 use Rattle.whole_world.specs.Rows.{context_of}
 use Rattle.whole_world.specs.Sharing.{with_rights}
 use Rattle.whole_world.specs.Sound.{IsWhole}

@@ -1,4 +1,4 @@
-use Rattle.lwc_base.specs.declared.key.Kind.TheVariants as kind
+use Rattle.lwc_types.specs.declared.key.Kind.TheVariants as kind
 use Rattle.whole_world.proofs.Moves.{with_cells-next}
 use Rattle.whole_world.proofs.Worlds.{still_whole}
 use Rattle.whole_world.proofs.world.WholeWorld.clone_slots.Goals as goal

@@ -1,5 +1,5 @@
 use Rattle.std.proofs.Common.{◌≡◌}
-use Rattle.lwc_base.specs.declared.key.Kind.TheVariants as kind
+use Rattle.lwc_types.specs.declared.key.Kind.TheVariants as kind
 use Rattle.whole_world.specs.Rows.{context_of}
 use Rattle.whole_world.specs.Sharing.{clone_cells, is_below, with_cells}
 use Rattle.whole_world.specs.Sound.{IsWhole}

@@ -2,7 +2,7 @@ use Rattle.std.proofs.Common.{arith}
 use Rattle.lwc_base.specs.Memory.{byte_at}
 use Rattle.whole_world.specs.Worlds.{seen}
 use Rattle.whole_world.proofs.world.WholeWorld.copy_to.Goals as goal
-use Rattle.lwc_base.proofs.Small.{filled_from}
+use Rattle.lwc_types.proofs.Small.{filled_from}
 
 pub returns : goal.returns
 returns c =

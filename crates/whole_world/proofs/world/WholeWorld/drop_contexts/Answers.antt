@@ -1,7 +1,7 @@
 use Rattle.std.proofs.Common.{ℕ, ◌<◌, ◌∙◌, List, All, ap, subst, sym}
-use Rattle.lwc_base.specs.declared.limits.TheConstants.{MOST_CONTEXTS}
-use Rattle.lwc_base.specs.declared.name.Name.{Name}
 use Rattle.lwc_base.specs.Life.{is_reached}
+use Rattle.lwc_types.specs.declared.limits.TheConstants.{MOST_CONTEXTS}
+use Rattle.lwc_types.specs.declared.name.Name.{Name}
 use Rattle.whole_world.specs.declared.context_row.ContextRow.{ContextRow}
 use Rattle.whole_world.specs.Sound.{IsSound}
 use Rattle.whole_world.specs.States.{world_of}

@@ -1,8 +1,8 @@
 use Rattle.std.proofs.Common.{rules, ◌∙◌, Bool, List, ap, subst, sym}
 use Rattle.std.specs.FinMap as fm
 use Rattle.std.specs.List.{list_any}
-use Rattle.lwc_base.specs.declared.name.Name.{Name}
 use Rattle.lwc_base.specs.Life.{names_group}
+use Rattle.lwc_types.specs.declared.name.Name.{Name}
 use Rattle.whole_world.specs.declared.group_row.GroupRow.{GroupRow}
 use Rattle.whole_world.specs.Sound.{IsSound}
 use Rattle.whole_world.specs.States.{world_of}

@@ -2,8 +2,8 @@ use Rattle.std.proofs.Common.{All, ◌∙◌, ◌||◌, [], List, ap, sym, subst
 use Rattle.std.specs.List.{list_any}
 use Rattle.std.proofs.lemmas.List.Elements.{All-get_or}
 use Rattle.std.proofs.lemmas.List.Folds.{list_any_more}
-use Rattle.lwc_base.specs.declared.name.Name.{Name}
 use Rattle.lwc_base.specs.Life.{names_group}
+use Rattle.lwc_types.specs.declared.name.Name.{Name}
 use Rattle.whole_world.specs.declared.context_row.ContextRow.{ContextRow}
 use Rattle.whole_world.specs.Rows.{context_of}
 use Rattle.whole_world.specs.Sound.{IsWhole}

@@ -1,5 +1,5 @@
 use Rattle.std.proofs.Common.{◌∙◌, ap, sym, Some}
-use Rattle.lwc_base.specs.declared.key.Key.TheVariants.{Page}
+use Rattle.lwc_types.specs.declared.key.Key.TheVariants.{Page}
 use Rattle.std.proofs.lemmas.List.{nil_from_length}
 use Rattle.lwc_base.specs.Store.{put_pages}
 use Rattle.lwc_base.specs.World.{is_live}

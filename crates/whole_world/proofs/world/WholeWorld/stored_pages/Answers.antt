@@ -1,14 +1,14 @@
 use Rattle.std.proofs.Common.{◌≡◌, ◌∙◌, ◌+◌, ◌-◌, ◌++◌, ℕ, List, ap, sym, arith, append-nil, Bool, true, false, refl, subst, ◌≤◌}
 use mir.Val.{bool_byte}
 use Rattle.std.specs.Option.{option_copied}
-use Rattle.lwc_base.specs.declared.name.Name.{Name}
-use Rattle.lwc_base.specs.declared.page.PageValue.{PageValue}
 use Rattle.lwc_base.specs.Store.{Piece}
 use Rattle.lwc_base.specs.World.{World, Counters}
+use Rattle.lwc_types.specs.declared.name.Name.{Name}
+use Rattle.lwc_types.specs.declared.page.PageValue.{PageValue}
 use Rattle.std.specs.Prelude.{if◌then◌else◌, unwrap_or}
 use Rattle.std.specs.List.{range_with_len}
 use Rattle.lwc_base.specs.Store.{stored_pages}
-use Rattle.lwc_base.specs.declared.page.PageValue.TheVariants.{Zero}
+use Rattle.lwc_types.specs.declared.page.PageValue.TheVariants.{Zero}
 use Rattle.whole_world.proofs.Stores.{plan_more}
 use Rattle.whole_world.specs.Worlds.{seen}
 use Rattle.whole_world.proofs.world.WholeWorld.stored_pages.Goals as goal

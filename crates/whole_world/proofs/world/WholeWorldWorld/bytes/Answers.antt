@@ -3,7 +3,7 @@ use Rattle.lwc_base.specs.Memory.{load}
 use Rattle.whole_world.specs.Worlds.{seen}
 use Rattle.whole_world.proofs.Stores.{few_pages-seen, is_present-touched}
 use Rattle.whole_world.proofs.world.WholeWorldWorld.bytes.Goals as goal
-use Rattle.lwc_base.proofs.Small.{load-absent, load-present}
+use Rattle.lwc_base.proofs.Loads.{load-absent, load-present}
 
 pub touched_pages-pages-requires : goal.touched_pages-pages-requires
 touched_pages-pages-requires c = omega (arith, few_pages-seen c.args.self.now, c.requires.within)

@@ -1,8 +1,8 @@
 use Rattle.std.proofs.Common.{◌∙◌, ap, arith, sym, subst}
 use Rattle.std.specs.FinMap as fm
-use Rattle.lwc_base.specs.declared.size.WorldSize.{WorldSize}
 use Rattle.lwc_base.specs.Sharing.{needs_group, share}
 use Rattle.lwc_base.specs.World.{World}
+use Rattle.lwc_types.specs.declared.size.WorldSize.{WorldSize}
 use Rattle.whole_world.specs.Rows.{context_of}
 use Rattle.whole_world.specs.Worlds.{seen}
 use Rattle.whole_world.specs.Sound.{IsWhole}

@@ -1,8 +1,8 @@
 use Rattle.std.proofs.Common.{◌∙◌, ap, subst, sym}
-use Rattle.lwc_base.specs.declared.size.WorldSize.{WorldSize}
 use Rattle.lwc_base.specs.Sharing.{share}
 use Rattle.lwc_base.specs.World.{is_live}
 use Rattle.lwc_base.proofs.Facts.{changes}
+use Rattle.lwc_types.specs.declared.size.WorldSize.{WorldSize}
 use Rattle.whole_world.specs.Sound.{IsWhole}
 use Rattle.whole_world.proofs.CloneCells.{shared-size}
 use Rattle.whole_world.specs.Rows.{context_of}

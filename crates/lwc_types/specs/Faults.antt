@@ -1,9 +1,9 @@
 -- The numbers of faults and of refusals.
 use Rattle.std.specs.Prelude.{ℕ}
-use Rattle.lwc_base.specs.declared.fault.Fault.{Fault}
-use Rattle.lwc_base.specs.declared.fault.Fault.TheVariants.{BadPc, BadLoad, BadStore, NoFrame, Budget, ReadOnly}
-use Rattle.lwc_base.specs.declared.refusal.Refusal.{Refusal}
-use Rattle.lwc_base.specs.declared.refusal.Refusal.TheVariants as refusals
+use Rattle.lwc_types.specs.declared.fault.Fault.{Fault}
+use Rattle.lwc_types.specs.declared.fault.Fault.TheVariants.{BadPc, BadLoad, BadStore, NoFrame, Budget, ReadOnly}
+use Rattle.lwc_types.specs.declared.refusal.Refusal.{Refusal}
+use Rattle.lwc_types.specs.declared.refusal.Refusal.TheVariants as refusals
 
 -- the number that a report prints for a fault
 abbrev pub fault_number : Fault → ℕ

@@ -1,5 +1,5 @@
 ghost use Rattle.std.specs.Prelude.{◌≡◌};
-ghost use Rattle.lwc_base.specs.Faults.{refusal_number};
+ghost use Rattle.lwc_types.specs.Faults.{refusal_number};
 
 /// Why a call of a guest was refused.
 #[derive(Clone, Copy, PartialEq, Eq)]

@@ -1,18 +1,10 @@
 ghost use Rattle.std.specs.Prelude.{◌≡◌, ◌+◌, ◌-◌, ◌*◌, ◌/◌, ◌%◌, ◌<◌, ◌≤◌};
 ghost use Rattle.std.specs.List.{range_with_len};
 ghost use Rattle.lwc_base.specs.Memory.{touched};
-ghost use Rattle.lwc_base.specs.declared.limits.TheConstants.{MOST_PAGES};
-ghost use Rattle.lwc_base.specs.declared.page.TheConstants.{PAGE_BYTES};
+ghost use Rattle.lwc_types.specs.declared.limits.TheConstants.{MOST_PAGES};
+ghost use Rattle.lwc_types.specs.declared.page.TheConstants.{PAGE_BYTES};
 
-use crate::key::PageNumber;
-use crate::page::PAGE_BYTES;
-
-/// The pages from `from` up to and without `to`.
-#[derive(Clone, Copy, Default, PartialEq, Eq)]
-pub struct Range {
-    pub from: PageNumber,
-    pub to: PageNumber,
-}
+use lwc_types::{PAGE_BYTES, PageNumber, Range};
 
 /// The pages that some bytes from an address on touch; none for no bytes.
 #[tactic(auto, unfolding(crate::specs::Memory::touched))]

@@ -1,6 +1,6 @@
 ghost use Rattle.std.specs.Prelude.{◌≡◌, ℕ, ◌<◌, List, length, IfOk, slice_set};
-ghost use Rattle.lwc_base.specs.declared.page.TheConstants.{PAGE_BYTES};
-ghost use Rattle.lwc_base.specs.Pages.{zero_bytes, zero_page};
+ghost use Rattle.lwc_types.specs.declared.page.TheConstants.{PAGE_BYTES};
+ghost use Rattle.lwc_types.specs.Pages.{zero_bytes, zero_page};
 
 use crate::memory::OutOfMemory;
 use crate::name::Tag;
@@ -18,7 +18,7 @@ pub struct PageBytes {
 
 impl Model for PageBytes {
     ghost use Rattle.std.specs.Prelude.{◌≡◌, ℕ, List, length};
-    ghost use Rattle.lwc_base.specs.declared.page.TheConstants.{PAGE_BYTES};
+    ghost use Rattle.lwc_types.specs.declared.page.TheConstants.{PAGE_BYTES};
 
     ghost Value = { List ℕ };
 

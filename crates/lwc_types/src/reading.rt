@@ -1,5 +1,5 @@
 ghost use Rattle.std.specs.Prelude.{◌≡◌};
-ghost use Rattle.lwc_base.specs.declared.reading.ReadError.TheVariants.{OutOfMemory};
+ghost use Rattle.lwc_types.specs.declared.reading.ReadError.TheVariants.{OutOfMemory};
 
 use crate::memory::OutOfMemory as NoMemory;
 use std::alloc::{AllocError, AllocFailed};

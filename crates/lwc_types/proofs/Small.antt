@@ -1,25 +1,20 @@
 -- Small facts of options, choices, lists and ranges.
 use Rattle.std.proofs.Common.{◌≡◌, ◌≢◌, ◌⊎◌, ⊎_elim, inl, inr, ◌<◌, ◌≤◌, ◌+◌, ◌-◌, ℕ, zero, suc, add-zero, Bool, true, false, Option, Some, None, List, [], ◌∷◌, refl, ap, sym, subst, ◌∙◌, cond, get_or, length, map, set, replicate, arith}
-use Rattle.std.specs.Prelude.{◌&&◌, ◌||◌, not, if◌then◌else◌, unwrap_or}
+use Rattle.std.specs.Prelude.{◌&&◌, ◌||◌, not, unwrap_or}
 use Rattle.std.specs.List.{Contains, cons_option, count_by, position, position_or_len, range_with_len, sum_by}
 use Rattle.std.specs.Option.{option_map}
 use Rattle.std.specs.Ordering.{is_eq}
 use Rattle.std.specs.declared.cmp.Ordering.{Ordering}
 use Rattle.std.specs.declared.cmp.Ordering.TheVariants.{Less, Equal, Greater}
-use Rattle.std.proofs.lemmas.Bool.{cases_lt, false≢true}
+use Rattle.std.proofs.lemmas.Bool.{cases_lt}
 use Rattle.std.proofs.lemmas.List.{get_or-replicate, get_or_past, length-replicate}
 use Rattle.std.proofs.lemmas.List.FromFn.{length-range_with_len}
 use Rattle.std.proofs.lemmas.List.Sums.{count_by-le-length, prefix_len-le-length, sum_by-cons}
-use Rattle.lwc_base.specs.declared.name.Name.{Name}
-use Rattle.lwc_base.specs.declared.page.PageValue.{PageValue}
-use Rattle.lwc_base.specs.declared.page.PageValue.TheVariants.{Zero, Data}
-use Rattle.lwc_base.specs.declared.page.TheConstants.{PAGE_BYTES}
-use Rattle.lwc_base.specs.Frames.{tag_of}
-use Rattle.lwc_base.specs.Memory.{byte_at, is_present, load}
-use Rattle.lwc_base.specs.Names.{name_cmp}
-use Rattle.lwc_base.specs.Pages.{zero_bytes, zero_page}
-use Rattle.lwc_base.specs.World.{World}
-use Rattle.lwc_base.proofs.Orders.{name_cmp-IsAntisymmetric}
+use Rattle.lwc_types.specs.declared.name.Name.{Name}
+use Rattle.lwc_types.specs.declared.page.TheConstants.{PAGE_BYTES}
+use Rattle.lwc_types.specs.Names.{name_cmp}
+use Rattle.lwc_types.specs.Pages.{zero_bytes, zero_page}
+use Rattle.lwc_types.proofs.Orders.{name_cmp-IsAntisymmetric}
 
 pub or_len : (p : ℕ → Bool) (xs : List ℕ) (o : Option ℕ) → o ≡ position p xs → unwrap_or o (length xs) ≡ position_or_len p xs
 or_len p xs o e = let le = prefix_len-le-length (λ x. not (p x)) xs in grind arith
@@ -46,11 +41,6 @@ map-same f g (x ∷ xs) d h =
     let head = h 0 (omega arith) in
     let tail = map-same f g xs d (λ j lt. h (suc j) (omega (arith, lt))) in
     λ i. head i ∷ tail i
-
-pub one_tag : (value : Option PageValue) → length (tag_of value) ≤ 1
-one_tag None = omega arith
-one_tag (Some Zero) = omega arith
-one_tag (Some (Data tag bytes)) = omega arith
 
 pub mapped_choice : {A B : Type 0} (f : A → B) (b : Bool) (x : A) (o : Option A) → option_map f (cond b (Some x) o) ≡ cond b (Some (f x)) (option_map f o)
 mapped_choice f true x o = refl
@@ -85,10 +75,6 @@ same_bool true b to from = sym (to refl)
 same_bool false true to from = from refl
 same_bool false false to from = refl
 
-pub load_where : {A : Type 0} (present : Bool) (x : A) → present ≡ true → (if present then Some x else None) ≡ Some x
-load_where true x there = refl
-load_where false x there = absurd (false≢true there)
-
 pub or_assoc : (a b c : Bool) → ((a || b) || c) ≡ (a || (b || c))
 or_assoc true b c = refl
 or_assoc false b c = refl
@@ -101,28 +87,14 @@ pub gathered_later : {Y : Type 0} (o : Option Y) (ys : List Y) (y : Y) → Conta
 gathered_later None ys y there = there
 gathered_later (Some z) ys y there = (suc there.0, omega (arith, there.1), there.2)
 
-pub none_where : {A : Type 0} (present : Bool) (x : A) → present ≡ false → (if present then Some x else None) ≡ None
-none_where true x absent = absurd (false≢true (sym absent))
-none_where false x absent = refl
-
 pub gathered_either : {Y : Type 0} (o : Option Y) (ys : List Y) (y : Y) → Contains (cons_option o ys) y → (o ≡ Some y) ⊎ Contains ys y
 gathered_either None ys y there = inr there
 gathered_either (Some z) ys y (zero, within, is) = inl (ap Some is)
 gathered_either (Some z) ys y (suc k, within, is) = inr (k, omega (arith, within), is)
 
--- a load of pages that are all present
-pub load-present : (w : World) (c : Name) (at count : ℕ) → is_present w c at count ≡ true → load w c at count ≡ Some (map (byte_at w c) (range_with_len at count))
-unfolding load
-load-present w c at count there = load_where (is_present w c at count) (map (byte_at w c) (range_with_len at count)) there
-
 pub nothing_found : (b : Bool) (n : ℕ) → cond b (Some n) None ≡ None → b ≡ false
 nothing_found true n e = cc
 nothing_found false n e = refl
-
--- a load where a page is absent
-pub load-absent : (w : World) (c : Name) (at count : ℕ) → is_present w c at count ≡ false → load w c at count ≡ None
-unfolding load
-load-absent w c at count absent = none_where (is_present w c at count) (map (byte_at w c) (range_with_len at count)) absent
 
 pub steps_left : (p end : ℕ) → p < end → suc (end - (p + 1)) ≡ end - p
 steps_left p end within = omega arith

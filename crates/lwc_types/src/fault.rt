@@ -1,5 +1,5 @@
 ghost use Rattle.std.specs.Prelude.{◌≡◌};
-ghost use Rattle.lwc_base.specs.Faults.{fault_number};
+ghost use Rattle.lwc_types.specs.Faults.{fault_number};
 
 /// What ended a thread.
 #[derive(Clone, Copy, Debug, PartialEq, Eq)]

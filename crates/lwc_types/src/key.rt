@@ -5,6 +5,9 @@ pub type PageNumber = u16;
 /// The number of a slot of a context, below `SLOTS`; or a number of slots, at most `SLOTS`.
 pub type SlotNumber = u8;
 
+/// The number of slots of a context.
+pub const SLOTS: SlotNumber = 64;
+
 /// The kinds of keys: pages, slots, and the credential.
 #[derive(Clone, Copy, Debug, Default, PartialEq, Eq)]
 pub enum Kind {

@@ -1,5 +1,5 @@
 ghost use Rattle.std.specs.Prelude.{◌≡◌};
-ghost use Rattle.lwc_base.specs.Registers.{fresh_registers};
+ghost use Rattle.lwc_types.specs.Registers.{fresh_registers};
 
 /// The registers of a thread: sixteen of 64 bits, and the count of the instruction that comes next.
 #[derive(Clone, Copy, Debug, PartialEq, Eq)]

@@ -1,7 +1,7 @@
 -- What reading bytes gives, and what a function that reads answers.
 use Rattle.std.specs.Prelude.{◌≡◌, ℕ, List, [], ◌∷◌, Option, Some, Result, Ok, Err}
-use Rattle.lwc_base.specs.declared.reading.ReadError.{ReadError}
-use Rattle.lwc_base.specs.declared.reading.ReadError.TheVariants as errors
+use Rattle.lwc_types.specs.declared.reading.ReadError.{ReadError}
+use Rattle.lwc_types.specs.declared.reading.ReadError.TheVariants as errors
 
 -- a refusal: the rule that the bytes break first, and the offset where they do
 pub record Refusal (R : Type 0) : Type 0 where

@@ -1,0 +1,5 @@
+pub mod Faults
+pub mod Names
+pub mod Outcomes
+pub mod Pages
+pub mod Registers
