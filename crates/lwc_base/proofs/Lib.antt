@@ -18,6 +18,7 @@ pub mod Overlays
 pub mod Puts
 pub mod Reaped
 pub mod Reaps
+mod RepliesKept
 pub mod Runs
 pub mod Saving
 pub mod Sharing

@@ -16,6 +16,7 @@ pub mod Modes
 pub mod Overlay
 pub mod Ranges
 pub mod Refusals
+pub mod Replies
 pub mod Rights
 pub mod Runs
 pub mod Saved

@@ -3,7 +3,8 @@ ghost use Rattle.lwc_base.specs.Channels.{AreSmall, bytes_in};
 ghost use Rattle.lwc_base.specs.Channels as spec;
 ghost use Rattle.lwc_types.specs.declared.limits.TheConstants.{MOST_CONSOLE_BYTES, MOST_REPLY_BYTES};
 
-use lwc_types::{FileImage, MOST_CONSOLE_BYTES, MOST_REPLY_BYTES, OutOfMemory, Sequence};
+use crate::replies::Replies;
+use lwc_types::{FileImage, MOST_CONSOLE_BYTES, OutOfMemory, Sequence};
 use std::alloc::Global;
 use std::marker::Model;
 
@@ -17,7 +18,7 @@ pub struct Channels {
     files: Sequence<FileImage>,
     requests: Requests,
     console: Vec<u8>,
-    replies: Vec<Reply>,
+    replies: Replies,
 }
 
 impl Model for Channels {
@@ -32,14 +33,14 @@ impl Model for Channels {
       files = io.files;
       requests = io.requests;
       console = io.console.items;
-      replies = io.replies.items;
+      replies = io.replies;
     } };
 
     ghost invariant = { λ io. record {
       small : AreSmall io.files io.requests;
       console : vec_len io.console ≤ MOST_CONSOLE_BYTES;
       room : MOST_CONSOLE_BYTES ≤ vec_capacity io.console;
-      replies : length io.replies.items ≡ length io.requests;
+      replies : length io.replies ≡ length io.requests;
     } };
 }
 
@@ -55,7 +56,7 @@ impl Channels {
         ensures { IfOk result (λ io. io ≡ spec.opened files requests) }
     {
         let console = Vec::with_capacity(alloc, MOST_CONSOLE_BYTES)?;
-        let replies = Reply::for_each(alloc, requests.len())?;
+        let replies = Replies::open(alloc, requests.len() as u32)?;
         Ok(Channels {
             files,
             requests,
@@ -94,7 +95,7 @@ impl Channels {
         ensures bytes { result.now ≡ bytes_in self.now.replies r }
         ensures few { length (bytes_in self.now.replies r) ≤ MOST_REPLY_BYTES }
     {
-        self.replies[r as usize].as_slice()
+        self.replies.bytes(r as usize)
     }
 
     /// Appends bytes to the console, which has room for them.
@@ -113,7 +114,7 @@ impl Channels {
           replies = slice_set self.old.replies r (bytes_in self.old.replies r ++ piece.now);
         } }
     {
-        self.replies[r as usize].append(piece);
+        self.replies.append(r as usize, piece);
     }
 }
 
@@ -129,62 +130,4 @@ pub fn may_set(uid: u32, asked: u32) -> bool
     ensures { result ≡ spec.may_set uid asked }
 {
     uid == 0 || uid == asked
-}
-
-/// The bytes written to a reply, with room for as many as it may have.
-#[derive(Drop)]
-struct Reply {
-    bytes: Vec<u8>,
-}
-
-impl Model for Reply {
-    ghost use Rattle.std.specs.Prelude.{◌≤◌, ℕ, List, vec_len, vec_capacity};
-    ghost use Rattle.lwc_types.specs.declared.limits.TheConstants.{MOST_REPLY_BYTES};
-
-    ghost Value = { List ℕ };
-
-    ghost view = { λ reply. reply.bytes.items };
-
-    ghost invariant = { λ reply. record {
-      few : vec_len reply.bytes ≤ MOST_REPLY_BYTES;
-      room : MOST_REPLY_BYTES ≤ vec_capacity reply.bytes;
-    } };
-}
-
-impl Reply {
-    /// This number of replies without bytes. The only error is out of memory.
-    fn for_each(alloc: Global, count: usize) -> Result<Vec<Reply>, OutOfMemory>
-        ensures { IfOk result (λ replies. replies.items ≡ replicate count []) }
-    {
-        let mut replies = Vec::with_capacity(alloc, count)?;
-        for _ in 0..count {
-            replies.push(Reply::empty(alloc)?)?;
-        }
-        Ok(replies)
-    }
-
-    /// A reply without bytes. The only error is out of memory.
-    fn empty(alloc: Global) -> Result<Reply, OutOfMemory>
-        ensures { IfOk result (λ reply. reply ≡ []) }
-    {
-        Ok(Reply {
-            bytes: Vec::with_capacity(alloc, MOST_REPLY_BYTES)?,
-        })
-    }
-
-    /// The bytes, in order.
-    fn as_slice(&self) -> &[u8]
-        ensures bytes { result.now ≡ self.now }
-        ensures few { length self.now ≤ MOST_REPLY_BYTES }
-    {
-        self.bytes.as_slice()
-    }
-
-    /// Appends bytes that there is room for.
-    fn append(&mut self, piece: &[u8])
-        requires { length self.old + length piece.now ≤ MOST_REPLY_BYTES }
-        ensures { self.new ≡ self.old ++ piece.now }
-    {
-        let _ = self.bytes.extend_from_slice(piece);
-    }
 }

@@ -9,6 +9,7 @@ pub mod descriptor;
 pub mod item;
 pub mod items;
 pub mod laws;
+mod replies;
 pub mod touched;
 
 pub use answer::{Answer, Moved};
