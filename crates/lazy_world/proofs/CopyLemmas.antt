@@ -16,7 +16,6 @@ use Rattle.lwc_base.specs.Cells.{value_of}
 use Rattle.lwc_base.specs.Keys.{ValueOf}
 use Rattle.lwc_base.specs.Modes.{mode, mode_or_copy}
 use Rattle.lwc_base.specs.Summaries.{is_empty}
-use Rattle.lwc_base.specs.Sharing.{needs_group}
 use Rattle.lwc_base.specs.World.{World}
 use Rattle.lwc_types.specs.declared.key.Key.{Key}
 use Rattle.lwc_types.specs.declared.key.Key.TheVariants.{Page, Slot, Cred}
@@ -28,7 +27,6 @@ use Rattle.lazy_world.specs.Cells.{HasOwnPages, Row, is_nothing, is_own}
 use Rattle.lazy_world.specs.Transfers.{transferred_cell, transferred_rights, transferred_row, taken_cell}
 use Rattle.lazy_world.specs.Sound.{IsAllOwn, IsWithin}
 use Rattle.lazy_world.specs.declared.transfer.Transfer.TheVariants.{Mark, Clone}
-use Rattle.lwc_base.proofs.Needs.{not_needed}
 
 pub no-bit : (word n : ℕ) → eqb word 0 ≡ true → has_bit word n ≡ false
 no-bit word n is = let none : word ≡ 0 = grind arith in ap (λ w. has_bit w n) none ∙ ap (λ b. eqb b 1) (bit_at-zero n)
@@ -80,10 +78,6 @@ no-items found items b is test yes_ = sym is ∙ nil_from_length found (let none
 copied : (k : Key) → mode_or_copy [] k ≡ Share → ⊥
 unfolding mode_or_copy mode
 copied k is = cc
-
--- without items no value moves
-pub none-needed : (w : World) (c : Name) → needs_group w c [] ≡ false
-none-needed w c = not_needed w c [] (λ k inside shares. absurd (copied k shares))
 
 -- a filled slot of a place's own is not empty
 pub own-filled : (w : World) (n : ℕ) (cell : Cell Descriptor) → slots.is_common cell ≡ false → slots.is_filled cell ≡ true → false ≡ is_empty (value_of w (Slot n) cell)

@@ -9,7 +9,6 @@ use Rattle.std.specs.Option.{option_map}
 use Rattle.std.proofs.lemmas.Bool.{cases_lt, false≢true}
 use Rattle.lwc_types.specs.declared.right.Right.{Right}
 use Rattle.range_map.specs.Kinds.{kind_of, state_of}
-use Rattle.range_map.specs.declared.segment.PageState.{PageState}
 use Rattle.range_map.specs.declared.segment.SegmentKind.{SegmentKind}
 use Rattle.fd_table.specs.Slots.{is_common}
 use Rattle.lwc_base.specs.declared.cell.Cell.TheVariants.{Own, Common}
@@ -72,9 +71,6 @@ in-kind g (Common h) = refl
 pub kind-of-state : (kind : Option SegmentKind) (right : Right) → option_map (λ s. s.kind) (state_of kind right) ≡ kind
 kind-of-state None right = refl
 kind-of-state (Some kind) right = refl
-
-pub kinds-alike : (a b : Cell (Option PageValue)) (r q : Right) → state_of (kind_of a) r ≡ state_of (kind_of b) q → kind_of a ≡ kind_of b
-kinds-alike a b r q same = sym (kind-of-state (kind_of a) r) ∙ ap (option_map (λ (s : PageState). s.kind)) same ∙ kind-of-state (kind_of b) q
 
 -- a cell that is not common names none
 pub in-own : (g : Name) (cell : Cell Descriptor) → is_common cell ≡ false → is_in g cell ≡ false

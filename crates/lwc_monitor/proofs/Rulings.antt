@@ -7,20 +7,12 @@ use Rattle.guest_machine.specs.declared.progress.Next.TheVariants as next
 use Rattle.kernel_core.specs.Machine.{Environment}
 use Rattle.kernel_core.specs.Step.{Calls, next_outcome, shared_outcome}
 use Rattle.kernel_core.specs.declared.thread.Thread.{Thread}
-use Rattle.lwc_base.specs.World.{World}
-use Rattle.lwc_monitor.specs.Calls.{traps_after_call}
-use Rattle.lwc_monitor.specs.Steps.{call_in}
-use Rattle.lwc_monitor.specs.Traps.{Traps}
 
 -- an instruction that is no call is done in the same way under each table
 pub no_call : (first second : Calls) (t : ℕ) (e : Environment) (x : Thread) (i : Instr) (op : Op) → op ≢ Sys → shared_outcome first t e x i op ≡ shared_outcome second t e x i op
 unfolding shared_outcome
 no_call first second t e x i Sys other = absurd (other refl)
 no_call first second t e x i _ other = refl
-
-pub none_called : (traps : Traps) (w : World) (x : Thread) (i : Instr) (op : Op) → op ≢ Sys → traps_after_call traps w x (call_in op i.imm) ≡ traps
-none_called traps w x i Sys other = absurd (other refl)
-none_called traps w x i _ other = refl
 
 -- a call is what the table says of it
 pub a_call : (calls : Calls) (t : ℕ) (e : Environment) (x : Thread) (i : Instr) → i.op ≡ Sys → next_outcome calls t e x (next.Shared i) ≡ calls i.imm t e x

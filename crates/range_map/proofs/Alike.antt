@@ -58,12 +58,6 @@ pub find_alike : {X : Type 0} (from to : X → ℕ) (p edge q : ℕ) (xs : List 
 find_alike from to p edge q xs none low high =
     find_same (λ x. is_between (from x) (to x) q) (λ x. is_between (from x) (to x) p) xs (λ k d inside. (none k d inside).alike q low high)
 
--- the pages of a run have one state before the changes, and after them
-pub segments_alike : (segments : List Segment) (p edge q : ℕ) → All (λ s. HasNoEdge p edge s.from s.to) segments →
-    p ≤ q → q < edge → state_at segments q ≡ state_at segments p
-unfolding state_at
-segments_alike segments p edge q none low high = rw (find_alike (λ s. s.from) (λ s. s.to) p edge q segments none low high) refl
-
 pub run_alike : (changes : List Change) (segments : List Segment) (p edge q : ℕ) → state_at segments q ≡ state_at segments p →
     All (λ c. HasNoEdge p edge c.from c.to) changes → p ≤ q → q < edge → state_after changes segments q ≡ state_after changes segments p
 unfolding state_after
