@@ -1,10 +1,12 @@
 ghost use Rattle.std.specs.Prelude.{◌≡◌, ◌≢◌, ◌≤◌, ◌↔◌, ◌+◌, ◌<◌, ◌^◌, if◌then◌else◌, true, length, is_some};
-ghost use Rattle.std.specs.Prelude.{not, IfOk, IfSome, IsOk, OnErr, OnOk};
+ghost use Rattle.std.specs.Prelude.{not, unwrap_or, [], IfOk, IfSome, IsOk, OnErr, OnOk};
 ghost use Rattle.lwc_base.specs.Channels.{Channels, HasItsFiles, IsInRange};
 ghost use Rattle.lwc_base.specs.Lending.{descriptor_of};
+ghost use Rattle.lwc_base.specs.Memory.{bytes_for};
 ghost use Rattle.lwc_base.specs.Store as stores;
 ghost use Rattle.lwc_base.specs.World.{is_live};
 ghost use Rattle.lwc_types.specs.declared.name.Name as names;
+ghost use Rattle.lwc_types.specs.declared.limits.TheConstants.{MOST_BYTES_OF_CALL};
 ghost use Rattle.lwc_types.specs.declared.page.TheConstants.{PAGE_BYTES};
 ghost use Rattle.lwc_syscall.specs.Plain as spec;
 ghost use Rattle.world_face.specs.Calls.{IsLive, MayName};
@@ -17,6 +19,9 @@ use lwc_base::{
     Refusal, StoreFault,
 };
 use world_face::{World, bytes_for, is_within};
+
+/// How many bytes a write has at most that reads them into a short buffer, since a buffer is cleared first.
+const SHORT_WRITE_BYTES: usize = 64;
 
 /// Reads through the descriptor in slot `n`: at most `count` bytes go to the address `at`, for a job. The
 /// only error is out of memory, and then nothing has changed.
@@ -167,15 +172,58 @@ pub fn write<W: World>(
     if count > MOST_BYTES_OF_CALL as u64 {
         return CallAnswer::Refused(Refusal::TooLong);
     }
-    let mut buffer = [0; MOST_BYTES_OF_CALL];
-    let bytes = &mut buffer[..count as usize];
-    if !bytes_for(world, targets.memory, at, bytes) {
+    if count <= SHORT_WRITE_BYTES as u64 {
+        let mut buffer = [0; SHORT_WRITE_BYTES];
+        write_through(
+            world,
+            io,
+            value,
+            targets.memory,
+            at,
+            &mut buffer[..count as usize],
+        )
+    } else {
+        let mut buffer = [0; MOST_BYTES_OF_CALL];
+        write_through(
+            world,
+            io,
+            value,
+            targets.memory,
+            at,
+            &mut buffer[..count as usize],
+        )
+    }
+}
+
+/// Writes through a descriptor that can be written as many bytes from the address `at` as a buffer, into which
+/// they are read, has room for.
+fn write_through<W: World>(
+    world: &W,
+    io: &mut Channels,
+    value: Lent<'_>,
+    memory: Name,
+    at: u64,
+    buffer: &mut [u8],
+) -> CallAnswer
+    requires live { IsLive (W.seen world.now) memory }
+    requires range { IsInRange io.old (descriptor_of value) }
+    requires written { spec.is_written (descriptor_of value) ≡ true }
+    requires short { length buffer.old ≤ MOST_BYTES_OF_CALL }
+    ensures { let w = W.seen world.now in
+        let count = length buffer.old in
+        let value = descriptor_of value.entry in
+        let bytes = bytes_for w memory at count in
+        spec.ended w io.old (spec.write_refusals io.old value count bytes)
+        (spec.answering count w (spec.written io.old value (unwrap_or bytes [])))
+        ≡ record { answer = result; world = w; io = io.new } }
+{
+    if !bytes_for(world, memory, at, buffer) {
         return CallAnswer::Refused(Refusal::BadAddress);
     }
-    if !append(io, value, bytes) {
+    if !append(io, value, buffer) {
         return CallAnswer::Refused(Refusal::ReplyFull);
     }
-    CallAnswer::Value(count)
+    CallAnswer::Value(buffer.len() as u64)
 }
 
 /// Whether a descriptor can be written.
