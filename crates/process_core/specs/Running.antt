@@ -1,10 +1,11 @@
 -- What contracts see of a process and of its passes.
-use Rattle.std.specs.Prelude.{◌≡◌, ◌<◌, ◌≤◌, ℕ, Bool, List, All, Contains, Option, None, Some, length, map}
+use Rattle.std.specs.Prelude.{◌≡◌, ◌<◌, ◌≤◌, ◌+◌, ℕ, List, All, false, true, Contains, Option, None, Some, length, map}
 use Rattle.std.specs.Prelude.{slice_get, take}
 use Rattle.guest_isa.specs.declared.instr.Instr.{Instr}
 use Rattle.guest_machine.specs.Advances.{advanced}
 use Rattle.guest_machine.specs.declared.progress.Advance.{Advance}
-use Rattle.kernel_core.specs.Histories.{IsLegal, turn_after}
+use Rattle.kernel_core.specs.Histories.{GoesOn, IsLegal, turn_after}
+use Rattle.kernel_core.specs.Machine.{has_ended}
 use Rattle.kernel_core.specs.Start.{Inputs, start, thread_count}
 use Rattle.kernel_core.specs.declared.thread.Turn.{Turn}
 use Rattle.lwc_types.specs.Registers.{fresh_registers}
@@ -19,10 +20,10 @@ pub record Carried : Type 0 where
   pub held : Held Opened
   pub last : Turn
 
--- a stay inside the lock: whether the thread is inside, how many of its turns were made, and the places of proposals,
--- of which this many are of its turns
+-- the stays of a thread inside the lock: the most turns of each, how many of the present one were made, which is 0
+-- where the thread is outside, and the places of proposals, of which this many are of its first turns
 pub record Staying : Type 0 where
-  pub inside : Bool
+  pub turns : ℕ
   pub made : ℕ
   pub count : ℕ
   pub places : List Advance
@@ -51,6 +52,31 @@ pub record IsPassOf (process : Lock Opened) (p : Carried) : Type 0 where
   pub ours : gate.IsPassOf process p.held
   pub within : p.held.number < thread_count process.name.inputs
   pub leaves : Leaves process.name.inputs p.held.number p.held.seen p.last
+
+-- a turn of a pass: none where its last turn had ended its thread, and else one step of its thread after steps of
+-- others; it then has what the history that it has seen leaves of the thread
+pub record MakesTurn (process : Lock Opened) (old new : Carried) : Type 0 where
+  pub ours : IsPassOf process new
+  pub number : new.held.number ≡ old.held.number
+  pub legal : IsLegal (start process.name.inputs) new.held.seen
+  pub turn_is : turn_after process.name.inputs new.held.seen new.held.number ≡ Some new.last
+  pub rests : has_ended old.last.status ≡ true → new ≡ old
+  pub goes_on : has_ended old.last.status ≡ false → GoesOn old.held.number old.held.seen new.held.seen
+  pub later : has_ended old.last.status ≡ false → old.held.noted < length new.held.seen
+  pub noted : old.held.noted ≤ new.held.noted
+
+-- a thread that a turn left like this stays inside: the turn is counted, the stay may have more, and the turn has
+-- neither ended the thread nor finished a request
+pub record StaysInside (old new : Staying) (last : Turn) : Type 0 where
+  pub counted : new.made ≡ old.made + 1
+  pub few : new.made < old.turns
+  pub going : has_ended last.status ≡ false
+  pub unfinished : last.finished ≡ None
+
+-- a stay after a turn that left the thread like this: its proposals are what they were
+pub record NotesTurn (old new : Staying) (last : Turn) : Type 0 where
+  pub kept : new ≡ record old { made = new.made }
+  pub inside : 0 < new.made → StaysInside old new last
 
 -- the pass of this thread, as `open` gives it
 pub record IsNewPass (process : Lock Opened) (t : ℕ) (p : Carried) : Type 0 where

@@ -1,6 +1,6 @@
 //! A process, as its callers see it.
 ghost use Rattle.std.specs.Prelude.{◌≡◌, ◌<◌, ◌≤◌, ◌+◌, ℕ, [], ◌∷◌, ◌++◌, false, true, length, All};
-ghost use Rattle.std.specs.Prelude.{IfOk, IfSome, None, Some, slice_get};
+ghost use Rattle.std.specs.Prelude.{IfOk, IfSome, None, Some, option_map, option_to_list, slice_get};
 ghost use Rattle.guest_machine.specs.Advances.{advanced};
 ghost use Rattle.kernel_core.specs.Histories.{GoesOn, IsComplete, IsLegal, turn_after};
 ghost use Rattle.kernel_core.specs.Kernel as kernels;
@@ -8,7 +8,8 @@ ghost use Rattle.kernel_core.specs.Kernel.{machine_of};
 ghost use Rattle.kernel_core.specs.Machine.{has_ended, is_ended, work};
 ghost use Rattle.kernel_core.specs.Start.{start, thread_count};
 ghost use Rattle.lwc_types.specs.declared.fault.ThreadStatus.TheVariants.{Running};
-ghost use Rattle.process_core.specs.Running.{AreAdvances, AreAllOf, Carried, IsNewPass, IsPassOf, Leaves, offered};
+ghost use Rattle.process_core.specs.Running.{AreAdvances, AreAllOf, Carried, IsNewPass, IsPassOf, Leaves, MakesTurn};
+ghost use Rattle.process_core.specs.Running.{NotesTurn, offered};
 ghost use Rattle.turnstile.specs.Passes as gates;
 ghost use Rattle.turnstile.specs.Past.{Knows};
 
@@ -22,6 +23,7 @@ use kernel_core::{Kernel, Turn};
 use lwc_base::OutOfMemory;
 use std::alloc::Global;
 use std::marker::Model;
+use std::slice::from_ref;
 use std::sync::Wait;
 use turnstile::{Pass, Turnstile};
 use world_face::World;
@@ -50,19 +52,29 @@ impl<W: World> Model for Process<W> {
         × (p.gate.seats ≡ thread_count p.gate.name.inputs) × (p.threads ≡ thread_count p.gate.name.inputs) };
 }
 
+/// The proposal in a slice, if there is one.
+fn slice_of(proposal: Option<&Advance>) -> &[Advance]
+    ensures { result.now ≡ option_to_list (option_map (λ a. a.now) proposal.entry) }
+{
+    match proposal {
+        Some(advance) => from_ref(advance),
+        None => &[],
+    }
+}
+
 /// One step of the pass's thread, which its last turn had not ended. What it left is noted in the box.
 fn take_turn<R: Wait, W: World>(
     gate: &Turnstile<Guarded<W>>,
     rt: &R,
     pass: &mut Pass<Guarded<W>>,
-    stay: &Stay,
+    proposal: &[Advance],
     last: Box<Turn>,
 ) -> Box<Turn>
     requires ours { gates.IsPassOf gate.now pass.old }
     requires within { pass.old.number < thread_count gate.now.name.inputs }
     requires knows { Leaves gate.now.name.inputs pass.old.number pass.old.seen last.value }
     requires going { has_ended last.value.status ≡ false }
-    requires proposal { IfSome (offered stay.now) (λ a. a ≡ advanced gate.now.name.inputs.image.text a.before) }
+    requires proposal { AreAdvances gate.now.name.inputs.image.text proposal.now }
     ensures ours { gates.IsPassOf gate.now pass.new }
     ensures number { pass.new.number ≡ pass.old.number }
     ensures leaves { Leaves gate.now.name.inputs pass.new.number pass.new.seen result.value }
@@ -77,13 +89,12 @@ fn take_turn<R: Wait, W: World>(
         move |guarded: &mut Guarded<W>| -> Box<Turn>
             requires { (t < thread_count guarded.now.kernel.value.inputs)
                 × (is_ended (machine_of guarded.now.kernel.value) t ≡ false)
-                × IfSome (offered stay.now) (λ a. a
-                ≡ advanced guarded.now.kernel.value.inputs.image.text a.before) }
+                × AreAdvances guarded.now.kernel.value.inputs.image.text proposal.now }
             ensures { (guarded.exit.now.kernel.value.inputs ≡ guarded.entry.now.kernel.value.inputs)
                 × (guarded.exit.now.first_room ≡ guarded.entry.now.first_room)
                 × (guarded.exit.now.kernel.value.steps ≡ guarded.entry.now.kernel.value.steps ++ t ∷ [])
                 × (kernels.turn guarded.exit.now.kernel.value t ≡ Some result.value) }
-        { guarded.make_step(t, stay.proposal(), last) },
+        { guarded.make_step(t, proposal.first(), last) },
     )
 }
 
@@ -134,13 +145,16 @@ impl<W: World> Process<W> {
     /// Prepares a stay of the pass's thread, unless it is inside: the proposal of its next turn is the advance of the
     /// registers that the last turn left. A thread that is alone proposes nothing, since nobody waits while it advances
     /// in its turn. It waits for nobody, and takes no memory.
+    #[inline(always)]
     pub fn propose(&self, pass: &ProcessPass<W>, stay: &mut Stay)
         requires fits { AreAdvances self.now.name.inputs.image.text stay.old.places }
-        ensures inside { stay.new.inside ≡ stay.old.inside }
-        ensures others { 1 < thread_count self.now.name.inputs → stay.old.inside ≡ false →
+        ensures turns { stay.new.turns ≡ stay.old.turns }
+        ensures made { stay.new.made ≡ stay.old.made }
+        ensures kept { 0 < stay.old.made → stay.new ≡ stay.old }
+        ensures others { stay.old.made ≡ 0 → 1 < thread_count self.now.name.inputs →
             pass.now.last.status ≡ Running →
             offered stay.new ≡ Some (advanced self.now.name.inputs.image.text pass.now.last.regs) }
-        ensures alone { thread_count self.now.name.inputs ≡ 1 → stay.old.inside ≡ false → offered stay.new ≡ None }
+        ensures alone { stay.old.made ≡ 0 → thread_count self.now.name.inputs ≡ 1 → offered stay.new ≡ None }
         ensures fits { AreAdvances self.now.name.inputs.image.text stay.new.places }
     {
         if stay.is_inside() {
@@ -168,71 +182,53 @@ impl<W: World> Process<W> {
     ) -> Turn
         requires ours { IsPassOf self.now pass.old }
         requires proposal { IfSome proposal (λ a. a.now ≡ advanced self.now.name.inputs.image.text a.now.before) }
-        ensures ours { IsPassOf self.now pass.new }
-        ensures number { pass.new.held.number ≡ pass.old.held.number }
-        ensures legal { IsLegal (start self.now.name.inputs) pass.new.held.seen }
-        ensures turn { turn_after self.now.name.inputs pass.new.held.seen pass.new.held.number ≡ Some result }
+        ensures makes { MakesTurn self.now pass.old pass.new }
         ensures last { pass.new.last ≡ result }
-        ensures rests { has_ended pass.old.last.status ≡ true → pass.new ≡ pass.old }
-        ensures goes_on { has_ended pass.old.last.status ≡ false →
-            GoesOn pass.old.held.number pass.old.held.seen pass.new.held.seen }
-        ensures later { has_ended pass.old.last.status ≡ false →
-            pass.old.held.noted < length pass.new.held.seen }
-        ensures noted { pass.old.held.noted ≤ pass.new.held.noted }
     {
-        self.gate.door().enter(rt);
-        self.turn_inside(rt, pass, &Stay::of(proposal));
-        self.gate.door().leave();
+        if !pass.last().has_ended() {
+            self.gate.door().enter(rt);
+            self.turn_inside(rt, pass, proposal);
+            self.gate.door().leave();
+        }
         pass.last().same()
     }
 
     /// Makes the same turn as the next one of a stay: where the thread is not inside it comes in first, and where the
-    /// stay is over it goes out. It answers nothing, since the pass then has the turn as its last one.
+    /// stay is over it goes out. It answers nothing, since the pass then has the turn as its last one. Whoever stops
+    /// inside a stay keeps the others out.
+    #[inline(always)]
     pub fn make_turn<R: Wait>(&self, rt: &R, pass: &mut ProcessPass<W>, stay: &mut Stay)
         requires ours { IsPassOf self.now pass.old }
         requires fits { AreAdvances self.now.name.inputs.image.text stay.old.places }
-        ensures ours { IsPassOf self.now pass.new }
-        ensures number { pass.new.held.number ≡ pass.old.held.number }
-        ensures legal { IsLegal (start self.now.name.inputs) pass.new.held.seen }
-        ensures turn { turn_after self.now.name.inputs pass.new.held.seen pass.new.held.number ≡ Some pass.new.last }
-        ensures rests { has_ended pass.old.last.status ≡ true → pass.new ≡ pass.old }
-        ensures goes_on { has_ended pass.old.last.status ≡ false →
-            GoesOn pass.old.held.number pass.old.held.seen pass.new.held.seen }
-        ensures later { has_ended pass.old.last.status ≡ false →
-            pass.old.held.noted < length pass.new.held.seen }
-        ensures noted { pass.old.held.noted ≤ pass.new.held.noted }
+        ensures makes { MakesTurn self.now pass.old pass.new }
+        ensures notes { NotesTurn stay.old stay.new pass.new.last }
         ensures fits { AreAdvances self.now.name.inputs.image.text stay.new.places }
     {
         if !stay.is_inside() {
+            if pass.last().has_ended() {
+                return;
+            }
             self.gate.door().enter(rt);
         }
-        self.turn_inside(rt, pass, stay);
-        if !stay.goes_on(pass.last()) {
+        self.turn_inside(rt, pass, stay.proposal());
+        if !stay.goes_on(&self.text, pass.last(), self.threads == 1) {
             self.gate.door().leave();
         }
     }
 
     /// Makes the same turn for a thread that is inside.
     #[inline(always)]
-    fn turn_inside<R: Wait>(&self, rt: &R, pass: &mut ProcessPass<W>, stay: &Stay)
+    fn turn_inside<R: Wait>(&self, rt: &R, pass: &mut ProcessPass<W>, proposal: Option<&Advance>)
         requires ours { IsPassOf self.now pass.old }
-        requires proposal { IfSome (offered stay.now) (λ a. a ≡ advanced self.now.name.inputs.image.text a.before) }
-        ensures ours { IsPassOf self.now pass.new }
-        ensures number { pass.new.held.number ≡ pass.old.held.number }
-        ensures legal { IsLegal (start self.now.name.inputs) pass.new.held.seen }
-        ensures turn { turn_after self.now.name.inputs pass.new.held.seen pass.new.held.number ≡ Some pass.new.last }
-        ensures rests { has_ended pass.old.last.status ≡ true → pass.new ≡ pass.old }
-        ensures goes_on { has_ended pass.old.last.status ≡ false →
-            GoesOn pass.old.held.number pass.old.held.seen pass.new.held.seen }
-        ensures later { has_ended pass.old.last.status ≡ false →
-            pass.old.held.noted < length pass.new.held.seen }
-        ensures noted { pass.old.held.noted ≤ pass.new.held.noted }
+        requires proposal { IfSome proposal (λ a. a.now ≡ advanced self.now.name.inputs.image.text a.now.before) }
+        ensures makes { MakesTurn self.now pass.old pass.new }
     {
         if pass.last().has_ended() {
             return;
         }
         if let Some(last) = pass.last.take() {
-            *pass.last = Some(take_turn(&self.gate, rt, &mut pass.pass, stay, last));
+            let left = take_turn(&self.gate, rt, &mut pass.pass, slice_of(proposal), last);
+            *pass.last = Some(left);
         }
     }
 

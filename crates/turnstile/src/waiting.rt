@@ -4,18 +4,18 @@
 //!
 //! The door is a mutex of one word. All accesses are sequentially consistent.
 //!
-//! - A thread tries a few times to take a free door, with a pause between that doubles, since each look at the word
-//!   takes it away from the processor of the thread that is through. Then it sleeps for a while, looks, and so on.
-//!   Each sleep ends by itself: nobody has to wake it, and no wake-up can be lost.
+//! - A thread tries to take a free door for about half as long as a sleep takes, and lets other threads have its
+//!   processor after each try. Then it sleeps for a while, looks, and so on. Each sleep ends by itself: nobody has to
+//!   wake it, and no wake-up can be lost.
 //! - A thread that has slept often asks for the door. Whoever leaves it then hands it over: only a thread that has
 //!   slept may take it. So the one that leaves it does not come first, unless it has slept by then, too.
 //!
 //! No clause speaks of any of this: the door is no part of the rule, and the queue guards the state whatever
 //! the door does.
 
-use std::hint::spin_loop;
 use std::sync::Wait;
 use std::sync::atomic::{AtomicU64, Ordering};
+use std::thread::yield_now;
 use std::time::Duration;
 
 /// Nobody is through the door.
@@ -31,7 +31,7 @@ const TAKEN: u64 = 2;
 const ASKED: u64 = 3;
 
 /// How many times a thread tries before it sleeps.
-const TRIES: u32 = 6;
+const TRIES: u32 = 100;
 
 /// How long a thread sleeps between two looks, in microseconds.
 const NAP: u64 = 50;
@@ -43,13 +43,6 @@ const NAPS: u32 = 8;
 #[derive(Drop)]
 pub struct Door {
     word: AtomicU64,
-}
-
-/// Pauses this many times.
-fn pause(times: u32) {
-    for _ in 0..times {
-        spin_loop();
-    }
 }
 
 /// Sleeps for a while: nobody wakes who sleeps on this word. It may wait.
@@ -76,15 +69,13 @@ impl Door {
                 .is_ok()
     }
 
-    /// Takes the door by one of a few tries, with a pause after each that doubles.
+    /// Takes the door by one of several tries. After each other threads may have the processor.
     fn try_often(&self, most: u64) -> bool {
-        let mut pauses = 1u32;
         for _ in 0..TRIES {
             if self.try_take(most) {
                 return true;
             }
-            pause(pauses);
-            pauses = pauses.saturating_mul(2);
+            yield_now();
         }
         false
     }

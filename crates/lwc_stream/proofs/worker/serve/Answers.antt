@@ -23,18 +23,18 @@ turns-init g c = record {
 pub turns-preserved : goal.turns-preserved
 turns-preserved g c =
     let going : has_ended c.turns.worker.pass.last.status ≡ false = search rules in
-    let on = c.make_turn.ensures.goes_on going in
-    let same = c.make_turn.ensures.number in
+    let on = c.make_turn.ensures.makes.goes_on going in
+    let same = c.make_turn.ensures.makes.number in
     let inputs = c.args.process.now.name.inputs in
     let p = c.turns.worker.pass in
     let q = c.make_turn.new.pass in
     let kept = c.hand_on.ensures.pass in record {
-      ours = subst (IsPassOf c.args.process.now) (sym kept) c.make_turn.ensures.ours;
+      ours = subst (IsPassOf c.args.process.now) (sym kept) c.make_turn.ensures.makes.ours;
       number = ap (λ (r : Carried). r.held.number) kept ∙ (same ∙ c.turns.invariant.number);
       queue = ap (λ (e : End). e.queue) c.hand_on.ensures.puts ∙ c.turns.invariant.queue;
       put = ap (λ (e : End). e.values) c.hand_on.ensures.puts
           ∙ (ap (λ (l : List Finished). l ++ replies_of q.last.finished) c.turns.invariant.put
-          ∙ (sym (one_turn_more inputs p q same on c.make_turn.ensures.turn) ∙ ap (finished_by inputs) (sym kept)));
+          ∙ (sym (one_turn_more inputs p q same on c.make_turn.ensures.makes.turn_is) ∙ ap (finished_by inputs) (sym kept)));
       fits = c.make_turn.ensures.fits;
       few = omega (arith, longer _ _ _ on, c.turns.invariant.few, ap (λ (r : Carried). length r.held.seen) kept);
     }

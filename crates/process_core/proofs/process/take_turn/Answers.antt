@@ -1,11 +1,10 @@
 use Rattle.process_core.proofs.Sends.{guarded_send, guarded_sync}
 use Rattle.std.proofs.Crossing.{crosses}
 use denote.Param.Send.{sendable}
-use Rattle.std.proofs.Common.{◌≡◌, ◌∙◌, ◌++◌, ◌∷◌, [], ap, sym, subst, arith, IfSome, ℕ}
-use Rattle.guest_machine.specs.Advances.{advanced}
+use Rattle.std.proofs.Common.{◌≡◌, ◌∙◌, ◌++◌, ◌∷◌, [], ap, sym, subst, arith, ℕ}
 use Rattle.kernel_core.specs.Kernel.{History}
 use Rattle.process_core.proofs.Due.{after_turn, named, ready}
-use Rattle.process_core.specs.Running.{Leaves, offered}
+use Rattle.process_core.specs.Running.{AreAdvances, Leaves}
 use Rattle.process_core.specs.declared.opened.Opened.{Opened}
 use Rattle.turnstile.specs.Past.{Knows}
 use Rattle.process_core.proofs.process.take_turn.Goals as goal
@@ -27,7 +26,7 @@ turn_inside-requires-clause-callable g c κs lives x due p is =
     let e : p.now.kernel.value ≡ x.kernel.value = cc in
     let s = c.type_bounds.send-W in
     let y = c.type_bounds.sync-W in (
-      ready p.now.kernel.value c.args.gate.now.name.inputs c.args.pass.now.seen c.args.pass.now.number c.number-t.result c.args.last.value (λ i. IfSome (offered c.args.stay.now) (λ a. a ≡ advanced i.image.text a.before))
+      ready p.now.kernel.value c.args.gate.now.name.inputs c.args.pass.now.seen c.args.pass.now.number c.number-t.result c.args.last.value (λ i. AreAdvances i.image.text c.args.proposal.now)
           (ap (λ (h : History). h.inputs) e ∙ ap (λ (o : Opened). o.inputs) due.0) (subst (λ (h : History). Knows h.steps c.args.pass.now.number c.args.pass.now.seen) (sym e) due.1)
           c.requires.knows c.requires.going c.requires.within c.requires.proposal c.number-t.ensures,
       (search (sendable, crosses, guarded_send, guarded_sync) depth 80 fits 20000, search (sendable, crosses, guarded_send, guarded_sync) depth 80 fits 20000),

@@ -17,10 +17,10 @@ turns-init g c = record {
 pub turns-preserved : goal.turns-preserved
 turns-preserved g c =
     let going : has_ended c.turns.carrier.pass.last.status ≡ false = search rules in
-    let on = c.make_turn.ensures.goes_on going in
+    let on = c.make_turn.ensures.makes.goes_on going in
     record {
-      ours = c.make_turn.ensures.ours;
-      number = c.make_turn.ensures.number ∙ c.turns.invariant.number;
+      ours = c.make_turn.ensures.makes.ours;
+      number = c.make_turn.ensures.makes.number ∙ c.turns.invariant.number;
       turned = one_turn_more c.args.carrier.now.pass c.turns.carrier.pass c.make_turn.new.pass c.args.carrier.now.turns c.turns.carrier.turns c.turns.invariant.turned c.turns.invariant.number on;
       fits = c.make_turn.ensures.fits;
       few = omega (arith, longer _ _ _ on, c.turns.invariant.few);

@@ -2,8 +2,9 @@ use Rattle.process_core.proofs.Sends.{guarded_send, guarded_sync}
 use Rattle.std.proofs.Crossing.{crosses}
 use denote.Param.Send.{sendable}
 use Rattle.guest_machine.specs.Advances.{advanced}
-use Rattle.std.proofs.Common.{◌≡◌}
-use Rattle.process_core.proofs.Offered.{offered_holds}
+use Rattle.guest_machine.specs.declared.progress.Advance.{Advance}
+use Rattle.std.proofs.Common.{rules, ◌≡◌, refl, arith}
+use Rattle.process_core.proofs.Offered.{offered_holds, shown_holds}
 use Rattle.process_core.proofs.process.Process.make_turn.Goals as goal
 
 pub door-requires-send-S : goal.door-requires-send-S
@@ -21,4 +22,10 @@ door-requires-then-not-goes_on-sync-S g c κs within = let s = c.type_bounds.syn
 pub turn_inside-requires-clause-proposal : goal.turn_inside-requires-clause-proposal
 turn_inside-requires-clause-proposal g c κs within =
     let s = c.args.stay.now in
-    offered_holds (λ a. a ≡ advanced c.args.self.now.name.inputs.image.text a.before) s.places s.count s.made c.requires.fits
+    let P = λ (a : Advance). a ≡ advanced c.args.self.now.name.inputs.image.text a.before in
+    shown_holds P (λ a. a.now) c.proposal.result _ c.proposal.ensures (offered_holds P s.places s.count s.made c.requires.fits)
+
+pub returns-then-has_ended-clause-notes : goal.returns-then-has_ended-clause-notes
+returns-then-has_ended-clause-notes g c =
+    let none : c.args.stay.now.made ≡ 0 = c.is_inside.ensures.outside (search rules) in
+    record { kept = refl; inside = λ some. absurd (omega (arith, none, some)) }
