@@ -51,7 +51,7 @@ impl Model for NodePool {
 
 impl NodePool {
     ghost use Rattle.node_pool.specs.Nodes.{count_of, level_of, entry_of, recount, enter, free_of};
-    ghost use Rattle.node_pool.specs.Nodes.{empty_node, next_step};
+    ghost use Rattle.node_pool.specs.Nodes.{empty_node, next_step, node_at};
 
     /// A pool of this many nodes, all free. The only error is out of memory.
     pub fn open(alloc: Global, nodes: u32) -> Result<NodePool, OutOfMemory>
@@ -128,6 +128,14 @@ impl NodePool {
         } else {
             0
         }
+    }
+
+    /// The entries of a held node, copied.
+    pub fn entries(&self, node: NodeNo) -> [u32; NODE_ENTRIES]
+        requires { 0 < count_of self.now.all node.n }
+        ensures { result ≡ (node_at self.now.all node.n).entries }
+    {
+        self.contents[node.n as usize].entries
     }
 
     /// Writes one entry of a node that is held once.

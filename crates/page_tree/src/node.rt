@@ -124,8 +124,10 @@ impl Store {
             ≤ self.old.nodes.steps + entries_in level * most_nodes (level - 1) }
     {
         if self.nodes.count(node) == 1 {
+            let links = self.nodes.entries(node);
             'entries: for i in 0..NODE_ENTRIES {
-                if self.nodes.entry(node, i) != 0 {
+                let link = links[i];
+                if link != 0 {
                     self.put(node, i, 0, level);
                 }
             }
@@ -248,8 +250,9 @@ impl Store {
         ensures cost { self.new.nodes.steps ≤ self.old.nodes.steps + entries_in level }
         ensures cost_leaf { level ≡ LEAF_LEVEL → self.new.nodes.steps ≡ self.old.nodes.steps }
     {
+        let links = self.nodes.entries(node);
         'entries: for i in 0..NODE_ENTRIES {
-            let link = self.nodes.entry(node, i);
+            let link = links[i];
             if link != 0 {
                 self.put(copy, i, link, level);
             }

@@ -1,4 +1,4 @@
-use Rattle.std.proofs.Common.{◌≡◌, ◌+◌, ◌-◌, ◌<◌, ◌≤◌, ⊎_elim, ap, refl, sym, subst, ◌∙◌, arith}
+use Rattle.std.proofs.Common.{◌≡◌, ◌+◌, ◌-◌, ◌<◌, ◌≤◌, ⊎_elim, ap, get_or, refl, sym, subst, ◌∙◌, arith}
 use Rattle.std.proofs.lemmas.Bool.{cases_eq}
 use Rattle.node_pool.specs.Nodes.{entry_of, count_of}
 use Rattle.page_tree.specs.Sound.{is_root}
@@ -12,14 +12,14 @@ use Rattle.page_tree.proofs.LoneLemmas.{lone-given, lone-same, lone-trans}
 use Rattle.page_tree.proofs.LoneNodes.{lone-put, rest-put}
 use Rattle.page_tree.proofs.RangeShort.{range-none}
 use Rattle.page_tree.proofs.CostLemmas.{more-steps, most-step, unused}
-use Rattle.page_tree.proofs.store.Store.+parts.Goals.{empty-then-entry-ne0, empty-else-entry-ne0}
+use Rattle.page_tree.proofs.store.Store.+parts.Goals.{empty-then-link-ne0, empty-else-link-ne0}
 use Rattle.page_tree.proofs.store.Store.+parts.Goals as goal
 
 pub empty-count-requires : goal.empty-count-requires
 empty-count-requires t c = inside-count _ c.args.node.n (let l = (c.requires.loose c.args.node.n refl).1 in omega (arith, l))
 
-pub empty-entry-requires-clause-node : goal.empty-entry-requires-clause-node
-empty-entry-requires-clause-node t c = inside-count _ c.args.node.n (let once = c.entries.invariant.own.once in omega (arith, once))
+pub empty-entries-links-requires : goal.empty-entries-links-requires
+empty-entries-links-requires t c = let l = (c.requires.loose c.args.node.n refl).1 in omega (arith, l)
 
 pub empty-entries-init : goal.empty-entries-init
 empty-entries-init t c =
@@ -28,6 +28,7 @@ empty-entries-init t c =
       own = own-loose _ c.args.level c.args.node.n c.requires.loose (sym c.count.ensures ∙ c.if-count-eq1.true);
       moves = Moves-refl _ _ _ _;
       done = λ k lt. absurd (omega (arith, lt));
+      rest = λ k past. refl;
       free = omega arith;
       lone = lone-same _ _ _ _ (λ x. refl);
       cost = omega arith;
@@ -39,25 +40,29 @@ empty-returns-else-count-eq1-clause-lone t c = lone-same _ _ _ _ (λ x. refl)
 pub empty-entries-preserved : goal.empty-entries-preserved
 empty-entries-preserved t c =
     let inv = c.entries.invariant in
-    let narrow : c.args.level ≡ 3 → 16 ≤ c.entries.i → c.entry.result ≡ 0 = λ top past. c.entry.ensures ∙ inv.sound.narrow c.args.node.n c.entries.i (inv.own.level_is ∙ top) past in
-    elim c.if-entry-ne0.branch [
-      | empty-then-entry-ne0 w ↦
+    let link = get_or c.entries-links.result c.entries.i 0 in
+    let link-now : entry_of c.entries.self.nodes.all c.args.node.n c.entries.i ≡ link = inv.rest c.entries.i (omega arith) ∙ sym (ap (λ links. get_or links c.entries.i 0) c.entries-links.ensures) in
+    let narrow : c.args.level ≡ 3 → 16 ≤ c.entries.i → link ≡ 0 = λ top past. sym link-now ∙ inv.sound.narrow c.args.node.n c.entries.i (inv.own.level_is ∙ top) past in
+    elim c.if-link-ne0.branch [
+      | empty-then-link-ne0 w ↦
           let put = w.put.ensures in
           rw (w.self-is) (record {
             sound = put.sound;
             own = put.own;
             moves = Moves-trans _ _ _ _ _ _ _ _ _ _ _ c.requires.sound inv.moves put.moves;
             done = λ k lt. ⊎_elim (λ is. ap (entry_of w.put.new.self.nodes.all c.args.node.n) is ∙ put.here) (λ off. put.others k off ∙ inv.done k (omega (arith, lt, off))) (cases_eq k c.entries.i);
+            rest = λ k past. put.others k (λ is. absurd (omega (arith, is, past))) ∙ inv.rest k (omega (arith, past));
             free = omega (arith, inv.free, put.free);
             lone = lone-trans _ _ _ _ _ _ _ (is_root (c.args.node.n + 1)) (is_root (c.args.node.n + 1)) none_shared _ c.requires.sound inv.moves inv.lone put.lone (λ t m _ _ shared. absurd (omega (arith, shared.1)));
-            cost = more-steps c.entries.i (entries_in c.args.level) (most_nodes (c.args.level - 1)) c.args.self.now.nodes.steps c.entries.self.nodes.steps w.put.new.self.nodes.steps inv.cost (put.cost_none refl) (λ past. absurd (w.if-entry-ne0.true (unused c.args.level c.entries.i c.entry.result narrow (omega (arith, c.entries-test.true)) past)));
+            cost = more-steps c.entries.i (entries_in c.args.level) (most_nodes (c.args.level - 1)) c.args.self.now.nodes.steps c.entries.self.nodes.steps w.put.new.self.nodes.steps inv.cost (put.cost_none refl) (λ past. absurd (w.if-link-ne0.true (unused c.args.level c.entries.i link narrow (omega (arith, c.entries-test.true)) past)));
           })
-      | empty-else-entry-ne0 w ↦
+      | empty-else-link-ne0 w ↦
           rw (w.self-is) (record {
             sound = inv.sound;
             own = inv.own;
             moves = inv.moves;
-            done = λ k lt. ⊎_elim (λ is. ap (entry_of c.entries.self.nodes.all c.args.node.n) is ∙ sym c.entry.ensures ∙ w.if-entry-ne0.false) (λ off. inv.done k (omega (arith, lt, off))) (cases_eq k c.entries.i);
+            done = λ k lt. ⊎_elim (λ is. ap (entry_of c.entries.self.nodes.all c.args.node.n) is ∙ link-now ∙ w.if-link-ne0.false) (λ off. inv.done k (omega (arith, lt, off))) (cases_eq k c.entries.i);
+            rest = λ k past. inv.rest k (omega (arith, past));
             free = inv.free;
             lone = inv.lone;
             cost = more-steps c.entries.i (entries_in c.args.level) (most_nodes (c.args.level - 1)) c.args.self.now.nodes.steps c.entries.self.nodes.steps c.entries.self.nodes.steps inv.cost (omega arith) (λ past. refl);

@@ -21,6 +21,7 @@ invariant-empty-entries l =
       own : IsOwned l.self.nodes.all l.level l.node.n;
       moves : Moves l.level l.initial.self.nodes.all l.self.nodes.all l.initial.self.frames l.self.frames (is_root (l.node.n + 1)) (is_root (l.node.n + 1));
       done : (k : ℕ) → k < l.i → entry_of l.self.nodes.all l.node.n k ≡ 0;
+      rest : (k : ℕ) → l.i ≤ k → entry_of l.self.nodes.all l.node.n k ≡ entry_of l.initial.self.nodes.all l.node.n k;
       free : free_of l.initial.self.nodes.all ≤ free_of l.self.nodes.all;
       lone : KeepsLone l.initial.self.nodes.all l.self.nodes.all (is_root (l.node.n + 1)) none_shared;
       cost : l.self.nodes.steps ≤ l.initial.self.nodes.steps + min l.i (entries_in l.level) * most_nodes (l.level - 1);

@@ -1,7 +1,6 @@
 use Rattle.std.proofs.Common.{◌≡◌, ◌+◌, ◌≤◌, ◌<◌, ⊎_elim, ap, refl, sym, get_or, ◌∙◌, arith}
 use Rattle.std.proofs.lemmas.Bool.{cases_eq}
 use Rattle.node_pool.specs.Nodes.{entry_of, level_of}
-use Rattle.page_tree.proofs.UsesLemmas.{inside-count}
 use Rattle.page_tree.proofs.EnterLemmas.{named-held}
 use Rattle.page_tree.proofs.MoveLemmas.{Moves-refl, Moves-trans}
 use Rattle.page_tree.specs.Costs.{entries_in}
@@ -12,18 +11,16 @@ use Rattle.page_tree.proofs.CostLemmas.{more-steps, unused}
 use Rattle.page_tree.proofs.store.Store.fill.Goals.{then-link-ne0, else-link-ne0}
 use Rattle.page_tree.proofs.store.Store.fill.Goals as goal
 
-pub entry-link-requires-clause-node : goal.entry-link-requires-clause-node
-entry-link-requires-clause-node c =
-    let loose = c.requires.loose c.args.node.n refl in
-    let in_old = inside-count c.args.self.now.nodes.all c.args.node.n (omega (arith, loose.1)) in
-    omega (arith, in_old, c.entries.invariant.moves.size)
+pub entries-links-requires : goal.entries-links-requires
+entries-links-requires c = let l = (c.requires.loose c.args.node.n refl).1 in omega (arith, l)
 
 pub put-requires-clause-cell : goal.put-requires-clause-cell
 put-requires-clause-cell c = λ leaf f is.
     let inv = c.entries.invariant in
     let loose = c.requires.loose c.args.node.n refl in
     let l = ap (λ y. y.level) inv.peer in
-    named-held c.args.level c.entries.self.nodes.all c.entries.self.frames c.args.node.n c.entries.i f inv.sound (omega (arith, l, loose.0, leaf)) (sym c.entry-link.ensures ∙ is)
+    let link-now = ap (λ y. get_or y.entries c.entries.i 0) inv.peer ∙ sym (ap (λ links. get_or links c.entries.i 0) c.entries-links.ensures) in
+    named-held c.args.level c.entries.self.nodes.all c.entries.self.frames c.args.node.n c.entries.i f inv.sound (omega (arith, l, loose.0, leaf)) (link-now ∙ is)
 
 pub put-requires-clause-held : goal.put-requires-clause-held
 put-requires-clause-held c = λ up m is.
@@ -31,7 +28,7 @@ put-requires-clause-held c = λ up m is.
     let loose = c.requires.loose c.args.node.n refl in
     let l = ap (λ y. y.level) inv.peer in
     let high : 1 < level_of c.entries.self.nodes.all c.args.node.n = omega (arith, l, loose.0, up) in
-    let e = sym c.entry-link.ensures ∙ is in
+    let e = ap (λ y. get_or y.entries c.entries.i 0) inv.peer ∙ sym (ap (λ links. get_or links c.entries.i 0) c.entries-links.ensures) ∙ is in
     let next = inv.sound.below c.args.node.n c.entries.i m high e in
     (omega (arith, next, l, loose.0), inv.sound.held c.args.node.n c.entries.i m high e)
 
@@ -58,8 +55,9 @@ entries-preserved c =
     let none = inv.rest c.entries.i (omega arith) in
     let count_is = ap (λ y. y.count) inv.peer in
     let level_is = ap (λ y. y.level) inv.peer in
-    let there = c.entry-link.ensures ∙ ap (λ y. get_or y.entries c.entries.i 0) inv.peer in
-    let narrow : c.args.level ≡ 3 → 16 ≤ c.entries.i → c.entry-link.result ≡ 0 = λ top past. c.entry-link.ensures ∙ inv.sound.narrow c.args.node.n c.entries.i (level_is ∙ loose.0 ∙ top) past in
+    let there = ap (λ links. get_or links c.entries.i 0) c.entries-links.ensures in
+    let link-now = ap (λ y. get_or y.entries c.entries.i 0) inv.peer ∙ sym there in
+    let narrow : c.args.level ≡ 3 → 16 ≤ c.entries.i → get_or c.entries-links.result c.entries.i 0 ≡ 0 = λ top past. sym link-now ∙ inv.sound.narrow c.args.node.n c.entries.i (level_is ∙ loose.0 ∙ top) past in
     elim c.if-link-ne0.branch [
       | then-link-ne0 w ↦
           let put = w.put.ensures in
@@ -79,8 +77,8 @@ entries-preserved c =
             free = omega (arith, inv.free, put.free);
             grows = λ f. let a = inv.grows f in let b = grows f in omega (arith, a, b);
             lone = lone-trans _ _ _ c.entries.self.nodes.all _ _ _ (is_root (c.args.copy.n + 1)) (is_root (c.args.copy.n + 1)) none_shared _ c.requires.sound inv.moves inv.lone put.lone
-                (λ t m other way shared. c.requires.shared (sym count_is ∙ lone-leader c.args.level c.entries.self.nodes.all _ (is_root (c.args.copy.n + 1)) t c.args.node.n c.entries.i m inv.sound other way (omega (arith, level_is, loose.0, shared.0)) (sym c.entry-link.ensures ∙ shared.1)));
-            cost = more-steps c.entries.i (entries_in c.args.level) 1 c.args.self.now.nodes.steps c.entries.self.nodes.steps w.put.new.self.nodes.steps inv.cost (omega (arith, cost)) (λ past. absurd (w.if-link-ne0.true (unused c.args.level c.entries.i c.entry-link.result narrow (omega (arith, c.entries-test.true)) past)));
+                (λ t m other way shared. c.requires.shared (sym count_is ∙ lone-leader c.args.level c.entries.self.nodes.all _ (is_root (c.args.copy.n + 1)) t c.args.node.n c.entries.i m inv.sound other way (omega (arith, level_is, loose.0, shared.0)) (link-now ∙ shared.1)));
+            cost = more-steps c.entries.i (entries_in c.args.level) 1 c.args.self.now.nodes.steps c.entries.self.nodes.steps w.put.new.self.nodes.steps inv.cost (omega (arith, cost)) (λ past. absurd (w.if-link-ne0.true (unused c.args.level c.entries.i (get_or c.entries-links.result c.entries.i 0) narrow (omega (arith, c.entries-test.true)) past)));
             cost_leaf = λ leaf. let a = inv.cost_leaf leaf in let b = put.cost_leaf leaf in omega (arith, a, b);
           })
       | else-link-ne0 w ↦

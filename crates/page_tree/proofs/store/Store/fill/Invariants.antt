@@ -12,9 +12,9 @@ invariant-entries l =
       sound : IsSoundTo l.level l.self.nodes.all l.self.frames;
       own : IsOwned l.self.nodes.all l.level l.copy.n;
       moves : Moves l.level l.initial.self.nodes.all l.self.nodes.all l.initial.self.frames l.self.frames (is_root (l.copy.n + 1)) (is_root (l.copy.n + 1));
-      done : (k : ℕ) → k < l.i → entry_of l.self.nodes.all l.copy.n k ≡ entry_of l.initial.self.nodes.all l.node.n k;
+      done : (k : ℕ) → k < l.i → entry_of l.self.nodes.all l.copy.n k ≡ entry_of l.initial.self.nodes.all l.fn.node.n k;
       rest : (k : ℕ) → l.i ≤ k → entry_of l.self.nodes.all l.copy.n k ≡ 0;
-      peer : node_at l.self.nodes.all l.node.n ≡ node_at l.initial.self.nodes.all l.node.n;
+      peer : node_at l.self.nodes.all l.fn.node.n ≡ node_at l.initial.self.nodes.all l.fn.node.n;
       free : free_of l.initial.self.nodes.all ≤ free_of l.self.nodes.all;
       grows : (f : ℕ) → frame_count l.initial.self.frames f ≤ frame_count l.self.frames f;
       lone : KeepsLone l.initial.self.nodes.all l.self.nodes.all (is_root (l.copy.n + 1)) none_shared;
