@@ -149,6 +149,11 @@ impl CaseGate {
 }
 
 impl Gate for CaseGate {
+    /// Only a gate that holds a thread may wait. The turns at others are made in stays of several.
+    fn may_wait(&self) -> bool {
+        self.hold.is_some()
+    }
+
     /// Notes who comes, and the second turn of the thread that is awaited, and holds the first turn of the one that is
     /// held.
     fn before<R: Wait>(&self, _rt: &R, thread: u32, turn: u64) {
