@@ -197,7 +197,7 @@ impl PageCells {
             (states_of (place_of (cells self.old) from) (rights_of (rights self.old) from))) }
     {
         let some = has_own_page(&self.kinds[from]);
-        self.kinds[to] = self.kinds[from].copy();
+        self.kinds.copy(to, from);
         if some {
             self.rows.clone_row(to, from);
         } else {

@@ -207,8 +207,7 @@ impl Slots {
         ensures { slots self.new ≡ slice_set (slots self.old) to (row_of (slots self.old) from) }
     {
         self.objects.hold_all(self.tables[from].used());
-        let table = self.tables[from];
-        self.tables[to] = table;
+        self.tables.copy(to, from);
     }
 
     /// Makes all slots of a place empty, and gives back what no other place shares.

@@ -5,7 +5,7 @@ ghost use Rattle.lwc_types.specs.declared.key.TheConstants.{SLOTS};
 ghost use Rattle.fd_table.specs.Tables.{times};
 
 use crate::bits::with_bit;
-use late_rows::Fresh;
+use late_rows::{CopyFrom, Fresh};
 use lwc_base::{SLOTS, SlotNumber};
 
 /// The slots of a place: for each one more than the number of its object, or 0 where it is empty. Bit n of
@@ -29,6 +29,13 @@ impl Fresh for Table {
             common: 0,
             entries: [0; SLOTS as usize],
         }
+    }
+}
+
+impl CopyFrom for Table {
+    /// Makes each slot what it is in the other one.
+    fn copy_from(&mut self, other: &Table) {
+        *self = *other;
     }
 }
 

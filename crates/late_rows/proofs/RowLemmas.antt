@@ -1,7 +1,7 @@
 -- What opening, making a row and changing one do to the rows.
-use Rattle.std.proofs.Common.{◌≡◌, ℕ, zero, suc, ◌+◌, ◌<◌, ◌≤◌, ⊎_elim, cond, ltb, List, [], ◌∷◌, ◌++◌, length, map, get_or, set, replicate, refl, sym, ◌∙◌, ap, arith, length-set, get_or-set_same, get_or-set_other, ext_get_or}
+use Rattle.std.proofs.Common.{◌≡◌, ℕ, zero, suc, ◌+◌, ◌-◌, ◌<◌, ◌≤◌, ⊎_elim, cond, ltb, List, [], ◌∷◌, ◌++◌, length, map, get_or, set, replicate, refl, sym, ◌∙◌, ap, arith, length-set, get_or-set_same, get_or-set_other, ext_get_or}
 use Rattle.std.specs.Prelude.{count_by, nat_lt}
-use Rattle.std.proofs.lemmas.List.{length-map, get_or_append_left, get_or_push, get_or_default, get_or-map}
+use Rattle.std.proofs.lemmas.List.{length-map, get_or_append_left, get_or_push, get_or_default, get_or-map, set-append_right}
 use Rattle.std.proofs.lemmas.List.Sums.{count_by-le-length, sum_by-set}
 use Rattle.std.proofs.lemmas.Bool.{cases_eq}
 use Rattle.late_rows.specs.Rows.{IsKept, rows_of}
@@ -13,6 +13,11 @@ count-room numbers row inside none =
     let few = count_by-le-length (nat_lt 0) (set numbers row 1) in
     let was = ap {B = ℕ} (λ n. cond (ltb 0 n) 1 0) none in
     omega (arith, more, few, was, length-set numbers row 1)
+
+-- the first of the back part is another
+pub back-set : {A : Type 0} (front back : List A) (n : ℕ) (value : A) → length front ≡ n → front ++ set back 0 value ≡ set (front ++ back) n value
+back-set front back n value long =
+    ap (λ k. front ++ set back k value) (let none : 0 ≡ n - n = omega arith in none) ∙ sym (set-append_right front back n n value long (omega arith))
 
 module _ {A : Type 0} (fresh : A) where
   abbrev at : List A → ℕ → A

@@ -3,4 +3,4 @@
 
 pub mod rows;
 
-pub use rows::{Fresh, LateRows};
+pub use rows::{CopyFrom, Fresh, LateRows};

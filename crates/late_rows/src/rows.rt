@@ -1,5 +1,5 @@
 ghost use Rattle.std.specs.Prelude.{◌≡◌, ◌+◌, ◌<◌, ◌^◌, IfOk, length, replicate, slice_index, slice_index_or};
-ghost use Rattle.std.specs.Prelude.{vec_capacity};
+ghost use Rattle.std.specs.Prelude.{slice_set, vec_capacity};
 ghost use Rattle.std.specs.Borrow.{sem};
 ghost use Rattle.late_rows.specs.Rows.{IsKept, rows_of};
 
@@ -14,6 +14,13 @@ pub trait Fresh {
     /// A row that was not changed.
     fn fresh() -> Self
         ensures { result ≡ fresh };
+}
+
+/// What is made the same as another one in its place.
+pub trait CopyFrom {
+    /// Makes it what another one is.
+    fn copy_from(&mut self, other: &Self)
+        ensures { self.new ≡ other.now };
 }
 
 /// A fixed number of rows, seen as the list of them. Memory is taken for all, and a row's is first written when
@@ -56,6 +63,33 @@ impl<T: Fresh + Drop> LateRows<T> {
         ensures { result ≡ length self.now }
     {
         self.numbers.len()
+    }
+}
+
+impl<T: Fresh + CopyFrom + Drop> LateRows<T> {
+    /// Makes a row what another one is. Nothing else is written.
+    pub fn copy(&mut self, to: usize, from: usize)
+        requires to { to < length self.old }
+        requires from { from < length self.old }
+        ensures { self.new ≡ slice_set self.old to (slice_index_or self.old from T.fresh) }
+    {
+        let number = number_of(&mut self.numbers, &mut self.made, to);
+        copy_within(&mut self.made, number, self.numbers[from] as usize);
+    }
+}
+
+/// Makes an element what another one is.
+fn copy_within<T: CopyFrom>(made: &mut [T], to: usize, from: usize)
+    requires to { to < length made.old }
+    requires from { from < length made.old }
+    ensures { (fresh : T) → made.new ≡ slice_set made.old to (slice_index_or made.old from fresh) }
+{
+    if from < to {
+        let (front, back) = made.split_at_mut(to);
+        back[0].copy_from(&front[from]);
+    } else if to < from {
+        let (front, back) = made.split_at_mut(from);
+        front[to].copy_from(&back[0]);
     }
 }
 

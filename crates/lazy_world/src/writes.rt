@@ -46,6 +46,7 @@ impl PlacedWorld {
     }
 
     /// Puts another descriptor into a slot of the context at a place.
+    #[inline(always)]
     pub(crate) fn set_slot(&mut self, c: Name, i: usize, n: SlotNumber, value: Lent<'_>)
         requires found { fm.get (parts self.old).contexts.map c ≡ Some i }
         requires inside { i < count self.old.places }

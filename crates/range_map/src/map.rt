@@ -7,7 +7,7 @@ ghost use Rattle.range_map.specs.Kinds.{IsCanonical, IsSegment, are_alike, put_s
 use crate::runs;
 use crate::segment::{Change, PageState, Segment, SegmentKind};
 use arrayvec::ArrayVec;
-use late_rows::Fresh;
+use late_rows::{CopyFrom, Fresh};
 use lwc_base::{MOST_PAGES, MOST_RANGES, PageNumber, Right};
 use std::marker::Model;
 
@@ -43,6 +43,16 @@ impl Fresh for RangeMap {
     }
 }
 
+impl CopyFrom for RangeMap {
+    /// Takes the segments of the other one over. No more is written than these.
+    fn copy_from(&mut self, other: &RangeMap) {
+        self.segments.clear();
+        for segment in other.segments.as_slice() {
+            self.segments.push(*segment);
+        }
+    }
+}
+
 impl RangeMap {
     /// No page is present.
     pub fn empty() -> RangeMap
@@ -58,17 +68,6 @@ impl RangeMap {
         ensures { self.new ≡ [] }
     {
         self.segments.clear();
-    }
-
-    /// The same once more.
-    pub fn copy(&self) -> RangeMap
-        ensures { result ≡ self.now }
-    {
-        let mut segments = ArrayVec::new();
-        for segment in self.segments.as_slice() {
-            segments.push(*segment);
-        }
-        RangeMap { segments }
     }
 
     /// The segments, one for each range, in rising order.

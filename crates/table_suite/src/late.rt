@@ -1,7 +1,7 @@
 ghost use Rattle.std.specs.Prelude.{◌≡◌, length};
 
 use crate::checks::check_equal;
-use late_rows::{Fresh, LateRows};
+use late_rows::{CopyFrom, Fresh, LateRows};
 use std::test::Fail;
 
 /// A row of these tests.
@@ -16,6 +16,13 @@ impl Fresh for Tower {
     /// A tower that was not raised.
     fn fresh() -> Tower {
         Tower { height: 3 }
+    }
+}
+
+impl CopyFrom for Tower {
+    /// Makes it as high as the other one.
+    fn copy_from(&mut self, other: &Tower) {
+        *self = *other;
     }
 }
 
@@ -39,6 +46,31 @@ fn raise(towers: &mut LateRows<Tower>)
     towers[2].height = 7;
     towers[0].height = 5;
     towers[2].height = 8;
+}
+
+/// Copies rows over rows, with those that were changed and those that were not at either side.
+fn copy_some(towers: &mut LateRows<Tower>)
+    requires { length towers.old ≡ 4 }
+    ensures { length towers.new ≡ 4 }
+{
+    towers.copy(3, 0);
+    towers.copy(0, 2);
+    towers.copy(2, 1);
+    towers.copy(3, 3);
+    towers.copy(1, 1);
+}
+
+#[test]
+fn a_row_is_copied_alone(rt: HostRuntime) -> Result<(), Fail> {
+    let mut towers = LateRows::open(rt.alloc(), 4)?;
+    raise(&mut towers);
+    copy_some(&mut towers);
+    let copied = heights(&towers);
+    raise(&mut towers);
+    let raised = heights(&towers);
+    check_equal(&rt, copied, [8, 3, 3, 5]);
+    check_equal(&rt, raised, [5, 3, 8, 5]);
+    Ok(())
 }
 
 #[test]

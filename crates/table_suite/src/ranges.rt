@@ -1,4 +1,5 @@
 use crate::checks::check_equal;
+use late_rows::CopyFrom;
 use lwc_base::{Name, Right};
 use range_map::{Change, RangeMap, SegmentKind, TooManyRanges};
 use std::process::Abort;
@@ -23,11 +24,14 @@ const ONE: Option<SegmentKind> = Some(SegmentKind::Common(Name { job: 1, k: 0 })
 const OTHER: Option<SegmentKind> = Some(SegmentKind::Common(Name { job: 1, k: 1 }));
 
 /// Makes two changes: the number of ranges that was foretold, whether there were few enough, and the numbers of ranges
-/// of the map and of its copy.
+/// of the map and of what it was before, once that is made the same.
 fn replaced(map: &mut RangeMap, changes: &[Change; 2]) -> (u32, bool, [u32; 2]) {
+    let mut copied = RangeMap::empty();
+    copied.copy_from(map);
     let foretold = map.count_after(changes);
     let is_replaced = map.replace(changes).is_ok();
-    (foretold, is_replaced, [map.count(), map.copy().count()])
+    copied.copy_from(map);
+    (foretold, is_replaced, [map.count(), copied.count()])
 }
 
 /// Makes two changes, and stops unless there are so many ranges then, and pages 3, 4 and 1023 are of these kinds.

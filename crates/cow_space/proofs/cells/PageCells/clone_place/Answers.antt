@@ -1,5 +1,5 @@
-use Rattle.std.proofs.Common.{set, sym, ap, ◌∙◌, arith, subst}
-use Rattle.range_map.specs.Kinds.{kind_at, ranges, state_at}
+use Rattle.std.proofs.Common.{ℕ, set, sym, ap, ◌∙◌, arith, subst}
+use Rattle.range_map.specs.Kinds.{kind_at, ranges}
 use Rattle.cow_space.specs.Cells.{all_cells, all_rights, segments_of}
 use Rattle.cow_space.specs.Kept.{HasNoOwnPage, IsKept}
 use Rattle.cow_space.specs.Maps.{row_of}
@@ -18,11 +18,11 @@ use Rattle.lwc_types.specs.declared.limits.TheConstants.{MOST_PAGES}
 pub index-requires : goal.index-requires
 index-requires c = omega (arith, kinds-in c.args.self.now c.args.from c.requires.from)
 
-pub index-requires-2 : goal.index-requires-2
-index-requires-2 c = omega (arith, kinds-in c.args.self.now c.args.from c.requires.from)
+pub copy-requires-clause-to : goal.copy-requires-clause-to
+copy-requires-clause-to c = omega (arith, kinds-in c.args.self.now c.args.to c.requires.to)
 
-pub index_mut-requires : goal.index_mut-requires
-index_mut-requires c = omega (arith, kinds-in c.args.self.now c.args.to c.requires.to)
+pub copy-requires-clause-from : goal.copy-requires-clause-from
+copy-requires-clause-from c = omega (arith, kinds-in c.args.self.now c.args.from c.requires.from)
 
 pub clone_row-requires-clause-to : goal.clone_row-requires-clause-to
 clone_row-requires-clause-to c = row-in c.args.self.now c.args.to c.requires.to
@@ -34,13 +34,13 @@ pub invariant_of-self : goal.invariant_of-self
 invariant_of-self c =
     let w = c.args.self.now in
     let read = read-segments w c.args.from c.index.result.now c.requires.from c.index.ensures in
-    let copied = c.copy.ensures ∙ read-segments w c.args.from c.index-2.result.now c.requires.from c.index-2.ensures in
     let some = c.has_own_page-some.ensures.some c.if-some.true in
     record {
-      kept = subst (λ s. IsKept (maps c.clone_row.new.self) (set w.kinds c.args.to s)) (sym copied)
+      kept = subst (IsKept (maps c.clone_row.new.self)) (sym c.copy.ensures)
           (kept-still w c.args.to (segments_of w.kinds c.args.from) (row_of (maps w.rows) c.args.from) (maps c.clone_row.new.self) c.requires.to c.clone_row.ensures.maps (w.kept.fit c.args.from) (w.kept.within c.args.from));
-      bare = bare-still w c.args.to c.copy.result (HasNoTree c.clone_row.new.self) c.requires.to c.clone_row.ensures.others
-          (λ none. absurd (some (subst HasNoOwnPage (copied ∙ sym read) none)));
+      bare = subst (λ kinds. (i : ℕ) → HasNoOwnPage (segments_of kinds i) → HasNoTree c.clone_row.new.self i) (sym c.copy.ensures)
+          (bare-still w c.args.to (segments_of w.kinds c.args.from) (HasNoTree c.clone_row.new.self) c.requires.to c.clone_row.ensures.others
+          (λ none. absurd (some (subst HasNoOwnPage (sym read) none))));
     }
 
 pub drop_row-requires : goal.drop_row-requires
@@ -49,18 +49,19 @@ drop_row-requires c = record { row = row-in c.args.self.now c.args.to c.requires
 pub invariant_of-self-else-some : goal.invariant_of-self-else-some
 invariant_of-self-else-some c =
     let w = c.args.self.now in
-    let copied = c.copy.ensures ∙ read-segments w c.args.from c.index-2.result.now c.requires.from c.index-2.ensures in
     record {
-      kept = kept-still w c.args.to c.copy.result rows.no_pages (maps c.drop_row.new.self) c.requires.to c.drop_row.ensures.maps (λ p. may-none (kind_at c.copy.result p)) (λ p past. ap (λ s. state_at s p) copied ∙ w.kept.within c.args.from p past);
-      bare = bare-still w c.args.to c.copy.result (HasNoTree c.drop_row.new.self) c.requires.to c.drop_row.ensures.others (λ _. c.drop_row.ensures.empty);
+      kept = subst (IsKept (maps c.drop_row.new.self)) (sym c.copy.ensures)
+          (kept-still w c.args.to (segments_of w.kinds c.args.from) rows.no_pages (maps c.drop_row.new.self) c.requires.to c.drop_row.ensures.maps
+          (λ p. may-none (kind_at (segments_of w.kinds c.args.from) p)) (w.kept.within c.args.from));
+      bare = subst (λ kinds. (i : ℕ) → HasNoOwnPage (segments_of kinds i) → HasNoTree c.drop_row.new.self i) (sym c.copy.ensures)
+          (bare-still w c.args.to (segments_of w.kinds c.args.from) (HasNoTree c.drop_row.new.self) c.requires.to c.drop_row.ensures.others (λ _. c.drop_row.ensures.empty));
     }
 
 pub returns-then-some-clause-cells : goal.returns-then-some-clause-cells
 unfolding cells
 returns-then-some-clause-cells c =
     let w = c.args.self.now in
-    let copied = c.copy.ensures ∙ read-segments w c.args.from c.index-2.result.now c.requires.from c.index-2.ensures in
-    ap (λ s. all_cells (set w.kinds c.args.to s) (maps c.clone_row.new.self)) copied
+    ap (λ kinds. all_cells kinds (maps c.clone_row.new.self)) c.copy.ensures
     ∙ cells-set w c.args.to (segments_of w.kinds c.args.from) (row_of (maps w.rows) c.args.from) (maps c.clone_row.new.self) c.requires.to c.clone_row.ensures.maps
     ∙ ap (set (cells w) c.args.to) (sym (place-at w c.args.from))
 
@@ -68,8 +69,7 @@ pub returns-then-some-clause-rights : goal.returns-then-some-clause-rights
 unfolding rights
 returns-then-some-clause-rights c =
     let w = c.args.self.now in
-    let copied = c.copy.ensures ∙ read-segments w c.args.from c.index-2.result.now c.requires.from c.index-2.ensures in
-    ap (λ s. all_rights (set w.kinds c.args.to s)) copied
+    ap all_rights c.copy.ensures
     ∙ rights-set w c.args.to (segments_of w.kinds c.args.from)
     ∙ ap (set (rights w) c.args.to) (sym (rights-at w c.args.from))
 
@@ -83,9 +83,8 @@ unfolding cells
 returns-else-some-clause-cells c =
     let w = c.args.self.now in
     let read = read-segments w c.args.from c.index.result.now c.requires.from c.index.ensures in
-    let copied = c.copy.ensures ∙ read-segments w c.args.from c.index-2.result.now c.requires.from c.index-2.ensures in
     let none = subst HasNoOwnPage read (c.has_own_page-some.ensures.none c.if-some.false) in
-    ap (λ s. all_cells (set w.kinds c.args.to s) (maps c.drop_row.new.self)) copied
+    ap (λ kinds. all_cells kinds (maps c.drop_row.new.self)) c.copy.ensures
     ∙ cells-set w c.args.to (segments_of w.kinds c.args.from) rows.no_pages (maps c.drop_row.new.self) c.requires.to c.drop_row.ensures.maps
     ∙ ap (set (cells w) c.args.to)
     (no-own-cells (segments_of w.kinds c.args.from) rows.no_pages (row_of (maps w.rows) c.args.from) none ∙ sym (place-at w c.args.from))
@@ -94,8 +93,7 @@ pub returns-else-some-clause-rights : goal.returns-else-some-clause-rights
 unfolding rights
 returns-else-some-clause-rights c =
     let w = c.args.self.now in
-    let copied = c.copy.ensures ∙ read-segments w c.args.from c.index-2.result.now c.requires.from c.index-2.ensures in
-    ap (λ s. all_rights (set w.kinds c.args.to s)) copied
+    ap all_rights c.copy.ensures
     ∙ rights-set w c.args.to (segments_of w.kinds c.args.from)
     ∙ ap (set (rights w) c.args.to) (sym (rights-at w c.args.from))
 

@@ -1,4 +1,4 @@
-use Rattle.std.proofs.Common.{◌<◌, length, set, arith, ap, ◌∙◌, sym, subst}
+use Rattle.std.proofs.Common.{◌<◌, length, arith, ap, ◌∙◌, sym, subst}
 use Rattle.fd_table.specs.declared.table.Table.{Table}
 use Rattle.fd_table.specs.Seen.{slots}
 use Rattle.fd_table.specs.Tables.{times, rows, IsTable}
@@ -12,15 +12,15 @@ unfolding slots
 index-requires c =
     omega (arith, c.requires.from, length-rows c.args.self.now.objects.pool c.args.self.now.tables)
 
-pub index-table-requires : goal.index-table-requires
+pub copy-requires-clause-to : goal.copy-requires-clause-to
 unfolding slots
-index-table-requires c =
-    omega (arith, c.requires.from, length-rows c.args.self.now.objects.pool c.args.self.now.tables)
-
-pub index_mut-requires : goal.index_mut-requires
-unfolding slots
-index_mut-requires c =
+copy-requires-clause-to c =
     omega (arith, c.requires.to, length-rows c.args.self.now.objects.pool c.args.self.now.tables)
+
+pub copy-requires-clause-from : goal.copy-requires-clause-from
+unfolding slots
+copy-requires-clause-from c =
+    omega (arith, c.requires.from, length-rows c.args.self.now.objects.pool c.args.self.now.tables)
 
 pub used-requires : goal.used-requires
 unfolding slots
@@ -49,9 +49,8 @@ invariant_of-self c =
     let to_in : c.args.to < length tables = omega (arith, c.requires.to, length-rows pool tables) in
     let from_in : c.args.from < length tables = omega (arith, c.requires.from, length-rows pool tables) in
     let read = table-read tables c.args.from _ from_in c.index.ensures in
-    let again = table-read tables c.args.from _ from_in c.index-table.ensures in
     record {
-      kept = subst (λ t. IsKept c.hold_all.new.self.pool (set tables c.args.to t)) (sym again)
+      kept = subst (IsKept c.hold_all.new.self.pool) (sym c.copy.ensures)
           (clone-kept pool _ tables c.args.to c.args.from c.used.result.now c.args.self.now.kept to_in from_in c.requires.empty c.hold_all.ensures.pool
           (λ o. c.used.ensures.same o ∙ ap (λ (t : Table). times o t.entries) read));
       numbers = c.hold_all.ensures.places ∙ c.args.self.now.numbers;
@@ -63,7 +62,5 @@ returns c =
     let pool = c.args.self.now.objects.pool in
     let tables = c.args.self.now.tables in
     let from_in : c.args.from < length tables = omega (arith, c.requires.from, length-rows pool tables) in
-    let read = table-read tables c.args.from _ from_in c.index.ensures in
-    let again = table-read tables c.args.from _ from_in c.index-table.ensures in
-    ap (λ t. rows c.hold_all.new.self.pool (set tables c.args.to t)) again
+    ap (rows c.hold_all.new.self.pool) c.copy.ensures
     ∙ clone-rows pool c.hold_all.new.self.pool tables c.args.to c.args.from c.used.result.now from_in c.hold_all.ensures.pool
