@@ -47,11 +47,11 @@ fn copy_cell(frames: &mut Pool, cell: PageCell, tag: Tag) -> FrameNo
     requires held { (f : ℕ) → entry_for cell ≡ f + 2 → 0 < frame_count frames.old f }
     ensures { Takes frames.old frames.new result.n tag (cell_bytes frames.old cell) }
 {
-    let frame = frames.take(tag).unwrap();
-    if let PageCell::Frame(from) = cell {
-        frames.copy_to(from, frame);
-    }
-    frame
+    let taken = match cell {
+        PageCell::Frame(from) => frames.take_copy(tag, from),
+        PageCell::Absent | PageCell::Zero => frames.take(tag),
+    };
+    taken.unwrap()
 }
 
 /// Puts what a piece has of page p into a frame that is held once.

@@ -1,6 +1,8 @@
 ghost use Rattle.std.specs.Prelude.{◌≡◌, ◌≢◌, ℕ, ◌+◌, ◌-◌, ◌<◌, ◌^◌, ◌↔◌, List, IfOk, IfSome, IfNone, IsNone, length};
-ghost use Rattle.std.specs.Prelude.{replicate, slice_set};
+ghost use Rattle.std.specs.Prelude.{◌≤◌, [], max, replicate, slice_index_or, slice_set, vec_capacity};
+ghost use Rattle.lwc_types.specs.Pages.{zero_page};
 ghost use Rattle.lwc_types.specs.declared.page.TheConstants.{PAGE_BYTES};
+ghost use Rattle.pool_base.specs.Padded.{padded};
 
 use lwc_types::{OutOfMemory, PAGE_BYTES, Tag};
 use pool_base::{Counts, put_next};
@@ -73,6 +75,23 @@ impl Pool {
         let n = self.counts.take()?;
         put_next(&mut self.stamps, n as usize, stamp);
         put_next(&mut self.bytes, n as usize, [0; PAGE_BYTES]);
+        Some(FrameNo { n })
+    }
+
+    /// Takes a free frame as `take` does, with the bytes of a held frame, which are copied, in place of zeros.
+    pub fn take_copy(&mut self, stamp: Tag, from: FrameNo) -> Option<FrameNo>
+        requires { 0 < frame_count self.old from.n }
+        ensures full { IsNone result ↔ (free_frames self.old ≡ 0) }
+        ensures full_same { IfNone result (self.new ≡ self.old) }
+        ensures inside { IfSome result (λ frame. frame.n < length self.old) }
+        ensures was_free { IfSome result (λ frame. frame_count self.old frame.n ≡ 0) }
+        ensures taken { IfSome result (λ frame. self.new ≡ slice_set self.old frame.n
+            (record { count = 1; stamp = stamp; bytes = frame_bytes self.old from.n })) }
+    {
+        let n = self.counts.take()?;
+        let place = n as usize;
+        put_next(&mut self.stamps, place, stamp);
+        put_copy(&mut self.bytes, from.n as usize, place);
         Some(FrameNo { n })
     }
 
@@ -156,5 +175,23 @@ impl Pool {
         ensures all { result + free_frames self.now ≡ length self.now }
     {
         self.counts.used()
+    }
+}
+
+/// Puts a copy of the bytes at one place at another place, or after the last one, where memory is reserved.
+fn put_copy(frames: &mut Vec<[u8; PAGE_BYTES]>, from: usize, place: usize)
+    requires from { from < length frames.old.items }
+    requires next { place ≤ length frames.old.items }
+    requires room { place < vec_capacity frames.old }
+    ensures padded { (size : ℕ) → place < size → padded size zero_page frames.new.items
+        ≡ slice_set (padded size zero_page frames.old.items) place (slice_index_or frames.old.items from []) }
+    ensures len { length frames.new.items ≡ max (length frames.old.items) (place + 1) }
+    ensures capacity { vec_capacity frames.old ≤ vec_capacity frames.new }
+{
+    let bytes = frames[from];
+    if place < frames.len() {
+        frames[place] = bytes;
+    } else {
+        frames.push_reserved(bytes);
     }
 }

@@ -1,10 +1,12 @@
 -- The lines of a file, one after another.
-use Rattle.std.proofs.Common.{◌≡◌, ℕ, zero, suc, get_or, ◌+◌, ◌-◌, ◌≤◌, ◌<◌, Bool, false, eqb, List, [], ◌∷◌, length, take, drop, refl, ap, ◌∙◌, arith, add-one, length-drop}
+use Rattle.std.proofs.Common.{◌≡◌, ℕ, zero, suc, get_or, ◌+◌, ◌-◌, ◌≤◌, ◌<◌, Bool, true, false, Option, Some, None, sym, eqb, List, [], ◌∷◌, length, take, drop, refl, ap, ◌∙◌, arith, add-one, length-drop}
 use Rattle.std.proofs.lemmas.Bool.Decides.{nat_tests}
 use Rattle.std.proofs.lemmas.List.{take_all}
 use Rattle.std.proofs.lemmas.List.Elements.{All-from_get_or}
 use Rattle.std.proofs.lemmas.List.Splits.{slice_split_first, slice_split_none, length-slice_split}
-use Rattle.std.proofs.lemmas.List.Sums.{fails_before_first}
+use Rattle.std.proofs.lemmas.List.Sums.{fails_before_first, position_or_len_is}
+use Rattle.std.specs.Option.{unwrap_or}
+use Rattle.memchr.specs.Find.{IsFirstByte, is_byte}
 use Rattle.std.specs.List.{after_first, before_first, position_or_len, slice_split}
 use Rattle.std.specs.Str.Lines.{lines, lines_of_parts, strip_carriage_return}
 use Rattle.lwc_text.specs.Requests.{after_lines}
@@ -12,6 +14,17 @@ use Rattle.lwc_text.specs.Requests.{after_lines}
 -- whether a byte ends a line
 abbrev pub is_feed : ℕ → Bool
 is_feed b = eqb b 10
+
+not_true : (t : Bool) → (t ≡ true → ⊥) → t ≡ false
+not_true true passes = absurd (passes refl)
+not_true false passes = refl
+
+-- what a search answers is the place of the first line feed, or the length
+pub first_feed : (bytes : List ℕ) (found : Option ℕ) → IsFirstByte (is_byte 10) bytes found → (n : ℕ) → n ≡ length bytes → unwrap_or found n ≡ position_or_len is_feed bytes
+first_feed bytes None nowhere n is =
+    is ∙ sym (position_or_len_is is_feed bytes (length bytes) 0 (omega arith) (λ k lt. not_true (is_feed (get_or bytes k 0)) (nowhere k (omega arith) lt)) (λ lt. absurd (omega (arith, lt))))
+first_feed bytes (Some place) first n is =
+    sym (position_or_len_is is_feed bytes place 0 (omega (arith, first.0.high)) (λ k lt. not_true (is_feed (get_or bytes k 0)) (first.0.before k (omega arith) lt)) (λ lt. first.1))
 
 -- the first line of some, where a line feed ends it
 with_next : (x : List ℕ) (parts : List (List ℕ)) → 0 < length parts → lines_of_parts (x ∷ parts) ≡ strip_carriage_return x ∷ lines_of_parts parts

@@ -4,6 +4,8 @@ ghost use Rattle.std.specs.Prelude.{◌≡◌, ◌<◌, ◌≤◌, ◌∷◌, �
 ghost use Rattle.std.specs.List.{after_first, position_or_len};
 ghost use Rattle.std.specs.Str.Lines.{lines, strip_carriage_return};
 
+use memchr::memchr;
+
 /// The first line, without its end, and what follows it. A line feed ends a line, and a carriage return
 /// directly before it is no part of the line; the last line may have no end.
 pub fn next_line(bytes: &[u8]) -> (&[u8], &[u8])
@@ -26,10 +28,7 @@ fn line_end(bytes: &[u8]) -> usize
     ensures place { result ≡ position_or_len (λ b. b == 0x0a) bytes.now }
     ensures within { result ≤ length bytes.now }
 {
-    bytes
-        .iter()
-        .position(|b| *b == b'\n')
-        .unwrap_or(bytes.len())
+    memchr(b'\n', bytes).unwrap_or(bytes.len())
 }
 
 /// A line without the carriage return at its end.
