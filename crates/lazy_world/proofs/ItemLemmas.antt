@@ -22,11 +22,12 @@ use Rattle.lwc_types.specs.declared.name.Name.{Name}
 use Rattle.fd_table.specs.Slots as slots
 use Rattle.access_cap.proofs.Bits.{has_bit-or}
 use Rattle.lazy_world.specs.Cells.{Row}
-use Rattle.lazy_world.specs.Transfers.{Gives, transferred_cell, transferred_row}
+use Rattle.lazy_world.specs.Transfers.{Gives, moves, transferred_cell, transferred_row}
 use Rattle.lazy_world.specs.declared.transfer.Transfer.{Transfer}
 use Rattle.lazy_world.specs.declared.transfer.Transfer.TheVariants.{Mark, Move, Clone, Overlay}
 use Rattle.lazy_world.proofs.AddLemmas.{no_slot}
 use Rattle.lazy_world.proofs.CloneOrigins.{mode_one_more}
+use Rattle.lazy_world.proofs.MoveLemmas.{moves-share}
 use Rattle.lazy_world.proofs.NeedLemmas.{as_mode}
 use Rattle.lwc_base.proofs.Needs.{not_needed}
 
@@ -43,6 +44,15 @@ module _ (items : List Item) (i : ℕ) (d : Item) (inside : i < length items) wh
       at None false never is = never is
       at (Some m) b never is = never is
 
+  -- what holds of a key that the items before share holds still, if it holds of one that this item shares
+  pub one_more_shared : (k : Key) (T : Type 0) → (mode (take i items) k ≡ Some Share → T) → (names item k ≡ true → item.mode ≡ Share → T) → mode (take (i + 1) items) k ≡ Some Share → T
+  one_more_shared k T old here is = at (mode (take i items) k) (names item k) old here (sym (mode_one_more items i d inside k) ∙ is)
+    where
+      at : (o : Option Mode) (b : Bool) → (o ≡ Some Share → T) → (b ≡ true → item.mode ≡ Share → T) → option_or o (cond b (Some item.mode) None) ≡ Some Share → T
+      at None true before now is = now refl (let e : item.mode ≡ Share = cc in e)
+      at None false before now is = before is
+      at (Some m) b before now is = before is
+
   -- an item of another kind names no slot
   pub still_unnamed : (n : ℕ) → same_kind item.kind kind.Slot ≡ false → mode (take i items) (Slot n) ≡ None → mode (take (i + 1) items) (Slot n) ≡ None
   still_unnamed n other none =
@@ -52,6 +62,14 @@ module _ (items : List Item) (i : ℕ) (d : Item) (inside : i < length items) wh
 share_mode : (o : Option Mode) → unwrap_or o Copy ≡ Share → o ≡ Some Share
 share_mode None is = cc
 share_mode (Some m) is = ap Some is
+
+-- what moves is shared, so nothing moves where it does not move if it is shared
+pub settled_by : (items : List Item) (k : Key) (row : Row) → (mode items k ≡ Some Share → moves items k row ≡ false) → moves items k row ≡ false
+settled_by items k row told = at (moves items k row) refl
+  where
+    at : (b : Bool) → moves items k row ≡ b → moves items k row ≡ false
+    at true is = told (share_mode (mode items k) (moves-share (unwrap_or (mode items k) Copy) k (row k) is))
+    at false is = is
 
 -- where nothing is shared no group is needed
 pub none-shared : (w : World) (c : Name) (items : List Item) → ((k : Key) → mode items k ≢ Some Share) → needs_group w c items ≡ false

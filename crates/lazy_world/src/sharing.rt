@@ -1,6 +1,6 @@
 ghost use Rattle.std.specs.Prelude.{◌≡◌, ◌≢◌, ◌<◌, ◌≤◌, ◌+◌, ◌*◌, ◌^◌, ℕ, Some, false, true};
 ghost use Rattle.lwc_base.specs.declared.item.Mode.TheVariants.{Share};
-ghost use Rattle.lwc_base.specs.Modes.{IsSpec, mode};
+ghost use Rattle.lwc_base.specs.Modes.{IsItem, IsSpec, mode, names};
 ghost use Rattle.lwc_types.specs.declared.key.TheConstants.{SLOTS};
 ghost use Rattle.lwc_types.specs.declared.key.Key.{Key};
 ghost use Rattle.lwc_types.specs.declared.key.Key.TheVariants.{Page, Slot, Cred};
@@ -11,7 +11,7 @@ use crate::counts::Counts;
 use crate::ranges::{mode_edge, names_slots};
 use crate::transfer::Transfer;
 use crate::world::PlacedWorld;
-use lwc_base::{Cell, Item, Items, Key, MOST_PAGES, Mode, NOBODY, Name, PageNumber, SLOTS};
+use lwc_base::{Cell, Item, Items, Key, MOST_PAGES, Mode, NOBODY, Name, PageNumber, Range, SLOTS};
 use res_spec::mode_of;
 
 /// Whether an item shares what it names.
@@ -50,20 +50,54 @@ impl PlacedWorld {
     ghost use Rattle.lazy_world.specs.Seen.{KeepsStore, count, node_steps, rows};
     ghost use Rattle.lazy_world.specs.Worlds.{parts, seen};
 
-    /// Whether a page of a place moves.
+    /// Whether a page of a range moves that a place has.
+    fn moves_between(&self, i: usize, spec: &Items, range: Range) -> bool
+        requires place { i < count self.now.places }
+        requires order { range.from ≤ range.to }
+        requires inside { range.to ≤ MOST_PAGES }
+        ensures some { result ≡ true → (p : ℕ) × (moves spec.now (Page p) (rows self.now.places i) ≡ true) }
+        ensures none { result ≡ false → (p : ℕ) → range.from ≤ p → p < range.to
+            → moves spec.now (Page p) (rows self.now.places i) ≡ false }
+    {
+        let mut p: PageNumber = range.from;
+        'pages: while p < range.to {
+            let (found, edge) = self.found_page(i, p);
+            if found.moves(mode_of(spec, Key::Page(p))) {
+                return true;
+            }
+            p = mode_edge(spec, p, edge);
+        }
+        false
+    }
+
+    /// Whether a page moves that an item names. No page does of one that shares nothing.
+    fn moves_page_of(&self, i: usize, spec: &Items, item: &Item) -> bool
+        requires place { i < count self.now.places }
+        requires item { IsItem MOST_PAGES item.now }
+        ensures some { result ≡ true → (p : ℕ) × (moves spec.now (Page p) (rows self.now.places i) ≡ true) }
+        ensures none { result ≡ false → (p : ℕ) → names item.now (Page p) ≡ true → item.now.mode ≡ Share
+            → moves spec.now (Page p) (rows self.now.places i) ≡ false }
+    {
+        if !is_share(item) {
+            return false;
+        }
+        match item.pages() {
+            Some(range) => self.moves_between(i, spec, range),
+            None => false,
+        }
+    }
+
+    /// Whether a page of a place moves. Only the pages of items that share are looked at.
     fn moves_page(&self, i: usize, spec: &Items) -> bool
         requires { i < count self.now.places }
         ensures some { result ≡ true → (p : ℕ) × (moves spec.now (Page p) (rows self.now.places i) ≡ true) }
         ensures none { result ≡ false → (p : ℕ) → p < MOST_PAGES
             → moves spec.now (Page p) (rows self.now.places i) ≡ false }
     {
-        let mut p: PageNumber = 0;
-        'pages: while p < MOST_PAGES {
-            let (found, edge) = self.found_page(i, p);
-            if found.moves(mode_of(spec, Key::Page(p))) {
+        for item in spec.items() {
+            if self.moves_page_of(i, spec, item) {
                 return true;
             }
-            p = mode_edge(spec, p, edge);
         }
         false
     }
