@@ -7,9 +7,8 @@ use Rattle.world_face.specs.declared.world.World as world
 use Rattle.turnstile.specs.contracts.passes.Pass as pass
 use Rattle.turnstile.specs.contracts.lock.Turnstile as lock
 use Rattle.guest_isa.specs.contracts.text.Text as text
-use Rattle.guest_image.specs.contracts.image.Image as image
-use Rattle.guest_image.specs.contracts.image.Vault as vault
 use Rattle.kernel_core.specs.contracts.kernel.Kernel as kernel
+use Rattle.lwc_base.specs.contracts.channels.Channels as channels
 use Rattle.kernel_core.specs.contracts.thread.Turn as turn
 use Rattle.process_core.specs.contracts.guarded.Guarded as guarded
 use Rattle.process_core.specs.contracts.passes.ProcessPass as carried
@@ -18,24 +17,18 @@ use Rattle.atomic_table.proofs.send_lease.SendLease.TheSendSync as lease
 use Rattle.atomic_table.proofs.shared.Seat.TheSendSync as seat
 use Rattle.atomic_table.proofs.shared.Shared.TheSendSync as shared
 
-image_send : IsSend image.the_row
-image_send = search (sendable, crosses) depth 80 fits 20000
+channels_send : IsSend channels.the_row
+channels_send = search (sendable, crosses) depth 80 fits 20000
 
-image_sync : IsSync image.the_row
-image_sync = search (sendable, crosses) depth 80 fits 20000
-
-vault_send : IsSend vault.the_row
-vault_send = search (sendable, crosses) depth 80 fits 20000
-
-vault_sync : IsSync vault.the_row
-vault_sync = search (sendable, crosses) depth 80 fits 20000
+channels_sync : IsSync channels.the_row
+channels_sync = search (sendable, crosses) depth 80 fits 20000
 
 -- a kernel over a world that may, and the kernel under the lock
 kernel_send : (W : RattleType) (g : world.Ghosts W.Denot) → IsSend W → IsSend (kernel.the_row W g)
-kernel_send W g s = search (sendable, crosses, image_send, vault_send) depth 80 fits 20000
+kernel_send W g s = search (sendable, crosses, channels_send) depth 80 fits 20000
 
 kernel_sync : (W : RattleType) (g : world.Ghosts W.Denot) → IsSync W → IsSync (kernel.the_row W g)
-kernel_sync W g s = search (sendable, crosses, image_sync, vault_sync) depth 80 fits 20000
+kernel_sync W g s = search (sendable, crosses, channels_sync) depth 80 fits 20000
 
 pub guarded_send : (W : RattleType) (g : world.Ghosts W.Denot) → IsSend W → IsSend (guarded.the_row W g)
 guarded_send W g s = search (sendable, crosses, kernel_send) depth 80 fits 20000
