@@ -1,6 +1,6 @@
 -- Numbers: powers, and sums of node steps.
 use Rattle.std.proofs.Common.{◌≡◌, ◌≢◌, ℕ, zero, suc, ◌+◌, ◌-◌, ◌*◌, ◌/◌, ◌^◌, ◌<◌, ◌≤◌, ⊎_elim, min, eqb, ◌∙◌, ap, arith}
-use Rattle.std.proofs.Math.Nat.{mul-le-mul_left, pow-suc}
+use Rattle.std.proofs.Math.Nat.{mul-le-mul_left, mul-le-mul_right, pow-suc}
 use Rattle.std.proofs.lemmas.Nat.{div_below}
 use Rattle.std.proofs.lemmas.Bool.{cases_eq, cases_lt, eq-eqb, ne_eqb, cond-true, cond-false}
 use Rattle.page_tree.specs.Costs.{copy_steps, entries_in, entry_steps, most_nodes, share_steps, way_steps}
@@ -56,6 +56,13 @@ more-steps i k m s0 s s' sum one past =
     let same = past le in
     omega (arith, sum, same, a', b'))
     (cases_lt i k)
+
+-- so many entries that take no step are passed over
+pub passed-steps : (i j k m s0 s : ℕ) → i ≤ j → s ≤ s0 + min i k * m → s ≤ s0 + min j k * m
+passed-steps i j k m s0 s order sum =
+    let more : min i k ≤ min j k = omega (arith, order) in
+    let product = mul-le-mul_right m more in
+    omega (arith, sum, product)
 
 -- entries of the root past its last one are not in use
 pub unused : (level i entry : ℕ) → (level ≡ 3 → 16 ≤ i → entry ≡ 0) → i < 32 → entries_in level ≤ i → entry ≡ 0

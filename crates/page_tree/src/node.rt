@@ -1,4 +1,4 @@
-ghost use Rattle.std.specs.Prelude.{◌≡◌, ◌≢◌, ℕ, ◌+◌, ◌-◌, ◌*◌, ◌<◌, ◌≤◌};
+ghost use Rattle.std.specs.Prelude.{◌≡◌, ◌≢◌, ℕ, ◌+◌, ◌-◌, ◌*◌, ◌<◌, ◌≤◌, slice_index, true};
 ghost use Rattle.frame_pool.specs.Frame.{frame_count};
 ghost use Rattle.node_pool.specs.declared.pool.TheConstants.{NODE_ENTRIES};
 ghost use Rattle.node_pool.specs.Nodes.{node_at, count_of, level_of, entry_of, free_of};
@@ -125,11 +125,10 @@ impl Store {
     {
         if self.nodes.count(node) == 1 {
             let links = self.nodes.entries(node);
-            'entries: for i in 0..NODE_ENTRIES {
-                let link = links[i];
-                if link != 0 {
-                    self.put(node, i, 0, level);
-                }
+            let mut i = next_link(&links, 0);
+            'entries: while i < NODE_ENTRIES {
+                self.put(node, i, 0, level);
+                i = next_link(&links, i + 1);
             }
         }
     }
@@ -251,11 +250,43 @@ impl Store {
         ensures cost_leaf { level ≡ LEAF_LEVEL → self.new.nodes.steps ≡ self.old.nodes.steps }
     {
         let links = self.nodes.entries(node);
-        'entries: for i in 0..NODE_ENTRIES {
-            let link = links[i];
-            if link != 0 {
-                self.put(copy, i, link, level);
-            }
+        let mut i = next_link(&links, 0);
+        'entries: while i < NODE_ENTRIES {
+            self.put(copy, i, links[i], level);
+            i = next_link(&links, i + 1);
         }
     }
+}
+
+/// The first place from this one on whose link leads somewhere; the number of places if there is none.
+fn next_link(links: &[u32; NODE_ENTRIES], from: usize) -> usize
+    requires { from ≤ NODE_ENTRIES }
+    ensures order { (from ≤ result) × (result ≤ NODE_ENTRIES) }
+    ensures none { (k : ℕ) → from ≤ k → k < result → slice_index links.now k ≡ 0 }
+    ensures some { result < NODE_ENTRIES → slice_index links.now result ≢ 0 }
+{
+    let mut at = from;
+    'places: while at < NODE_ENTRIES && links[at] == 0 {
+        at += if at % 8 == 0 && are_zeros(links, at) {
+            8
+        } else {
+            1
+        };
+    }
+    at
+}
+
+/// Whether eight links from this place on lead nowhere.
+fn are_zeros(links: &[u32; NODE_ENTRIES], at: usize) -> bool
+    requires { at + 8 ≤ NODE_ENTRIES }
+    ensures { result ≡ true → (k : ℕ) → at ≤ k → k < at + 8 → slice_index links.now k ≡ 0 }
+{
+    links[at] == 0
+        && links[at + 1] == 0
+        && links[at + 2] == 0
+        && links[at + 3] == 0
+        && links[at + 4] == 0
+        && links[at + 5] == 0
+        && links[at + 6] == 0
+        && links[at + 7] == 0
 }

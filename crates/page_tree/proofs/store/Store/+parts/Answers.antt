@@ -1,5 +1,5 @@
-use Rattle.std.proofs.Common.{◌≡◌, ◌+◌, ◌-◌, ◌<◌, ◌≤◌, ⊎_elim, ap, get_or, refl, sym, subst, ◌∙◌, arith}
-use Rattle.std.proofs.lemmas.Bool.{cases_eq}
+use Rattle.std.proofs.Common.{◌≡◌, ◌+◌, ◌-◌, ◌<◌, ◌≤◌, ℕ, ⊎_elim, ap, get_or, refl, sym, subst, ◌∙◌, arith}
+use Rattle.std.proofs.lemmas.Bool.{cases_eq, cases_lt}
 use Rattle.node_pool.specs.Nodes.{entry_of, count_of}
 use Rattle.page_tree.specs.Sound.{is_root}
 use Rattle.page_tree.specs.Steps.{IsOwned, KeepsLone, Moves, none_shared}
@@ -11,8 +11,7 @@ use Rattle.page_tree.specs.Costs.{entries_in, most_nodes}
 use Rattle.page_tree.proofs.LoneLemmas.{lone-given, lone-same, lone-trans}
 use Rattle.page_tree.proofs.LoneNodes.{lone-put, rest-put}
 use Rattle.page_tree.proofs.RangeShort.{range-none}
-use Rattle.page_tree.proofs.CostLemmas.{more-steps, most-step, unused}
-use Rattle.page_tree.proofs.store.Store.+parts.Goals.{empty-then-link-ne0, empty-else-link-ne0}
+use Rattle.page_tree.proofs.CostLemmas.{more-steps, most-step, passed-steps, unused}
 use Rattle.page_tree.proofs.store.Store.+parts.Goals as goal
 
 pub empty-count-requires : goal.empty-count-requires
@@ -23,11 +22,14 @@ empty-entries-links-requires t c = let l = (c.requires.loose c.args.node.n refl)
 
 pub empty-entries-init : goal.empty-entries-init
 empty-entries-init t c =
+    let first = c.next_link-i.ensures in
     record {
+      inside = first.order.1;
+      link = first.some;
       sound = c.requires.sound;
       own = own-loose _ c.args.level c.args.node.n c.requires.loose (sym c.count.ensures ∙ c.if-count-eq1.true);
       moves = Moves-refl _ _ _ _;
-      done = λ k lt. absurd (omega (arith, lt));
+      done = λ k lt. sym (ap (λ links. get_or links k 0) c.entries-links.ensures) ∙ first.none k (omega arith) lt;
       rest = λ k past. refl;
       free = omega arith;
       lone = lone-same _ _ _ _ (λ x. refl);
@@ -40,34 +42,33 @@ empty-returns-else-count-eq1-clause-lone t c = lone-same _ _ _ _ (λ x. refl)
 pub empty-entries-preserved : goal.empty-entries-preserved
 empty-entries-preserved t c =
     let inv = c.entries.invariant in
+    let next = c.next_link-i-in-entries.ensures in
     let link = get_or c.entries-links.result c.entries.i 0 in
-    let link-now : entry_of c.entries.self.nodes.all c.args.node.n c.entries.i ≡ link = inv.rest c.entries.i (omega arith) ∙ sym (ap (λ links. get_or links c.entries.i 0) c.entries-links.ensures) in
+    let there = λ (k : ℕ). ap (λ links. get_or links k 0) c.entries-links.ensures in
+    let link-now : entry_of c.entries.self.nodes.all c.args.node.n c.entries.i ≡ link = inv.rest c.entries.i (omega arith) ∙ sym (there c.entries.i) in
     let narrow : c.args.level ≡ 3 → 16 ≤ c.entries.i → link ≡ 0 = λ top past. sym link-now ∙ inv.sound.narrow c.args.node.n c.entries.i (inv.own.level_is ∙ top) past in
-    elim c.if-link-ne0.branch [
-      | empty-then-link-ne0 w ↦
-          let put = w.put.ensures in
-          rw (w.self-is) (record {
-            sound = put.sound;
-            own = put.own;
-            moves = Moves-trans _ _ _ _ _ _ _ _ _ _ _ c.requires.sound inv.moves put.moves;
-            done = λ k lt. ⊎_elim (λ is. ap (entry_of w.put.new.self.nodes.all c.args.node.n) is ∙ put.here) (λ off. put.others k off ∙ inv.done k (omega (arith, lt, off))) (cases_eq k c.entries.i);
-            rest = λ k past. put.others k (λ is. absurd (omega (arith, is, past))) ∙ inv.rest k (omega (arith, past));
-            free = omega (arith, inv.free, put.free);
-            lone = lone-trans _ _ _ _ _ _ _ (is_root (c.args.node.n + 1)) (is_root (c.args.node.n + 1)) none_shared _ c.requires.sound inv.moves inv.lone put.lone (λ t m _ _ shared. absurd (omega (arith, shared.1)));
-            cost = more-steps c.entries.i (entries_in c.args.level) (most_nodes (c.args.level - 1)) c.args.self.now.nodes.steps c.entries.self.nodes.steps w.put.new.self.nodes.steps inv.cost (put.cost_none refl) (λ past. absurd (w.if-link-ne0.true (unused c.args.level c.entries.i link narrow (omega (arith, c.entries-test.true)) past)));
-          })
-      | empty-else-link-ne0 w ↦
-          rw (w.self-is) (record {
-            sound = inv.sound;
-            own = inv.own;
-            moves = inv.moves;
-            done = λ k lt. ⊎_elim (λ is. ap (entry_of c.entries.self.nodes.all c.args.node.n) is ∙ link-now ∙ w.if-link-ne0.false) (λ off. inv.done k (omega (arith, lt, off))) (cases_eq k c.entries.i);
-            rest = λ k past. inv.rest k (omega (arith, past));
-            free = inv.free;
-            lone = inv.lone;
-            cost = more-steps c.entries.i (entries_in c.args.level) (most_nodes (c.args.level - 1)) c.args.self.now.nodes.steps c.entries.self.nodes.steps c.entries.self.nodes.steps inv.cost (omega arith) (λ past. refl);
-          })
-    ]
+    let put = c.put.ensures in
+    record {
+      inside = next.order.1;
+      link = next.some;
+      sound = put.sound;
+      own = put.own;
+      moves = Moves-trans _ _ _ _ _ _ _ _ _ _ _ c.requires.sound inv.moves put.moves;
+      done = λ k lt.
+          ⊎_elim
+          (λ is. ap (entry_of c.put.new.self.nodes.all c.args.node.n) is ∙ put.here)
+          (λ off. put.others k off ∙ ⊎_elim
+          (λ before. inv.done k before)
+          (λ from. inv.rest k from ∙ sym (there k) ∙ next.none k (omega (arith, from, off)) lt)
+          (cases_lt k c.entries.i))
+          (cases_eq k c.entries.i);
+      rest = λ k past. put.others k (λ is. absurd (omega (arith, is, past, next.order.0))) ∙ inv.rest k (omega (arith, past, next.order.0));
+      free = omega (arith, inv.free, put.free);
+      lone = lone-trans _ _ _ _ _ _ _ (is_root (c.args.node.n + 1)) (is_root (c.args.node.n + 1)) none_shared _ c.requires.sound inv.moves inv.lone put.lone (λ t m _ _ shared. absurd (omega (arith, shared.1)));
+      cost = passed-steps (c.entries.i + 1) c.next_link-i-in-entries.result (entries_in c.args.level) (most_nodes (c.args.level - 1)) c.args.self.now.nodes.steps c.put.new.self.nodes.steps next.order.0
+          (more-steps c.entries.i (entries_in c.args.level) (most_nodes (c.args.level - 1)) c.args.self.now.nodes.steps c.entries.self.nodes.steps c.put.new.self.nodes.steps inv.cost (put.cost_none refl)
+          (λ past. absurd (inv.link (omega (arith, c.entries-test.true)) (unused c.args.level c.entries.i link narrow (omega (arith, c.entries-test.true)) past))));
+    }
 
 pub release-returns-then-link-ne0-clause-moves : goal.release-returns-then-link-ne0-clause-moves
 release-returns-then-link-ne0-clause-moves t c =

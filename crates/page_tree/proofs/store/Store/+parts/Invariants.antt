@@ -1,4 +1,4 @@
-use Rattle.std.proofs.Common.{◌≡◌, ◌+◌, ◌-◌, ◌*◌, ◌<◌, ◌≤◌, ℕ, min}
+use Rattle.std.proofs.Common.{◌≡◌, ◌+◌, ◌-◌, ◌*◌, ◌<◌, ◌≤◌, ◌≢◌, ℕ, min, slice_index}
 use Rattle.node_pool.specs.Nodes.{entry_of, free_of}
 use Rattle.page_tree.specs.Costs.{entries_in, most_nodes}
 use Rattle.page_tree.specs.Sound.{IsSoundTo, is_root}
@@ -14,9 +14,14 @@ decreases-empty l = 3 * l.level + 1
 abbrev pub decreases-release : goal.decreases-release
 decreases-release l = 3 * l.level + 2
 
+abbrev pub decreases-empty-entries : goal.decreases-empty-entries
+decreases-empty-entries l = 32 - l.i
+
 abbrev pub invariant-empty-entries : goal.invariant-empty-entries
 invariant-empty-entries l =
     record {
+      inside : l.i ≤ 32;
+      link : l.i < 32 → slice_index l.links l.i ≢ 0;
       sound : IsSoundTo l.level l.self.nodes.all l.self.frames;
       own : IsOwned l.self.nodes.all l.level l.node.n;
       moves : Moves l.level l.initial.self.nodes.all l.self.nodes.all l.initial.self.frames l.self.frames (is_root (l.node.n + 1)) (is_root (l.node.n + 1));

@@ -1,4 +1,4 @@
-use Rattle.std.proofs.Common.{◌≡◌, ◌+◌, ◌*◌, ◌<◌, ◌≤◌, ℕ, min}
+use Rattle.std.proofs.Common.{◌≡◌, ◌+◌, ◌*◌, ◌<◌, ◌≤◌, ◌≢◌, ◌-◌, ℕ, min, slice_index}
 use Rattle.frame_pool.specs.Frame.{frame_count}
 use Rattle.node_pool.specs.Nodes.{node_at, entry_of, free_of}
 use Rattle.page_tree.specs.Costs.{entries_in}
@@ -6,9 +6,14 @@ use Rattle.page_tree.specs.Sound.{IsSoundTo, is_root}
 use Rattle.page_tree.specs.Steps.{IsOwned, KeepsLone, Moves, none_shared}
 use Rattle.page_tree.proofs.store.Store.fill.Given as goal
 
+abbrev pub decreases-entries : goal.decreases-entries
+decreases-entries l = 32 - l.i
+
 abbrev pub invariant-entries : goal.invariant-entries
 invariant-entries l =
     record {
+      inside : l.i ≤ 32;
+      link : l.i < 32 → slice_index l.links l.i ≢ 0;
       sound : IsSoundTo l.level l.self.nodes.all l.self.frames;
       own : IsOwned l.self.nodes.all l.level l.copy.n;
       moves : Moves l.level l.initial.self.nodes.all l.self.nodes.all l.initial.self.frames l.self.frames (is_root (l.copy.n + 1)) (is_root (l.copy.n + 1));
