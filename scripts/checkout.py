@@ -2,6 +2,7 @@
 
 from __future__ import annotations
 
+import marshal
 import os
 
 # The launcher reads this module each time, so it imports nothing that takes long.
@@ -18,9 +19,13 @@ PROGRAM = os.path.join(HOME, "out", "lwcrun")
 LIBRARIES = os.path.join(HOME, "out", "rlib")
 # The state of the checkout when the launcher built the program.
 BUILT = os.path.join(LIBRARIES, "built")
+# How everything looked when the launcher last went through all folders and found the program made of what was there.
+SEEN = os.path.join(LIBRARIES, "seen")
 
 # How a file looks: its name, when it was written and changed last, and its size.
 Look = tuple[str, int, int, int]
+# The same of what has a name, which may be a folder, and None where there is nothing.
+Places = dict[str, tuple[int, int, int] | None]
 
 
 def uses_of_crates() -> dict[str, list[str]]:
@@ -88,15 +93,78 @@ def state_of(looks: list[Look]) -> str:
     return repr((looks, state.st_mtime_ns, state.st_size))
 
 
+def folders_in(folder: str) -> Iterator[str]:
+    """A folder, and all below it."""
+    yield folder
+    with os.scandir(folder) as found:
+        inner = [entry.path for entry in found if entry.is_dir(follow_symlinks=False)]
+    for it in inner:
+        yield from folders_in(it)
+
+
+def places_of(names: list[str]) -> Places:
+    """How everything looks on which it rests whether the program is made of these crates: the program, each source, and
+    each folder of sources. A folder looks another way once a file comes or goes."""
+    places: Places = {name: (written, changed, size) for name, written, changed, size in looks_of(names)}
+    for folder in (os.path.join(TOP, "crates", name, part) for name in names for part in PARTS):
+        for it in folders_in(folder) if os.path.isdir(folder) else [folder]:
+            places[it] = place_of(it)
+    return places | {PROGRAM: place_of(PROGRAM)}
+
+
+def place_of(name: str) -> tuple[int, int, int] | None:
+    """How what has this name looks."""
+    try:
+        state = os.stat(name)
+    except FileNotFoundError:
+        return None
+    return state.st_mtime_ns, state.st_ctime_ns, state.st_size
+
+
+def looks_as_seen() -> bool:
+    """Whether the program and all that it is made of look as they did when the launcher last saw that they agree. It
+    lists no folder, which would take longer than all else here."""
+    try:
+        with open(SEEN, "rb") as file:
+            seen = marshal.loads(file.read())
+        return PROGRAM in seen and all(place_of(name) == look for name, look in seen.items())
+    except (OSError, EOFError, ValueError, TypeError):
+        return False
+
+
+def keep_seen(places: Places) -> None:
+    """Keeps how everything looks, for the next call; where it cannot, that one lists the folders again."""
+    new = f"{SEEN}.{os.getpid()}"
+    try:
+        with open(new, "wb") as file:
+            marshal.dump(places, file)
+        os.replace(new, SEEN)
+    except OSError:
+        pass
+
+
 def is_built() -> bool:
     """Whether the program is there, and made of the sources as they are: by the launcher, or by `rt ci`."""
+    if looks_as_seen():
+        return True
     try:
-        looks = looks_of(crates_of_program(uses_of_crates()))
-        if os.path.exists(BUILT):
-            with open(BUILT, encoding="utf-8") as file:
-                return file.read() == state_of(looks)
-        # `rt ci` writes this file when it begins.
-        begun = os.stat(os.path.join(TOP, ".git", "rt-ci.lock")).st_mtime_ns
-        return begun <= os.stat(PROGRAM).st_mtime_ns and all(changed <= begun for _, _, changed, _ in looks)
+        names = crates_of_program(uses_of_crates())
+        # What changes from here on looks another way than what is kept.
+        places = places_of(names)
+        if not is_made_of(names):
+            return False
     except OSError:
         return False
+    keep_seen(places)
+    return True
+
+
+def is_made_of(names: list[str]) -> bool:
+    """Whether the program is made of these crates as they are, by a look at every file."""
+    looks = looks_of(names)
+    if os.path.exists(BUILT):
+        with open(BUILT, encoding="utf-8") as file:
+            return file.read() == state_of(looks)
+    # `rt ci` writes this file when it begins.
+    begun = os.stat(os.path.join(TOP, ".git", "rt-ci.lock")).st_mtime_ns
+    return begun <= os.stat(PROGRAM).st_mtime_ns and all(changed <= begun for _, _, changed, _ in looks)

@@ -23,17 +23,13 @@ pub fn digits_of(alloc: Global, numbers: &[u8]) -> Result<String, OutOfMemory>
     }
 }
 
-/// The hexadecimal digit of a number below 16.
+/// The hexadecimal digit of a number below 16. The sum is no choice of two, so that many are made at once.
 #[inline(always)]
 fn digit(number: u8) -> u8
     requires { number < 16 }
     ensures { result ≡ glyph number }
 {
-    if number < 10 {
-        b'0' + number
-    } else {
-        b'a' + (number - 10)
-    }
+    b'0' + number + if number < 10 { 0 } else { 39 }
 }
 
 /// Appends the lower-case digits of bytes, two for each, for which there is room.
@@ -42,8 +38,20 @@ pub fn append_digits(out: &mut Vec<u8>, bytes: &[u8])
     ensures digits { out.new.items ≡ out.old.items ++ encode_lower bytes.now }
     ensures capacity { vec_capacity out.old ≤ vec_capacity out.new }
 {
-    'bytes: for byte in bytes {
-        out.push_reserved(digit(*byte / 16));
-        out.push_reserved(digit(*byte % 16));
+    let before = out.len();
+    match out.resize(before + 2 * bytes.len(), 0) {
+        Ok(()) => put_digits(&mut out.as_mut_slice()[before..], bytes),
+        Err(_) => unreachable!(),
+    }
+}
+
+/// Puts the lower-case digits of bytes, two for each, into a place of their number.
+fn put_digits(digits: &mut [u8], bytes: &[u8])
+    requires { length digits.old ≡ 2 * length bytes.now }
+    ensures { digits.new ≡ encode_lower bytes.now }
+{
+    'bytes: for i in 0..bytes.len() {
+        digits[2 * i] = digit(bytes[i] / 16);
+        digits[2 * i + 1] = digit(bytes[i] % 16);
     }
 }

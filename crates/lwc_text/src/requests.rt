@@ -1,7 +1,7 @@
 //! Requests: the bytes of each, one a line.
 
 ghost use Rattle.std.specs.Prelude.{◌≡◌, ◌<◌, ◌≤◌, ◌+◌, ◌^◌, ◌∷◌, ◌==◌, ℕ, List, length, IfErr, IfOk, IfSome};
-ghost use Rattle.std.specs.Prelude.{OnOk, None, Some, Ok, ◌*◌, ◌%◌, IsTrue, true};
+ghost use Rattle.std.specs.Prelude.{OnOk, None, Some, Ok, ◌*◌, ◌%◌, IsTrue, true, slice_index};
 ghost use Rattle.std.specs.List.{AllPass};
 ghost use Rattle.hex.specs.Hex as digits;
 ghost use Rattle.lwc_types.specs.Outcomes.{Answers, Fails, IsFound, unless_refused};
@@ -167,14 +167,26 @@ fn decode(line: &[u8], bytes: &mut [u8])
     requires room { length line.now ≡ 2 * length bytes.old }
     ensures { digits.decode_of line.now ≡ Ok bytes.new }
 {
+    let (pairs, _) = line.as_chunks::<2>();
     'bytes: for i in 0..bytes.len() {
-        bytes[i] = digit_value(line[2 * i]) * 16 + digit_value(line[2 * i + 1]);
+        bytes[i] = byte_of(pairs[i]);
     }
 }
 
-/// The value of a digit, in either case, which is computed without a test, so that many are at once.
+/// The byte of two digits, which are taken as one number, so that many pairs are read at once.
 #[inline(always)]
-fn digit_value(digit: u8) -> u8
+fn byte_of(pair: [u8; 2]) -> u8
+    requires high { digits.is_hex_digit (slice_index pair 0) ≡ true }
+    requires low { digits.is_hex_digit (slice_index pair 1) ≡ true }
+    ensures { (at : ℕ) → digits.pair_value (slice_index pair 0) (slice_index pair 1) at ≡ Ok result }
+{
+    let both = u16::from_le_bytes(pair);
+    (digit_value(both % 256) * 16 + digit_value(both / 256)) as u8
+}
+
+/// The value of a digit, in either case, which is computed without a test.
+#[inline(always)]
+fn digit_value(digit: u16) -> u16
     requires { digits.is_hex_digit digit ≡ true }
     ensures value { digits.hex_digit_value digit ≡ Some result }
     ensures small { result < 16 }
