@@ -7,6 +7,8 @@
 //! kernel back by `close`.
 #![tactic(auto)]
 
+mod carrier;
+mod carriers;
 mod guarded;
 mod opened;
 mod opening;
@@ -14,6 +16,8 @@ mod passes;
 mod process;
 mod stay;
 
+pub use carrier::{Carrier, CountsTurns, carry, carry_all};
+pub use carriers::{carriers_of, parts_of};
 pub use opened::Opened;
 pub use passes::{ProcessPass, ProcessPasses};
 pub use process::Process;
