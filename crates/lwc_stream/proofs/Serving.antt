@@ -3,9 +3,8 @@ use Rattle.std.proofs.Common.{◌≡◌, ◌∙◌, ℕ, zero, suc, List, [], �
 use Rattle.std.specs.List.{AllZip}
 use Rattle.kernel_core.specs.Machine.{has_ended}
 use Rattle.kernel_core.proofs.FinishedBy.{none_yet}
-use Rattle.kernel_core.specs.Start.{start}
 use Rattle.process_core.specs.declared.opened.Opened.{Opened}
-use Rattle.lwc_stream.proofs.Turns.{HasPut, Puts, have_put}
+use Rattle.lwc_stream.proofs.Turns.{Puts, have_put}
 use Rattle.lwc_stream.specs.Workers.{HasServed, HaveServed, IsFresh}
 use Rattle.lwc_stream.specs.Queues.{End}
 use Rattle.process_core.specs.Running.{Carried, Carries, IsPassOf}

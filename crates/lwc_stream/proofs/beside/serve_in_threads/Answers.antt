@@ -1,5 +1,3 @@
-use denote.Param.Send.{sendable}
-use Rattle.std.proofs.Crossing.{crosses}
 use Rattle.std.proofs.Common.{◌∙◌, All, map, sym, ap, subst, arith}
 use Rattle.std.specs.List.{AllZip}
 use Rattle.lwc_stream.proofs.Serving.{have_served}
@@ -7,7 +5,6 @@ use Rattle.lwc_stream.proofs.Turns.{Puts}
 use Rattle.lwc_stream.specs.Workers.{HaveServed}
 use Rattle.process_core.proofs.Carrying.{written_back}
 use Rattle.process_core.specs.Running.{Carries, IsPassOf}
-use Rattle.lwc_stream.proofs.Sent.{outbox_send}
 use Rattle.lwc_stream.proofs.beside.serve_in_threads.Goals as goal
 
 pub carry_all-requires-clause-ours : goal.carry_all-requires-clause-ours

@@ -1,4 +1,4 @@
-use Rattle.std.proofs.Common.{◌≡◌, ◌∙◌, ◌≤◌, ℕ, [], All, None, length, map, sym, ap, subst, true, arith}
+use Rattle.std.proofs.Common.{◌≡◌, ◌∙◌, [], All, None, length, map, sym, ap, subst, true, arith}
 use Rattle.std.proofs.Math.ListN.{length-map}
 use Rattle.std.proofs.lemmas.List.{length-replicate}
 use Rattle.std.proofs.lemmas.List.Elements.{All-map}
@@ -6,7 +6,6 @@ use Rattle.std.proofs.lemmas.Simd.{map-map}
 use Rattle.kernel_core.specs.Machine.{has_ended}
 use Rattle.lwc_stream.proofs.Lists.{map_all}
 use Rattle.lwc_stream.proofs.Shown.{opens}
-use Rattle.lwc_stream.specs.Queues.{End}
 use Rattle.lwc_stream.specs.Replies.{AreShown, finished_by}
 use Rattle.lwc_stream.specs.Streams.{HasShown, Held}
 use Rattle.process_core.proofs.Carrying.{all_made, still_all}
