@@ -1,29 +1,51 @@
 -- Lists of workers, before they serve and after.
-use Rattle.std.proofs.Common.{◌≡◌, ◌<◌, ℕ, List, All, length, get_or, sym, ap, subst, ◌∙◌, arith}
+use Rattle.std.proofs.Common.{◌≡◌, ◌∙◌, ℕ, zero, suc, List, [], ◌∷◌, All, map, true, refl, ap, sym, arith}
+use Rattle.std.specs.List.{AllZip}
+use Rattle.kernel_core.specs.Machine.{has_ended}
+use Rattle.kernel_core.proofs.FinishedBy.{none_yet}
 use Rattle.process_core.specs.declared.opened.Opened.{Opened}
+use Rattle.lwc_stream.proofs.Turns.{Puts, have_put}
 use Rattle.lwc_stream.specs.Workers.{HasServed, HaveServed, IsFresh}
 use Rattle.lwc_stream.specs.Queues.{End}
-use Rattle.process_core.proofs.Offers.{same_map}
-use Rattle.process_core.specs.Running.{Carried}
+use Rattle.process_core.specs.Running.{Carried, Carries, IsPassOf}
 use Rattle.turnstile.specs.Passes.{Lock}
 
-module _ {V : Type 0} (pass : V → Carried) (puts : V → End) (process : Lock Opened) where
-  -- each worker of a list may serve
-  pub may_serve : (xs ys : List V) → xs ≡ ys → All (λ w. IsFresh process (pass w) (puts w)) ys → (i : ℕ) (x : V) → i < length xs → x ≡ get_or xs i x → IsFresh process (pass x) (puts x)
-  may_serve xs ys same fresh i x inside is =
-      let within : i < length ys = omega (arith, ap length same) in
-      let there : x ≡ get_or ys i x = is ∙ ap (λ l. get_or l i x) same in
-      subst (λ z. IsFresh process (pass z) (puts z)) (sym there) (fresh i x within)
+module _ {V T : Type 0} (pass : V → Carried) (outbox : V → T) (turns : T → ℕ) (puts : T → End) (process : Lock Opened) where
+  abbrev Turned : V → V → Type 0
+  Turned x y = Carries (Puts puts) process (pass x) (outbox x) (pass y) (outbox y)
 
-  -- a worker that has served, with the pass and the queue that it had
-  pub record Serves (x y : V) : Type 0 where
-    pub served : HasServed process (pass y) (puts y)
-    pub number : (pass y).held.number ≡ (pass x).held.number
-    pub queue : (puts y).queue ≡ (puts x).queue
+  abbrev Fresh : V → Type 0
+  Fresh x = IsFresh process (pass x) (turns (outbox x)) (puts (outbox x))
 
-  pub have_served : (xs ys : List V) → length ys ≡ length xs → ((i : ℕ) (d : V) → i < length xs → Serves (get_or xs i d) (get_or ys i d)) → HaveServed pass puts process xs ys
-  have_served xs ys count each = record {
-    served = λ k d inside. (each k d (omega (arith, count))).served;
-    numbers = same_map (λ w. (pass w).held.number) ys xs count (λ i d below. (each i d below).number);
-    queues = same_map (λ w. (puts w).queue) ys xs count (λ i d below. (each i d below).queue);
+  -- the queues stay
+  same_queues : (xs ys : List V) → AllZip Turned xs ys → map (λ w. (puts (outbox w)).queue) ys ≡ map (λ w. (puts (outbox w)).queue) xs
+  same_queues [] [] all = refl
+  same_queues [] (y ∷ ys) all = absurd all
+  same_queues (x ∷ xs) [] all = absurd all
+  same_queues (x ∷ xs) (y ∷ ys) all =
+      let h = have_put puts process (pass x) (outbox x) (pass y) (outbox y) all.0 in
+      ap (λ n. n ∷ map (λ w. (puts (outbox w)).queue) ys) h.queue ∙ ap (λ l. (puts (outbox x)).queue ∷ l) (same_queues xs ys all.1)
+
+  -- workers that begin fresh and end have served
+  all_served : (xs ys : List V) → AllZip Turned xs ys → All Fresh xs → All (λ w. IsPassOf process (pass w)) ys → All (λ w. has_ended (pass w).last.status ≡ true) ys →
+      All (λ w. HasServed process (pass w) (puts (outbox w))) ys
+  all_served [] [] all fresh ours ended k d inside = absurd (omega arith)
+  all_served [] (y ∷ ys) all fresh ours ended k d inside = absurd all
+  all_served (x ∷ xs) [] all fresh ours ended k d inside = absurd all
+  all_served (x ∷ xs) (y ∷ ys) all fresh ours ended zero d inside =
+      let h = have_put puts process (pass x) (outbox x) (pass y) (outbox y) all.0 in
+      let first = fresh 0 x (omega arith) in record {
+        ours = ours 0 y (omega arith);
+        ended = ended 0 y (omega arith);
+        put = h.put (first.empty ∙ sym (none_yet _ _ _ first.unseen));
+      }
+  all_served (x ∷ xs) (y ∷ ys) all fresh ours ended (suc k) d inside =
+      all_served xs ys all.1 (λ j e below. fresh (suc j) e (omega arith)) (λ j e below. ours (suc j) e (omega arith)) (λ j e below. ended (suc j) e (omega arith)) k d (omega arith)
+
+  pub have_served : (xs ys : List V) → AllZip Turned xs ys → All Fresh xs → All (λ w. IsPassOf process (pass w)) ys → All (λ w. has_ended (pass w).last.status ≡ true) ys →
+      map (λ w. (pass w).held.number) ys ≡ map (λ w. (pass w).held.number) xs → HaveServed pass (λ w. puts (outbox w)) process xs ys
+  have_served xs ys all fresh ours ended numbers = record {
+    served = all_served xs ys all fresh ours ended;
+    numbers = numbers;
+    queues = same_queues xs ys all;
   }

@@ -1,5 +1,5 @@
 -- Workers, each with the pass of a process and the end of a queue.
-use Rattle.std.specs.Prelude.{◌≡◌, List, [], All, map, true}
+use Rattle.std.specs.Prelude.{◌≡◌, ℕ, List, [], All, map, true}
 use Rattle.kernel_core.specs.Machine.{has_ended}
 use Rattle.process_core.specs.declared.opened.Opened.{Opened}
 use Rattle.lwc_stream.specs.Queues.{End}
@@ -7,10 +7,11 @@ use Rattle.lwc_stream.specs.Replies.{finished_by}
 use Rattle.process_core.specs.Running.{Carried, IsPassOf}
 use Rattle.turnstile.specs.Passes.{Lock}
 
--- a worker that has made no step, and has put nothing into its queue
-pub record IsFresh (process : Lock Opened) (pass : Carried) (puts : End) : Type 0 where
+-- a worker that has made no step, has counted no turn, and has put nothing into its queue
+pub record IsFresh (process : Lock Opened) (pass : Carried) (turns : ℕ) (puts : End) : Type 0 where
   pub ours : IsPassOf process pass
   pub unseen : pass.held.seen ≡ []
+  pub unturned : turns ≡ 0
   pub empty : puts.values ≡ []
 
 -- a worker whose thread has ended, and that has put what its steps finished into its queue

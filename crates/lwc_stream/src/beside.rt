@@ -1,17 +1,16 @@
 //! The workers in threads of their own, and the caller beside them.
 ghost use Rattle.std.specs.Prelude.{◌≡◌, List, All, length, map};
 ghost use Rattle.lwc_io.specs.Outside.{SinkView};
-ghost use Rattle.lwc_stream.specs.Workers.{HasServed, HaveServed, IsFresh};
+ghost use Rattle.lwc_stream.specs.Workers.{HaveServed, IsFresh};
 ghost use Rattle.lwc_stream.specs.Streams.{HasShown};
 
 use crate::collector::Collector;
 use crate::signal::Signal;
-use crate::worker::{Worker, serve};
-use lwc_base::MOST_THREADS;
+use crate::worker::Worker;
 use lwc_io::{Gate, Sink};
-use process_core::Process;
+use process_core::{Process, carry_all};
 use std::snapshot::Snapshot;
-use std::sync::Wait;
+use std::sync::{Arc, Wait};
 use std::thread;
 use std::thread::{Promise, Scope, Threads};
 use world_face::World;
@@ -20,27 +19,13 @@ use world_face::World;
 fn serve_in_threads<'a, R: Threads + Wait + Sync, W: World, G: Gate>(
     rt: &R,
     process: &Process<W>,
-    signal: &Signal,
     gate: &G,
     mut workers: Vec<Worker<'a, W>>,
 ) -> Vec<Worker<'a, W>>
-    requires fresh { All (λ w. IsFresh process.now w.pass w.puts) workers.items }
-    ensures { HaveServed (λ w. w.pass) (λ w. w.puts) process.now workers.entry.items result.items }
+    requires fresh { All (λ w. IsFresh process.now w.pass w.turns.turns w.turns.puts) workers.items }
+    ensures { HaveServed (λ w. w.pass) (λ w. w.turns.puts) process.now workers.entry.items result.items }
 {
-    thread::for_each_mut(
-        rt,
-        workers.as_mut_slice(),
-        MOST_THREADS as usize,
-        &|_i: usize, worker: &mut Worker<W>|
-            requires { IsFresh process.now worker.now.pass worker.now.puts }
-            ensures { HasServed process.entry.now worker.exit.now.pass worker.exit.now.puts
-                × (worker.exit.now.pass.held.number ≡ worker.entry.now.pass.held.number)
-                × (worker.exit.now.puts.queue ≡ worker.entry.now.puts.queue) }
-        {
-            serve(rt, process, signal, gate, worker);
-            signal.end();
-        },
-    );
+    carry_all(rt, process, workers.as_mut_slice(), gate);
     workers
 }
 
@@ -54,7 +39,8 @@ struct Served<'a, W: World> {
 impl<'a, W: World> Promise<Vec<Worker<'a, W>>> for Served<'a, W> {
     ghost use Rattle.lwc_stream.specs.Workers.{HaveServed};
 
-    ghost kept_by = { λ p r. HaveServed (λ w. w.pass) (λ w. w.puts) p.process.value p.before.value.items r.items };
+    ghost kept_by = { λ p r. HaveServed (λ w. w.pass) (λ w. w.turns.puts)
+        p.process.value p.before.value.items r.items };
 }
 
 /// What the caller does while workers go on.
@@ -63,15 +49,17 @@ trait Caller {
 
     ghost gives: { Self → Self.Output → Type 0 };
 
-    fn run<R: Wait>(self, rt: &R, signal: &Signal, workers: usize) -> Self::Output
+    fn run<R: Wait>(self, rt: &R) -> Self::Output
         ensures { gives self result };
 }
 
-/// The collector, and the sink that it shows replies to.
+/// The collector, the sink that it shows replies to, and how it is notified by how many workers.
 #[derive(Drop)]
 struct Collecting<'o, 'a, O> {
     out: &'o mut O,
     collector: Collector<'a>,
+    signal: Arc<Signal>,
+    workers: usize,
 }
 
 impl<'o, 'a, O: Sink> Caller for Collecting<'o, 'a, O> {
@@ -86,10 +74,15 @@ impl<'o, 'a, O: Sink> Caller for Collecting<'o, 'a, O> {
         HasShown (map (λ e. e.values) r.1.takes.items)
         r.1.waiting r.1.writer before (O.seen r.0.now)) };
 
-    fn run<R: Wait>(self, rt: &R, signal: &Signal, workers: usize) -> (&'o mut O, Collector<'a>) {
-        let Collecting { out, collector } = self;
+    fn run<R: Wait>(self, rt: &R) -> (&'o mut O, Collector<'a>) {
+        let Collecting {
+            out,
+            collector,
+            signal,
+            workers,
+        } = self;
         let mut collector = collector;
-        collector.follow(rt, signal, workers, out);
+        collector.follow(rt, &signal, workers, out);
         (out, collector)
     }
 }
@@ -109,16 +102,14 @@ fn serve_in_scope<
     scope: &Scope<'s, E>,
     rt: &'s R,
     process: &'s Process<W>,
-    signal: &'s Signal,
     gate: &'s G,
     caller: S,
     workers: Vec<Worker<'a, W>>,
 ) -> (Vec<Worker<'a, W>>, A)
-    requires fresh { All (λ w. IsFresh process.now w.pass w.puts) workers.items }
-    ensures served { HaveServed (λ w. w.pass) (λ w. w.puts) process.now workers.entry.items result.0.items }
+    requires fresh { All (λ w. IsFresh process.now w.pass w.turns.turns w.turns.puts) workers.items }
+    ensures served { HaveServed (λ w. w.pass) (λ w. w.turns.puts) process.now workers.entry.items result.0.items }
     ensures gives { S.gives caller result.1 }
 {
-    let count = workers.len();
     let promise = Served::<'a, W> {
         process: Snapshot::of(process),
         before: Snapshot::of(&workers),
@@ -126,18 +117,18 @@ fn serve_in_scope<
     let started = scope.spawn_with(
         promise,
         move || -> Vec<Worker<W>>
-            requires { All (λ w. IsFresh process.now w.pass w.puts) workers.items }
-            ensures { HaveServed (λ w. w.pass) (λ w. w.puts) process.entry.now workers.entry.items result.items }
-        { serve_in_threads(rt, process, signal, gate, workers) },
+            requires { All (λ w. IsFresh process.now w.pass w.turns.turns w.turns.puts) workers.items }
+            ensures { HaveServed (λ w. w.pass) (λ w. w.turns.puts) process.entry.now workers.entry.items result.items }
+        { serve_in_threads(rt, process, gate, workers) },
     );
     match started {
         Ok(handle) => {
-            let given = caller.run(rt, signal, count);
+            let given = caller.run(rt);
             (handle.join(rt), given)
         }
         Err(refused) => {
             let workers = (refused.value)();
-            let given = caller.run(rt, signal, count);
+            let given = caller.run(rt);
             (workers, given)
         }
     }
@@ -158,20 +149,18 @@ fn serve_in_new_scope<
     caller: S,
     workers: Vec<Worker<'a, W>>,
 ) -> (Vec<Worker<'a, W>>, A)
-    requires fresh { All (λ w. IsFresh process.now w.pass w.puts) workers.items }
-    ensures served { HaveServed (λ w. w.pass) (λ w. w.puts) process.now workers.entry.items result.0.items }
+    requires fresh { All (λ w. IsFresh process.now w.pass w.turns.turns w.turns.puts) workers.items }
+    ensures served { HaveServed (λ w. w.pass) (λ w. w.turns.puts) process.now workers.entry.items result.0.items }
     ensures gives { S.gives caller result.1 }
 {
-    let signal = Signal::new();
-    let signal = &signal;
     thread::scope(
         thread::scope_env(),
         rt,
         move |scope| -> (Vec<Worker<W>>, A)
-            requires { All (λ w. IsFresh process.now w.pass w.puts) workers.items }
-            ensures { HaveServed (λ w. w.pass) (λ w. w.puts) process.entry.now workers.entry.items result.0.items
+            requires { All (λ w. IsFresh process.now w.pass w.turns.turns w.turns.puts) workers.items }
+            ensures { HaveServed (λ w. w.pass) (λ w. w.turns.puts) process.entry.now workers.entry.items result.0.items
                 × S.gives caller result.1 }
-        { serve_in_scope(scope, rt, process, signal, gate, caller, workers) },
+        { serve_in_scope(scope, rt, process, gate, caller, workers) },
     )
 }
 
@@ -185,12 +174,13 @@ pub(crate) fn serve_beside<'a, R: Threads + Wait + Sync, W: World, G: Gate, O: S
     rt: &R,
     process: &Process<W>,
     gate: &G,
+    signal: Arc<Signal>,
     out: &mut O,
     collector: Collector<'a>,
     workers: Vec<Worker<'a, W>>,
 ) -> (Vec<Worker<'a, W>>, Collector<'a>)
-    requires fresh { All (λ w. IsFresh process.now w.pass w.puts) workers.items }
-    ensures served { HaveServed (λ w. w.pass) (λ w. w.puts) process.now workers.entry.items result.0.items }
+    requires fresh { All (λ w. IsFresh process.now w.pass w.turns.turns w.turns.puts) workers.items }
+    ensures served { HaveServed (λ w. w.pass) (λ w. w.turns.puts) process.now workers.entry.items result.0.items }
     ensures queues { map (λ e. e.queue) result.1.takes.items ≡ map (λ e. e.queue) collector.entry.takes.items }
     ensures places { length result.1.waiting.places ≡ length collector.entry.waiting.places }
     ensures shown { (before : SinkView) →
@@ -199,7 +189,12 @@ pub(crate) fn serve_beside<'a, R: Threads + Wait + Sync, W: World, G: Gate, O: S
         HasShown (map (λ e. e.values) result.1.takes.items)
         result.1.waiting result.1.writer before (O.seen out.new) }
 {
-    let caller = Collecting { out, collector };
+    let caller = Collecting {
+        out,
+        collector,
+        signal,
+        workers: workers.len(),
+    };
     let (workers, (out, collector)) = serve_in_new_scope(rt, process, gate, caller, workers);
     take_back(out);
     (workers, collector)

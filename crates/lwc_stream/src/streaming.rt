@@ -1,6 +1,6 @@
 //! A stream as a whole.
-ghost use Rattle.std.specs.Prelude.{◌≡◌, ◌<◌, ◌≤◌, ◌^◌, [], true, All, Bool, IfOk, List, OnErr};
-ghost use Rattle.std.specs.Prelude.{length, map, vec_capacity};
+ghost use Rattle.std.specs.Prelude.{◌≡◌, ◌<◌, ◌≤◌, ◌^◌, [], false, true, All, Bool, IfOk, List, None, OnErr};
+ghost use Rattle.std.specs.Prelude.{length, map, replicate, vec_capacity};
 ghost use Rattle.kernel_core.specs.Machine.{has_ended};
 ghost use Rattle.lwc_io.specs.Outside.{SinkView};
 ghost use Rattle.lwc_stream.specs.Replies.{AreShown, IsWritten, finished_by, lines_of};
@@ -10,16 +10,17 @@ ghost use Rattle.snapshot_host.specs.declared.finishing.Finished.{Finished};
 
 use crate::beside::serve_beside;
 use crate::collector::{Collector, show_ready, take_rest};
-use crate::ends::{Puts, Takes, open_queue};
+use crate::ends::{Takes, open_queue};
+use crate::signal::Signal;
 use crate::store::{BLOCKS, Store, open_blocks};
 use crate::waiting::Waiting;
-use crate::worker::Worker;
+use crate::worker::{Outbox, Worker};
 use crate::writer::LineWriter;
 use lwc_base::OutOfMemory;
 use lwc_io::{Gate, Sink};
-use process_core::{Process, ProcessPasses};
+use process_core::{Process, ProcessPasses, carriers_of, parts_of};
 use std::alloc::Global;
-use std::sync::Wait;
+use std::sync::{Arc, Wait};
 use std::thread::Threads;
 use world_face::World;
 
@@ -64,63 +65,79 @@ pub fn stream_all<R: Threads + Wait + Sync, W: World, G: Gate, O: Sink>(
     ensures unwritten { OnErr result (O.seen out.new ≡ O.seen out.old) }
 {
     let taken = Vec::with_capacity(alloc, passes.len())?;
-    let workers = Vec::with_capacity(alloc, passes.len())?;
     let mut blocks = open_blocks(alloc, passes.len(), requests as usize)?;
-    let waiting = Waiting::open(alloc, requests as usize)?;
+    let signal = Arc::new(alloc, Signal::new())?;
+    let (workers, collector, left) = open_stream(
+        alloc,
+        passes,
+        requests as usize,
+        blocks.as_mut_slice(),
+        &signal,
+    )?;
+    let (workers, collector) = serve_beside(rt, process, gate, signal, out, collector, workers);
+    Ok(finish(rt, workers, collector, taken, left, out))
+}
+
+/// What a stream of this many requests begins with: workers with these passes, each with blocks for the bytes of its
+/// replies and the end of a queue into which it puts them; the collector at the other ends; and room for what counted
+/// the workers' turns. The only error is out of memory.
+fn open_stream<'a, W: World>(
+    alloc: Global,
+    passes: ProcessPasses<W>,
+    requests: usize,
+    blocks: &'a mut [Vec<u8>],
+    signal: &Arc<Signal>,
+) -> Result<(Vec<Worker<'a, W>>, Collector<'a>, Vec<Outbox<'a>>), OutOfMemory>
+    ensures passes { IfOk result (λ s. map (λ w. w.pass) s.0.items ≡ passes.items) }
+    ensures queues { IfOk result (λ s. map (λ w. w.turns.puts.queue) s.0.items
+        ≡ map (λ e. e.queue) s.1.takes.items) }
+    ensures unturned { IfOk result (λ s. All (λ w. w.turns.turns ≡ 0) s.0.items) }
+    ensures unput { IfOk result (λ s. All (λ w. w.turns.puts.values ≡ []) s.0.items) }
+    ensures untaken { IfOk result (λ s. All (λ e. e.values ≡ []) s.1.takes.items) }
+    ensures waiting { IfOk result (λ s. s.1.waiting ≡ record { places = replicate requests None; next = 0 }) }
+    ensures writer { IfOk result (λ s. s.1.writer ≡ false) }
+    ensures none_left { IfOk result (λ s. s.2.items ≡ []) }
+    ensures room { IfOk result (λ s. length passes.items ≤ vec_capacity s.2) }
+{
+    let left = Vec::with_capacity(alloc, passes.len())?;
+    let workers = Vec::with_capacity(alloc, passes.len())?;
+    let waiting = Waiting::open(alloc, requests)?;
     let writer = LineWriter::open(alloc)?;
-    let (puts, takes) = open_queues(alloc, passes.len(), requests as usize)?;
-    let workers = workers_of(workers, passes, puts, blocks.as_mut_slice());
+    let (outboxes, takes) = open_queues(alloc, passes.len(), requests, blocks, signal)?;
+    let workers = carriers_of(workers, passes, outboxes);
     let collector = Collector {
         takes,
         waiting,
         writer,
     };
-    let (workers, collector) = serve_beside(rt, process, gate, out, collector, workers);
-    Ok(finish(rt, workers, collector, taken, out))
+    Ok((workers, collector, left))
 }
 
-/// Queues, each with room for this many replies, and their ends. The only error is out of memory.
+/// Queues, each with room for this many replies, and their ends: where replies are put in, an outbox with blocks for
+/// their bytes. The only error is out of memory.
 fn open_queues<'a>(
     alloc: Global,
     count: usize,
     room: usize,
-) -> Result<(Vec<Puts<'a>>, Vec<Takes<'a>>), OutOfMemory>
+    mut blocks: &'a mut [Vec<u8>],
+    signal: &Arc<Signal>,
+) -> Result<(Vec<Outbox<'a>>, Vec<Takes<'a>>), OutOfMemory>
     ensures count { IfOk result (λ q. length q.0.items ≡ count) }
-    ensures queues { IfOk result (λ q. map (λ e. e.queue) q.0.items ≡ map (λ e. e.queue) q.1.items) }
-    ensures unput { IfOk result (λ q. All (λ e. e.values ≡ []) q.0.items) }
+    ensures queues { IfOk result (λ q. map (λ o. o.puts.queue) q.0.items ≡ map (λ e. e.queue) q.1.items) }
+    ensures unturned { IfOk result (λ q. All (λ o. o.turns ≡ 0) q.0.items) }
+    ensures unput { IfOk result (λ q. All (λ o. o.puts.values ≡ []) q.0.items) }
     ensures untaken { IfOk result (λ q. All (λ e. e.values ≡ []) q.1.items) }
 {
-    let mut puts = Vec::new(alloc);
+    let mut outboxes = Vec::new(alloc);
     let mut takes = Vec::new(alloc);
     'queues: for _ in 0..count {
         let (putting, taking) = open_queue(alloc, room)?;
-        puts.push(putting)?;
+        let store = Store::new(blocks.split_off_mut(..BLOCKS).unwrap_or_default());
+        let signal = Arc::try_clone(signal)?;
+        outboxes.push(Outbox::new(putting, store, signal))?;
         takes.push(taking)?;
     }
-    Ok((puts, takes))
-}
-
-/// Workers with these passes, these ends of queues, and blocks for the bytes of their replies, in a vector that
-/// has room for them.
-fn workers_of<'a, W: World>(
-    mut workers: Vec<Worker<'a, W>>,
-    mut passes: ProcessPasses<W>,
-    mut ends: Vec<Puts<'a>>,
-    mut blocks: &'a mut [Vec<u8>],
-) -> Vec<Worker<'a, W>>
-    requires empty { workers.items ≡ [] }
-    requires room { length passes.items ≤ vec_capacity workers }
-    requires ends { length ends.items ≡ length passes.items }
-    ensures passes { map (λ w. w.pass) result.items ≡ passes.items }
-    ensures ends { map (λ w. w.puts) result.items ≡ ends.entry.items }
-{
-    'passes: while !passes.is_empty() {
-        let pass = passes.remove(0);
-        let puts = ends.remove(0);
-        let store = Store::new(blocks.split_off_mut(..BLOCKS).unwrap_or_default());
-        workers.push_reserved(Worker { pass, puts, store });
-    }
-    workers
+    Ok((outboxes, takes))
 }
 
 /// Takes and shows what is left when all workers have ended.
@@ -129,17 +146,20 @@ fn finish<'a, R: Wait, W: World, O: Sink>(
     workers: Vec<Worker<'a, W>>,
     collector: Collector<'a>,
     taken: ProcessPasses<W>,
+    left: Vec<Outbox<'a>>,
     out: &mut O,
 ) -> Streamed<W>
-    requires queues { map (λ w. w.puts.queue) workers.items ≡ map (λ e. e.queue) collector.takes.items }
-    requires empty { taken.items ≡ [] }
+    requires queues { map (λ w. w.turns.puts.queue) workers.items ≡ map (λ e. e.queue) collector.takes.items }
+    requires none_taken { taken.items ≡ [] }
+    requires none_left { left.items ≡ [] }
     requires room { length workers.items ≤ vec_capacity taken }
+    requires room_left { length workers.items ≤ vec_capacity left }
     ensures passes { result.passes.items ≡ map (λ w. w.pass) workers.entry.items }
     ensures written { (before : SinkView) →
         HasShown (map (λ e. e.values) collector.entry.takes.items) collector.entry.waiting collector.entry.writer
         before (O.seen out.old) →
         (shown : List Finished)
-        × AreShown (map (λ w. w.puts.values) workers.entry.items) (length collector.entry.waiting.places) shown
+        × AreShown (map (λ w. w.turns.puts.values) workers.entry.items) (length collector.entry.waiting.places) shown
         × IsWritten result.failed before (O.seen out.new) (lines_of shown) }
 {
     let Collector {
@@ -149,34 +169,29 @@ fn finish<'a, R: Wait, W: World, O: Sink>(
     } = collector;
     let mut waiting = waiting;
     let mut writer = writer;
-    let passes = take_left(rt, workers, takes, &mut waiting, taken);
+    let (passes, outboxes) = parts_of(workers, taken, left);
+    take_left(rt, outboxes, takes, &mut waiting);
     show_ready(&mut waiting, &mut writer, out);
     let failed = writer.has_failed();
     Streamed { failed, passes }
 }
 
-/// Takes what is left in all queues, and gives the passes of the workers back in their order.
-fn take_left<'a, R: Wait, W: World>(
+/// Takes what is left in all queues.
+fn take_left<'a, R: Wait>(
     rt: &R,
-    mut workers: Vec<Worker<'a, W>>,
+    mut outboxes: Vec<Outbox<'a>>,
     mut ends: Vec<Takes<'a>>,
     waiting: &mut Waiting<'a>,
-    mut taken: ProcessPasses<W>,
-) -> ProcessPasses<W>
-    requires queues { map (λ w. w.puts.queue) workers.items ≡ map (λ e. e.queue) ends.items }
-    requires empty { taken.items ≡ [] }
-    requires room { length workers.items ≤ vec_capacity taken }
-    ensures passes { result.items ≡ map (λ w. w.pass) workers.entry.items }
+)
+    requires queues { map (λ o. o.puts.queue) outboxes.items ≡ map (λ e. e.queue) ends.items }
     ensures shown { (failed : Bool) (before now : SinkView) →
         HasShown (map (λ e. e.values) ends.entry.items) waiting.old failed before now →
-        HasShown (map (λ w. w.puts.values) workers.entry.items) waiting.new failed before now }
+        HasShown (map (λ o. o.puts.values) outboxes.entry.items) waiting.new failed before now }
     ensures places { length waiting.new.places ≡ length waiting.old.places }
 {
-    'workers: while !workers.is_empty() {
-        let Worker { pass, puts, .. } = workers.remove(0);
+    'outboxes: while !outboxes.is_empty() {
+        let Outbox { puts, .. } = outboxes.remove(0);
         let takes = ends.remove(0);
         take_rest(rt, puts, takes, waiting);
-        taken.push_reserved(pass);
     }
-    taken
 }

@@ -1,61 +1,64 @@
-//! A worker that carries a thread, and hands on what its steps finish.
+//! Workers, each of which carries a thread and hands on the replies that its turns finish.
 ghost use Rattle.std.specs.Prelude.{◌≡◌, ◌++◌};
-ghost use Rattle.kernel_core.specs.Histories.{replies_of};
-ghost use Rattle.lwc_stream.specs.Queues.{end_of};
-ghost use Rattle.lwc_stream.specs.Workers.{HasServed, IsFresh};
 
 use crate::ends::Puts;
 use crate::signal::Signal;
 use crate::store::Store;
-use lwc_io::Gate;
-use process_core::{Process, ProcessPass, Stay};
-use std::sync::Wait;
-use world_face::World;
+use kernel_core::Turn;
+use process_core::{Carrier, CountsTurns};
+use std::sync::{Arc, Wait};
 
-/// The pass of a thread, the end of a queue into which its replies are put, and what keeps their bytes.
+/// What counts the turns of a thread, and hands on the replies that they finish: the end of a queue into which they are
+/// put, what keeps their bytes, and how the caller is notified.
 #[derive(Drop)]
-pub(crate) struct Worker<'a, W: World> {
-    pub(crate) pass: ProcessPass<W>,
+pub(crate) struct Outbox<'a> {
+    turns: u64,
     pub(crate) puts: Puts<'a>,
-    pub(crate) store: Store<'a>,
+    store: Store<'a>,
+    signal: Arc<Signal>,
 }
 
-/// Carries the thread to its end. For each turn it first advances the thread's registers, outside the lock, unless
-/// the thread is alone; then it comes to the gate; then it makes the turn with that advance as its proposal. Where the
-/// gate does not wait, a few turns whose advances rest on the text alone are made in one stay inside the lock, up to
-/// one that finishes a request. A reply that the turn finished is put into the queue, and the caller is notified. It
-/// may wait.
-pub(crate) fn serve<R: Wait, W: World, G: Gate>(
-    rt: &R,
-    process: &Process<W>,
-    signal: &Signal,
-    gate: &G,
-    worker: &mut Worker<'_, W>,
-)
-    requires fresh { IsFresh process.now worker.old.pass worker.old.puts }
-    ensures served { HasServed process.now worker.new.pass worker.new.puts }
-    ensures number { worker.new.pass.held.number ≡ worker.old.pass.held.number }
-    ensures queue { worker.new.puts.queue ≡ worker.old.puts.queue }
-{
-    let mut stay = Stay::new(process.text(), gate.may_wait());
-    let mut turns = 0u64;
-    'turns: while !worker.pass.last().has_ended() {
-        process.propose(&worker.pass, &mut stay);
-        gate.before(rt, worker.pass.thread(), turns);
-        process.make_turn(rt, &mut worker.pass, &mut stay);
-        hand_on(rt, signal, worker);
-        turns += 1;
+/// What carries a thread of a stream to its end.
+pub(crate) type Worker<'a, W> = Carrier<W, Outbox<'a>>;
+
+impl CountsTurns for Outbox<'_> {
+    ghost use Rattle.std.specs.Prelude.{◌≡◌, ◌++◌};
+    ghost use Rattle.kernel_core.specs.Histories.{replies_of};
+    ghost use Rattle.lwc_stream.specs.Queues.{end_of};
+
+    ghost count = { λ o. o.turns };
+
+    ghost counts = { λ o left p. p.puts ≡ end_of o.puts.queue (o.puts.values ++ replies_of left.finished) };
+
+    fn count(&self) -> u64 {
+        self.turns
+    }
+
+    /// Puts the reply that the turn finished into the queue, if it did, and notifies the caller.
+    fn add<R: Wait>(&mut self, rt: &R, left: &Turn) {
+        self.turns += 1;
+        if let Some(finished) = &left.finished {
+            self.puts.put(rt, self.store.keep(rt, finished));
+            self.signal.notify();
+        }
+    }
+
+    fn end(&self) {
+        self.signal.end();
     }
 }
 
-/// Puts the reply that the last turn finished into the queue, if it did, and notifies the caller.
-fn hand_on<R: Wait, W: World>(rt: &R, signal: &Signal, worker: &mut Worker<'_, W>)
-    ensures pass { worker.new.pass ≡ worker.old.pass }
-    ensures puts { worker.new.puts
-        ≡ end_of worker.old.puts.queue (worker.old.puts.values ++ replies_of worker.old.pass.last.finished) }
-{
-    if let Some(finished) = &worker.pass.last().finished {
-        worker.puts.put(rt, worker.store.keep(rt, finished));
-        signal.notify();
+impl<'a> Outbox<'a> {
+    /// The outbox of a thread that has made no turn.
+    pub(crate) fn new(puts: Puts<'a>, store: Store<'a>, signal: Arc<Signal>) -> Outbox<'a>
+        ensures puts { result.puts ≡ puts.entry }
+        ensures turns { result.turns ≡ 0 }
+    {
+        Outbox {
+            turns: 0,
+            puts,
+            store,
+            signal,
+        }
     }
 }

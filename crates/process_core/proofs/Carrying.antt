@@ -1,11 +1,13 @@
 -- Lists of passes and of their carriers, from one to the other.
-use Rattle.std.proofs.Common.{◌≡◌, ℕ, List, [], ◌∷◌, ◌++◌, All, length, map, refl, sym, ap, subst, ◌∙◌, arith, take, drop}
+use Rattle.std.proofs.Common.{◌≡◌, ◌<◌, ℕ, suc, List, [], ◌∷◌, ◌++◌, All, get_or, length, map, refl, sym, ap, subst, ◌∙◌, arith, take, drop}
+use Rattle.std.specs.List.{AllZip}
+use Rattle.kernel_core.specs.declared.thread.Turn.{Turn}
 use Rattle.std.proofs.Math.Seq.{take-append_seam}
 use Rattle.std.proofs.Math.ListN.{get_or-map, length-map}
 use Rattle.std.proofs.lemmas.List.Elements.{All-map}
 use Rattle.std.proofs.lemmas.Simd.{map-map}
 use Rattle.std.specs.Prelude.{Contains}
-use Rattle.process_core.specs.Running.{AreAllOf, Carried, IsPassOf}
+use Rattle.process_core.specs.Running.{AreAllOf, Carried, Carries, IsPassOf}
 use Rattle.process_core.specs.declared.opened.Opened.{Opened}
 use Rattle.turnstile.specs.Passes.{Lock}
 
@@ -34,3 +36,16 @@ pub written_back : {A B : Type 0} (f : A → B) (n : ℕ) (new old : List A) →
 written_back f n new old count same =
     let long : n ≡ length new = count ∙ (sym (length-map old f) ∙ (sym (ap length same) ∙ length-map new f)) in
     ap (λ k. take k (new ++ drop (length new) old)) long ∙ take-append_seam new (drop (length new) old)
+
+-- what holds of the elements at each place
+pub all_zip : {A : Type 0} (R : A → A → Type 0) (xs ys : List A) → length ys ≡ length xs → ((i : ℕ) (d : A) → i < length xs → R (get_or xs i d) (get_or ys i d)) → AllZip R xs ys
+all_zip R [] [] long each = tt
+all_zip R [] (y ∷ ys) long each = absurd (omega arith)
+all_zip R (x ∷ xs) [] long each = absurd (omega arith)
+all_zip R (x ∷ xs) (y ∷ ys) long each = (each 0 x (omega arith), all_zip R xs ys (omega arith) (λ i d below. each (suc i) d (omega arith)))
+
+-- the same of what equals them
+pub carries_there : {T C : Type 0} (counts : T → Turn → T → Type 0) (process : Lock Opened) (pass : C → Carried) (turns : C → T) (x y x' y' : C) → x ≡ x' → y ≡ y' →
+    Carries counts process (pass x) (turns x) (pass y) (turns y) → Carries counts process (pass x') (turns x') (pass y') (turns y')
+carries_there counts process pass turns x y x' y' same same' carried =
+    subst (λ z. Carries counts process (pass x') (turns x') (pass z) (turns z)) same' (subst (λ z. Carries counts process (pass z) (turns z) (pass y) (turns y)) same carried)

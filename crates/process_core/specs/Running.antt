@@ -78,6 +78,14 @@ pub record NotesTurn (old new : Staying) (last : Turn) : Type 0 where
   pub kept : new ≡ record old { made = new.made }
   pub inside : 0 < new.made → StaysInside old new last
 
+-- turns of a pass, one after another, none where its last one had ended its thread, with what counts them before and
+-- after
+pub data Carries {T : Type 0} (counts : T → Turn → T → Type 0) (process : Lock Opened) (p : Carried) (x : T) :
+    Carried → T → Type 0 where
+  Still : Carries counts process p x p x
+  More : (q r : Carried) (y z : T) → Carries counts process p x q y → has_ended q.last.status ≡ false →
+      MakesTurn process q r → counts y r.last z → Carries counts process p x r z
+
 -- the pass of this thread, as `open` gives it
 pub record IsNewPass (process : Lock Opened) (t : ℕ) (p : Carried) : Type 0 where
   pub new : gate.IsNewPass process t p.held

@@ -4,20 +4,14 @@ ghost use Rattle.kernel_core.specs.Machine.{has_ended};
 ghost use Rattle.process_core.specs.Running.{IsPassOf};
 ghost use Rattle.thread_carrier.specs.Turned.{HasTurned};
 
-use lwc_base::MOST_THREADS;
 use lwc_io::Gate;
-use process_core::{Process, ProcessPass, Stay};
+use process_core::Process;
 use std::sync::Wait;
-use std::thread;
 use std::thread::Threads;
 use world_face::World;
 
 /// A thread that is carried: its pass, and the number of turns that it has made.
-#[derive(Drop)]
-pub struct Carrier<W: World> {
-    pub pass: ProcessPass<W>,
-    pub turns: u64,
-}
+pub type Carrier<W> = process_core::Carrier<W, u64>;
 
 /// Carries a thread to its end. For each turn it first advances the thread's registers, outside the lock, unless the
 /// thread is alone; then it comes to the gate; then it makes the turn with that advance as its proposal. Where the gate
@@ -36,13 +30,7 @@ pub fn carry<R: Wait, W: World, G: Gate>(
     ensures ended { has_ended carrier.new.pass.last.status ≡ true }
     ensures turns { HasTurned carrier.old.pass carrier.old.turns carrier.new.pass carrier.new.turns }
 {
-    let mut stay = Stay::new(process.text(), gate.may_wait());
-    'turns: while !carrier.pass.last().has_ended() {
-        process.propose(&carrier.pass, &mut stay);
-        gate.before(rt, carrier.pass.thread(), carrier.turns);
-        process.make_turn(rt, &mut carrier.pass, &mut stay);
-        carrier.turns += 1;
-    }
+    process_core::carry(rt, process, carrier, gate);
 }
 
 /// Carries all threads to their ends, each in a thread of the host's own where one can be made. It may wait.
@@ -60,17 +48,5 @@ pub fn carry_all<R: Threads + Wait + Sync, W: World, G: Gate>(
     ensures ended { All (λ c. has_ended c.pass.last.status ≡ true) carriers.new }
     ensures turns { AllZip (λ b c. HasTurned b.pass b.turns c.pass c.turns) carriers.old carriers.new }
 {
-    thread::for_each_mut(
-        rt,
-        carriers,
-        MOST_THREADS as usize,
-        &|_, carrier: &mut Carrier<W>|
-            requires { IsPassOf process.now carrier.now.pass × (carrier.now.turns < 2 ^ 63) }
-            ensures { IsPassOf process.entry.now carrier.exit.now.pass
-                × (carrier.exit.now.pass.held.number ≡ carrier.entry.now.pass.held.number)
-                × (has_ended carrier.exit.now.pass.last.status ≡ true)
-                × HasTurned carrier.entry.now.pass carrier.entry.now.turns
-                carrier.exit.now.pass carrier.exit.now.turns }
-        { carry(rt, process, carrier, gate) },
-    );
+    process_core::carry_all(rt, process, carriers, gate);
 }

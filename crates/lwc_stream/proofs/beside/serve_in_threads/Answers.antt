@@ -1,46 +1,25 @@
-use denote.Param.Send.{sendable}
-use Rattle.std.proofs.Crossing.{crosses}
-use Rattle.std.proofs.Common.{◌∙◌, sym, ap, subst, arith}
-use Rattle.lwc_stream.proofs.Serving.{have_served, may_serve}
-use Rattle.lwc_stream.specs.Workers.{HasServed, HaveServed}
+use Rattle.std.proofs.Common.{◌∙◌, All, map, sym, ap, subst, arith}
+use Rattle.std.specs.List.{AllZip}
+use Rattle.lwc_stream.proofs.Serving.{have_served}
+use Rattle.lwc_stream.proofs.Turns.{Puts}
+use Rattle.lwc_stream.specs.Workers.{HaveServed}
 use Rattle.process_core.proofs.Carrying.{written_back}
-use Rattle.lwc_stream.proofs.Sent.{signal_sync, worker_send}
-use Rattle.process_core.proofs.Sends.{process_sync}
+use Rattle.process_core.specs.Running.{Carries, IsPassOf}
 use Rattle.lwc_stream.proofs.beside.serve_in_threads.Goals as goal
 
-pub for_each_mut-requires-send-T : goal.for_each_mut-requires-send-T
-for_each_mut-requires-send-T g c κs within =
-    let s = c.type_bounds.send-W in
-    search (sendable, crosses, worker_send) depth 80 fits 20000
-
-pub for_each_mut-requires-sync-F : goal.for_each_mut-requires-sync-F
-for_each_mut-requires-sync-F g c κs within =
-    let s = c.type_bounds.send-W in
-    let r = c.type_bounds.sync-R in
-    let q = c.type_bounds.sync-G in
-    search (sendable, crosses, process_sync, signal_sync) depth 80 fits 20000
-
-pub for_each_mut-requires-clause-accepts : goal.for_each_mut-requires-clause-accepts
-for_each_mut-requires-clause-accepts g c κs within =
-    λ i p inside is.
-    let fresh = may_serve (λ w. w.pass) (λ w. w.puts) c.args.process.now _ c.args.workers.items c.as_mut_slice.ensures.value c.requires.fresh i p.now inside is in
-    let s = c.type_bounds.send-W in
-    let r = c.type_bounds.sync-R in
-    let q = c.type_bounds.sync-G in
-    (fresh, search (sendable, crosses) depth 80 fits 20000)
+pub carry_all-requires-clause-ours : goal.carry_all-requires-clause-ours
+carry_all-requires-clause-ours g c κs within =
+    subst (λ l. All (λ w. IsPassOf c.args.process.now w.pass) l) (sym c.as_mut_slice.ensures.value) (λ k d inside. (c.requires.fresh k d inside).ours)
 
 pub returns : goal.returns
 returns g c =
     let process = c.args.process.now in
     let before = c.args.workers.items in
-    let after = c.for_each_mut.new.s in
-    let have : HaveServed (λ w. w.pass) (λ w. w.puts) process before after =
-    subst (λ l. HaveServed (λ w. w.pass) (λ w. w.puts) process l after) c.as_mut_slice.ensures.value
-    (have_served (λ w. w.pass) (λ w. w.puts) process _ after (omega arith)
-    (λ i d below. let r = (c.for_each_mut.ensures i d below).1 in record {
-      served = subst (λ w. HasServed process w.pass w.puts) r.left r.call.0;
-      number = ap (λ w. w.pass.held.number) (sym r.left) ∙ (r.call.1 ∙ ap (λ w. w.pass.held.number) r.argument_is);
-      queue = ap (λ w. w.puts.queue) (sym r.left) ∙ (r.call.2 ∙ ap (λ w. w.puts.queue) r.argument_is);
-    })) in
+    let after = c.carry_all.new.carriers in
+    let same = c.as_mut_slice.ensures.value in
+    let have : HaveServed (λ w. w.pass) (λ w. w.turns.puts) process before after =
+    have_served (λ w. w.pass) (λ w. w.turns) (λ o. o.turns) (λ o. o.puts) process before after
+    (subst (λ l. AllZip (λ b d. Carries (Puts (λ o. o.puts)) process b.pass b.turns d.pass d.turns) l after) same c.carry_all.ensures.carries)
+    c.requires.fresh c.carry_all.ensures.ours c.carry_all.ensures.ended (c.carry_all.ensures.numbers ∙ ap (map (λ w. w.pass.held.number)) same) in
     let back = written_back (λ w. w.pass.held.number) c.args.workers.len after before (omega (arith, c.args.workers.ok.0)) have.numbers in
-    subst (HaveServed (λ w. w.pass) (λ w. w.puts) process before) (sym back) have
+    subst (HaveServed (λ w. w.pass) (λ w. w.turns.puts) process before) (sym back) have

@@ -1,4 +1,4 @@
-use Rattle.std.proofs.Common.{◌≡◌, ◌<◌, ◌∙◌, ◌++◌, ◌∷◌, [], length, map, refl, sym, ap, subst, arith, append-nil, append_assoc, length-append}
+use Rattle.std.proofs.Common.{◌≡◌, ◌<◌, ◌∙◌, ◌++◌, ◌∷◌, [], length, map, refl, sym, ap, subst, arith, append_assoc}
 use Rattle.std.proofs.Math.ListN.{length-map}
 use Rattle.std.proofs.lemmas.Bool.Decides.{nat_tests}
 use Rattle.lwc_stream.proofs.Lists.{heads, none_left}
@@ -6,11 +6,9 @@ use Rattle.lwc_stream.specs.Streams.{HasShown}
 use Rattle.process_core.proofs.Handing.{first_of}
 use Rattle.lwc_stream.proofs.streaming.take_left.Goals as goal
 
-pub workers-init : goal.workers-init
-workers-init g c = record {
+pub outboxes-init : goal.outboxes-init
+outboxes-init g c = record {
   queues = c.requires.queues;
-  passes = ap (λ l. l ++ map (λ w. w.pass) c.args.workers.items) c.requires.empty;
-  room = omega (arith, ap length c.requires.empty, c.requires.room);
   done = [];
   all = refl;
   shown = λ failed before now h. h;
@@ -19,64 +17,52 @@ workers-init g c = record {
 
 pub take_rest-requires : goal.take_rest-requires
 take_rest-requires g c =
-    let inv = c.workers.invariant in
-    let ws = c.workers.workers.items in
-    let es = c.workers.ends.items in
-    let w = c.remove-pass.result in
+    let inv = c.outboxes.invariant in
+    let ws = c.outboxes.outboxes.items in
+    let es = c.outboxes.ends.items in
+    let w = c.remove-puts.result in
     let e = c.remove-takes.result in
-    let ws' = c.remove-pass.new.self.items in
+    let ws' = c.remove-puts.new.self.items in
     let es' = c.remove-takes.new.self.items in
     let some : 0 < length ws = grind (arith, nat_tests) in
     let some_e : 0 < length es = omega (arith, some, ap length inv.queues, length-map ws (λ x. x.puts.queue), length-map es (λ x. x.queue)) in
-    let first_w : ws ≡ w ∷ ws' = first_of ws w ws' some c.remove-pass.ensures.value c.remove-pass.ensures.by_index.2 in
+    let first_w : ws ≡ w ∷ ws' = first_of ws w ws' some c.remove-puts.ensures.value c.remove-puts.ensures.by_index.2 in
     let first_e : es ≡ e ∷ es' = first_of es e es' some_e c.remove-takes.ensures.value c.remove-takes.ensures.by_index.2 in
     record { queue = (heads (λ x. x.puts.queue) ws ws' w (map (λ x. x.queue) es) (map (λ x. x.queue) es') e.queue inv.queues first_w (ap (map (λ x. x.queue)) first_e)).first }
 
-pub workers-preserved : goal.workers-preserved
-workers-preserved g c =
-    let inv = c.workers.invariant in
-    let ws = c.workers.workers.items in
-    let es = c.workers.ends.items in
-    let w = c.remove-pass.result in
+pub outboxes-preserved : goal.outboxes-preserved
+outboxes-preserved g c =
+    let inv = c.outboxes.invariant in
+    let ws = c.outboxes.outboxes.items in
+    let es = c.outboxes.ends.items in
+    let w = c.remove-puts.result in
     let e = c.remove-takes.result in
-    let ws' = c.remove-pass.new.self.items in
+    let ws' = c.remove-puts.new.self.items in
     let es' = c.remove-takes.new.self.items in
     let some : 0 < length ws = grind (arith, nat_tests) in
     let some_e : 0 < length es = omega (arith, some, ap length inv.queues, length-map ws (λ x. x.puts.queue), length-map es (λ x. x.queue)) in
-    let first_w : ws ≡ w ∷ ws' = first_of ws w ws' some c.remove-pass.ensures.value c.remove-pass.ensures.by_index.2 in
+    let first_w : ws ≡ w ∷ ws' = first_of ws w ws' some c.remove-puts.ensures.value c.remove-puts.ensures.by_index.2 in
     let first_e : es ≡ e ∷ es' = first_of es e es' some_e c.remove-takes.ensures.value c.remove-takes.ensures.by_index.2 in
     let new = c.take_rest.new.waiting in
     record {
       queues = (heads (λ x. x.puts.queue) ws ws' w (map (λ x. x.queue) es) (map (λ x. x.queue) es') e.queue inv.queues first_w (ap (map (λ x. x.queue)) first_e)).others;
-      passes = ap (λ l. l ++ map (λ x. x.pass) ws') c.push_reserved.ensures.items
-          ∙ (append_assoc c.workers.taken.items (w.pass ∷ []) (map (λ x. x.pass) ws')
-          ∙ (ap (λ l. c.workers.taken.items ++ map (λ x. x.pass) l) (sym first_w) ∙ inv.passes));
-      room = omega (arith, inv.room, c.push_reserved.ensures.len, c.push_reserved.ensures.capacity, ap length c.push_reserved.ensures.items, length-append c.workers.taken.items (w.pass ∷ []), c.remove-pass.ensures.len, ap length first_w);
       done = inv.done ++ w.puts.values ∷ [];
       all = append_assoc inv.done (w.puts.values ∷ []) (map (λ x. x.puts.values) ws') ∙ (ap (λ l. inv.done ++ map (λ x. x.puts.values) l) (sym first_w) ∙ inv.all);
       shown = λ failed before now h.
           subst (λ l. HasShown l new failed before now) (sym (append_assoc inv.done (w.puts.values ∷ []) (map (λ x. x.values) es')))
           (c.take_rest.ensures.shown inv.done (map (λ x. x.values) es') failed before now
-          (subst (λ l. HasShown (inv.done ++ map (λ x. x.values) l) c.workers.waiting failed before now) first_e (inv.shown failed before now h)));
+          (subst (λ l. HasShown (inv.done ++ map (λ x. x.values) l) c.outboxes.waiting failed before now) first_e (inv.shown failed before now h)));
       places = c.take_rest.ensures.places ∙ inv.places;
     }
 
 pub returns-clause-shown : goal.returns-clause-shown
 returns-clause-shown g c =
-    let inv = c.workers.invariant in
-    let ws = c.workers.workers.items in
-    let es = c.workers.ends.items in
+    let inv = c.outboxes.invariant in
+    let ws = c.outboxes.outboxes.items in
+    let es = c.outboxes.ends.items in
     let none : length ws ≡ 0 = grind (arith, nat_tests) in
     let none_e : length es ≡ 0 = omega (arith, none, ap length inv.queues, length-map ws (λ x. x.puts.queue), length-map es (λ x. x.queue)) in
     λ failed before now h.
-    subst (λ l. HasShown l c.workers.waiting failed before now)
+    subst (λ l. HasShown l c.outboxes.waiting failed before now)
     (ap (λ l. inv.done ++ map (λ x. x.values) l) (none_left es none_e) ∙ (sym (ap (λ l. inv.done ++ map (λ x. x.puts.values) l) (none_left ws none)) ∙ inv.all))
     (inv.shown failed before now h)
-
-pub returns-clause-passes : goal.returns-clause-passes
-returns-clause-passes g c =
-    let inv = c.workers.invariant in
-    let ws = c.workers.workers.items in
-    let taken = c.workers.taken.items in
-    let none : length ws ≡ 0 = grind (arith, nat_tests) in
-    sym (append-nil taken) ∙ (ap (λ l. taken ++ map (λ x. x.pass) l) (sym (none_left ws none)) ∙ inv.passes)
