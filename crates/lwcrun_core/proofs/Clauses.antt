@@ -65,12 +65,12 @@ use Rattle.lwcrun_inputs.specs.declared.ending.Rejection.{Rejection}
 use Rattle.lwcrun_inputs.specs.declared.ending.Rejection.TheVariants as rejections
 use Rattle.lwcrun_inputs.specs.declared.status.ExitStatus.{ExitStatus}
 use Rattle.lwcrun_inputs.specs.declared.status.ExitStatus.TheVariants as statuses
-use Rattle.lwcrun_core.specs.Calls.{AreContents, CallEnded, CommandEnded, FetchesNamed, FetchesPlan, FileFailed, IsNameIn, IsOrNoMemory, IsRejected, IsUndisturbed, Names, NoFault, WroteOnlyReplies, status_by}
+use Rattle.lwcrun_core.specs.Calls.{AreContents, CallEnded, CommandEnded, FetchesNamed, FetchesPlan, FileFailed, IsNamed, IsOrNoMemory, IsRejected, IsUndisturbed, Names, NoFault, WroteOnlyReplies, status_by}
 use Rattle.lwcrun_core.specs.Headlines.{AreRequestsIn, Headline, IsFitting, IsListed, IsRunnable, IsServe, IsVaultReplay, WroteServe}
 use Rattle.lwcrun_inputs.specs.Ends.{End, Outside, Ended, IsUnwritten, NothingFailed, WriteFailed}
 use Rattle.lwcrun_inputs.specs.Ends as ends
 use Rattle.lwc_text.specs.Report.{report_of_schedule, stream_text}
-use Rattle.lwcrun_core.specs.Works.{IsText, Work, asm_plan, debug_plan, dis_plan, gen_plan, inputs_of, lift_plan, plan_of, read_by, read_requests, replay_plan, run_plan, server_plan, vault_plan}
+use Rattle.lwcrun_core.specs.Works.{AnyImage, BoundedRequests, FileKind, FittingImage, IsText, Named, Parts, Requests, Schedule, ScriptFile, Source, VaultFile, Work, inputs_from, inputs_of, plan_by, plan_of, read_by, read_file, read_files, requests_named, row_of, scheduled}
 use Rattle.lwcrun_core.specs.Works as works
 use Rattle.lwcrun_inputs.specs.Inputs.{bounded, bounded_requests_of, fitted, fitting_image_of, image_of, or_rejected, requests_of, schedule_of, serve_steps, source_of, then_tested, worker_count}
 use Rattle.lwcrun_core.specs.Beside.{fitted_beside, fitting_vault_for, script_of, vault_for}
@@ -115,7 +115,8 @@ answered settings image steps script = plans.Write (works.Debugging (inputs_of i
 -- what follows the earlier inputs of a command
 
 abbrev after_replay_schedule : Option (List ℕ) → Settings → Image → List ℕ → Plan Rejection Work
-after_replay_schedule requests settings image steps = read_requests requests (replayed settings image steps)
+after_replay_schedule requests settings image steps =
+    read_files (requests_named requests) settings (λ p. works.Replaying (inputs_from settings p) p.steps) (scheduled image steps)
 
 abbrev after_replay_image : List ℕ → Option (List ℕ) → Settings → Image → Plan Rejection Work
 after_replay_image schedule requests settings image =
@@ -156,55 +157,24 @@ reads_by : {A : Type 0} (files : FileContents) (grammar : List ℕ → Result A 
 reads_by files grammar limit name next q P here there (inl is) = here is
 reads_by files grammar limit name next q P here there (inr h) = reads_accepted files (grammar h.0) next q P there h.2
 
-reads_after_replay_schedule : (files : FileContents) (requests : Option (List ℕ)) (settings : Settings) (image : Image) (steps q : List ℕ) → Reads files (after_replay_schedule requests settings image steps) q → IsNameIn requests q
-reads_after_replay_schedule files None settings image steps q h = h
-reads_after_replay_schedule files (Some requests) settings image steps q h = reads_by files requests_of MOST_REQUEST_FILE_BYTES requests (replayed settings image steps) q _ (λ is. is) (λ asked after. absurd after) h
+reads_file : (files : FileContents) (kind : FileKind) (name : List ℕ) (settings : Settings) (parts : Parts) (next : Parts → Plan Rejection Work) (q : List ℕ) (P : Type 0) → (q ≡ name → P) → ((read : Parts) → Reads files (next read) q → P) → Reads files (read_file kind name settings parts next) q → P
+reads_file files FittingImage name settings parts next q P here there h = reads_by files (fitting_image_of settings.frames) MOST_IMAGE_BYTES name (λ x. next (record parts { image = x })) q P here (λ x after. there (record parts { image = x }) after) h
+reads_file files AnyImage name settings parts next q P here there h = reads_by files image_of MOST_IMAGE_BYTES name (λ x. next (record parts { image = x })) q P here (λ x after. there (record parts { image = x }) after) h
+reads_file files Source name settings parts next q P here there h = reads_by files source_of MOST_SOURCE_BYTES name (λ x. next (record parts { image = x })) q P here (λ x after. there (record parts { image = x }) after) h
+reads_file files (Schedule most) name settings parts next q P here there h = reads_by files (schedule_of (threads_for parts.image settings.job) most) MOST_SCHEDULE_BYTES name (λ steps. next (record parts { steps = steps })) q P here (λ steps after. there (record parts { steps = steps }) after) h
+reads_file files Requests name settings parts next q P here there h = reads_by files requests_of MOST_REQUEST_FILE_BYTES name (λ asked. next (record parts { requests = asked })) q P here (λ asked after. there (record parts { requests = asked }) after) h
+reads_file files BoundedRequests name settings parts next q P here there h = reads_by files (bounded_requests_of settings) MOST_REQUEST_FILE_BYTES name (λ asked. next (record parts { requests = asked })) q P here (λ asked after. there (record parts { requests = asked }) after) h
+reads_file files VaultFile name settings parts next q P here there h = reads_by files (fitting_vault_for settings.frames parts.image) MOST_VAULT_BYTES name (λ v. next (record parts { vault = Some v })) q P here (λ v after. there (record parts { vault = Some v }) after) h
+reads_file files ScriptFile name settings parts next q P here there h = reads_by files script_of MOST_SCRIPT_BYTES name (λ script. next (record parts { script = script })) q P here (λ script after. there (record parts { script = script }) after) h
 
-reads_after_replay_image : (files : FileContents) (schedule : List ℕ) (requests : Option (List ℕ)) (settings : Settings) (image : Image) (q : List ℕ) → Reads files (after_replay_image schedule requests settings image) q → (q ≡ schedule) ⊎ IsNameIn requests q
-reads_after_replay_image files schedule requests settings image q h =
-    reads_by files (schedule_of (threads_for image settings.job) MOST_STEPS) MOST_SCHEDULE_BYTES schedule (after_replay_schedule requests settings image) q _ (λ is. inl is) (λ steps after. inr (reads_after_replay_schedule files requests settings image steps q after)) h
-
-reads_after_server : (work : Inputs → Work) (files : FileContents) (requests : List ℕ) (settings : Settings) (image : Image) (q : List ℕ) → Reads files (after_server work requests settings image) q → q ≡ requests
-reads_after_server work files requests settings image q h = reads_by files (bounded_requests_of settings) MOST_REQUEST_FILE_BYTES requests (served work settings image) q _ (λ is. is) (λ asked after. absurd after) h
-
-reads_after_monitor_image : (files : FileContents) (schedule : List ℕ) (settings : Settings) (image : Image) (q : List ℕ) → Reads files (after_monitor_image schedule settings image) q → q ≡ schedule
-reads_after_monitor_image files schedule settings image q h =
-    reads_by files (schedule_of (threads_for image settings.job) MOST_STEPS) MOST_SCHEDULE_BYTES schedule (monitored settings image) q _ (λ is. is) (λ steps after. absurd after) h
-
-reads_after_vault : (files : FileContents) (schedule : List ℕ) (settings : Settings) (image : Image) (v : Vault) (q : List ℕ) → Reads files (after_vault schedule settings image v) q → q ≡ schedule
-reads_after_vault files schedule settings image v q h =
-    reads_by files (schedule_of (threads_for image settings.job) MOST_STEPS) MOST_SCHEDULE_BYTES schedule (kept_beside settings image v) q _ (λ is. is) (λ steps after. absurd after) h
-
-reads_after_vault_image : (files : FileContents) (vault schedule : List ℕ) (settings : Settings) (image : Image) (q : List ℕ) → Reads files (after_vault_image vault schedule settings image) q → (q ≡ vault) ⊎ (q ≡ schedule)
-reads_after_vault_image files vault schedule settings image q h =
-    reads_by files (fitting_vault_for settings.frames image) MOST_VAULT_BYTES vault (after_vault schedule settings image) q _ (λ is. inl is) (λ v after. inr (reads_after_vault files schedule settings image v q after)) h
-
-reads_after_debug_schedule : (files : FileContents) (script : List ℕ) (settings : Settings) (image : Image) (steps q : List ℕ) → Reads files (after_debug_schedule script settings image steps) q → q ≡ script
-reads_after_debug_schedule files script settings image steps q h = reads_by files script_of MOST_SCRIPT_BYTES script (answered settings image steps) q _ (λ is. is) (λ asked after. absurd after) h
-
-reads_after_debug_image : (files : FileContents) (schedule script : List ℕ) (settings : Settings) (image : Image) (q : List ℕ) → Reads files (after_debug_image schedule script settings image) q → (q ≡ schedule) ⊎ (q ≡ script)
-reads_after_debug_image files schedule script settings image q h =
-    reads_by files (schedule_of (threads_for image settings.job) MOST_DEBUGGED_STEPS) MOST_SCHEDULE_BYTES schedule (after_debug_schedule script settings image) q _ (λ is. inl is) (λ steps after. inr (reads_after_debug_schedule files script settings image steps q after)) h
+reads_files : (files : FileContents) (named : Named) (settings : Settings) (work : Parts → Work) (parts : Parts) (q : List ℕ) → Reads files (read_files named settings work parts) q → IsNamed named q
+reads_files files [] settings work parts q h = h
+reads_files files ((kind, name) ∷ named) settings work parts q h =
+    reads_file files kind name settings parts (read_files named settings work) q _ (λ is. inl is) (λ read after. inr (reads_files files named settings work read q after)) h
 
 reads_names : (files : FileContents) (command : Command) (q : List ℕ) → Reads files (plan_of command) q → Names command q
-unfolding replay_plan run_plan server_plan asm_plan dis_plan gen_plan lift_plan vault_plan debug_plan
-reads_names files (commands.Replay image schedule requests settings) q h =
-    reads_by files (fitting_image_of settings.frames) MOST_IMAGE_BYTES image (after_replay_image schedule requests settings) q _ (λ is. inl is) (λ x after. inr (reads_after_replay_image files schedule requests settings x q after)) h
-reads_names files (commands.Run image settings) q h = reads_by files (fitting_image_of settings.frames) MOST_IMAGE_BYTES image (ran settings) q _ (λ is. is) (λ x after. absurd after) h
-reads_names files (commands.Serve image requests settings) q h =
-    reads_by files (fitting_image_of settings.frames) MOST_IMAGE_BYTES image (after_server works.Running requests settings) q _ (λ is. inl is) (λ x after. inr (reads_after_server works.Running files requests settings x q after)) h
-reads_names files (commands.Asm source) q h = reads_by files source_of MOST_SOURCE_BYTES source made q _ (λ is. is) (λ x after. absurd after) h
-reads_names files (commands.Gen number) q h = h
-reads_names files (commands.Dis image) q h = reads_by files image_of MOST_IMAGE_BYTES image listed q _ (λ is. is) (λ x after. absurd after) h
-reads_names files (commands.Lift image) q h = reads_by files image_of MOST_IMAGE_BYTES image raised q _ (λ is. is) (λ x after. absurd after) h
-reads_names files (commands.Monitor image schedule settings) q h =
-    reads_by files (fitting_image_of settings.frames) MOST_IMAGE_BYTES image (after_monitor_image schedule settings) q _ (λ is. inl is) (λ x after. inr (reads_after_monitor_image files schedule settings x q after)) h
-reads_names files (commands.Vault image vault schedule settings) q h =
-    reads_by files image_of MOST_IMAGE_BYTES image (after_vault_image vault schedule settings) q _ (λ is. inl is) (λ x after. inr (reads_after_vault_image files vault schedule settings x q after)) h
-reads_names files (commands.Debug image schedule script settings) q h =
-    reads_by files (fitting_image_of settings.frames) MOST_IMAGE_BYTES image (after_debug_image schedule script settings) q _ (λ is. inl is) (λ x after. inr (reads_after_debug_image files schedule script settings x q after)) h
-reads_names files (commands.Stream image requests settings) q h =
-    reads_by files (fitting_image_of settings.frames) MOST_IMAGE_BYTES image (after_server works.Streaming requests settings) q _ (λ is. inl is) (λ x after. inr (reads_after_server works.Streaming files requests settings x q after)) h
+unfolding plan_by
+reads_names files command q h = reads_files files (row_of command).files (row_of command).settings ((row_of command).work (row_of command).settings) _ q h
 
 are_known : (files : FileContents) (command : Command) (bytes : List ℕ → List ℕ) → AreContents files command bytes → AreKnown files (plan_of command) bytes
 are_known files command bytes h q reads = h q (reads_names files command q reads)
@@ -382,7 +352,7 @@ over_schedule bytes None settings image steps asked none = ap (λ a. Ok (works.R
 over_schedule bytes (Some requests) settings image steps asked is = over bytes _ asked (replayed settings image steps) (requests_accepted (bytes requests) asked is)
 
 runs : (bytes : List ℕ → List ℕ) (command : Command) → IsRunnable command bytes → (work : Work) × (outcome bytes (plan_of command) ≡ Ok work)
-unfolding replay_plan run_plan server_plan asm_plan dis_plan gen_plan lift_plan vault_plan debug_plan
+unfolding plan_by
 runs bytes (commands.Replay image schedule requests settings) (x, steps, asked, h) = (
   works.Replaying (inputs_of x asked settings) steps,
   over bytes _ x (after_replay_image schedule requests settings) (fitting_accepted settings (bytes image) x h.guest)
@@ -540,22 +510,22 @@ summed_alone number steps few complete frames =
 
 -- what was written is the headline
 
-asked_of : (files : FileContents) (requests : Option (List ℕ)) (settings : Settings) (image : Image) (steps : List ℕ) (work : Work) (bytes : List ℕ → List ℕ) → ((q : List ℕ) → IsNameIn requests q → files q ≡ Some (bytes q)) → LeadsTo files (after_replay_schedule requests settings image steps) (Ok work)
+asked_of : (files : FileContents) (requests : Option (List ℕ)) (settings : Settings) (image : Image) (steps : List ℕ) (work : Work) (bytes : List ℕ → List ℕ) → ((q : List ℕ) → IsNamed (requests_named requests) q → files q ≡ Some (bytes q)) → LeadsTo files (after_replay_schedule requests settings image steps) (Ok work)
     → (asked : List (List ℕ)) × AreRequestsIn requests bytes asked × (work ≡ works.Replaying (inputs_of image asked settings) steps)
 asked_of files None settings image steps work bytes known e = ([], refl, work_is work _ e)
 asked_of files (Some requests) settings image steps work bytes known h =
-    let read = leads_by files requests_of MOST_REQUEST_FILE_BYTES requests (replayed settings image steps) work (bytes requests) (known requests refl) h in
+    let read = leads_by files requests_of MOST_REQUEST_FILE_BYTES requests (replayed settings image steps) work (bytes requests) (known requests (inl refl)) h in
     (read.0, requests_found (bytes requests) read.0 read.1, work_is work _ read.3)
 
 -- where the plan of a serve leads to a work, its files are accepted, and the work is of what they spell
-serve_found : (files : FileContents) (bytes : List ℕ → List ℕ) (image requests : List ℕ) (settings : Settings) (of_inputs : Inputs → Work) (work : Work) → ((q : List ℕ) → (q ≡ image) ⊎ (q ≡ requests) → files q ≡ Some (bytes q))
+serve_found : (files : FileContents) (bytes : List ℕ → List ℕ) (image requests : List ℕ) (settings : Settings) (of_inputs : Inputs → Work) (work : Work) → ((q : List ℕ) → (q ≡ image) ⊎ ((q ≡ requests) ⊎ ⊥) → files q ≡ Some (bytes q))
     → LeadsTo files (read_by (fitting_image_of settings.frames) MOST_IMAGE_BYTES image (λ x. read_by (bounded_requests_of settings) MOST_REQUEST_FILE_BYTES requests (λ asked. plans.Write (of_inputs (inputs_of x asked settings))))) (Ok work)
     → (x : Image) × (asked : List (List ℕ)) × IsServe bytes image requests settings x asked × (work ≡ of_inputs (inputs_of x asked settings))
 unfolding bounded_requests_of
 serve_found files bytes image requests settings of_inputs work known leads =
     let after : Image → Plan Rejection Work = λ x. read_by (bounded_requests_of settings) MOST_REQUEST_FILE_BYTES requests (λ asked. plans.Write (of_inputs (inputs_of x asked settings))) in
     let read = leads_by files (fitting_image_of settings.frames) MOST_IMAGE_BYTES image after work (bytes image) (known image (inl refl)) leads in
-    let asked = leads_by files (bounded_requests_of settings) MOST_REQUEST_FILE_BYTES requests (λ a. plans.Write (of_inputs (inputs_of read.0 a settings))) work (bytes requests) (known requests (inr refl)) read.3 in
+    let asked = leads_by files (bounded_requests_of settings) MOST_REQUEST_FILE_BYTES requests (λ a. plans.Write (of_inputs (inputs_of read.0 a settings))) work (bytes requests) (known requests (inr (inl refl))) read.3 in
     let found = tested (requests_of (bytes requests)) (bounded settings (length (bytes requests))) asked.0 asked.1 in
     let few = bounded_found settings (length (bytes requests)) found.0 asked.0 found.2 in (
       read.0,
@@ -569,7 +539,7 @@ serve_found files bytes image requests settings of_inputs work known leads =
     )
 
 headline_of : (o : Outside) (command : Command) (bytes : List ℕ → List ℕ) (work : Work) (text : List ℕ) → IsWithinLimits command → AreContents o.files.contents command bytes → LeadsTo o.files.contents (plan_of command) (Ok work) → IsText work text → o.out_after.taken ≡ appended o.out.taken text → Headline o command bytes
-unfolding replay_plan run_plan server_plan asm_plan dis_plan gen_plan lift_plan vault_plan debug_plan
+unfolding plan_by
 headline_of o (commands.Replay image schedule requests settings) bytes work text within known leads is taken =
     let files = o.files.contents in
     let read = leads_by files (fitting_image_of settings.frames) MOST_IMAGE_BYTES image (after_replay_image schedule requests settings) work (bytes image) (known image (inl refl)) leads in
@@ -589,7 +559,7 @@ headline_of o (commands.Replay image schedule requests settings) bytes work text
       text = taken ∙ ap (appended o.out.taken) (let P : Work → Type 0 = λ w. IsText w text in subst P asked.2 is);
     }
 headline_of o (commands.Run image settings) bytes work text within known leads is taken =
-    let read = leads_by o.files.contents (fitting_image_of settings.frames) MOST_IMAGE_BYTES image (ran settings) work (bytes image) (known image refl) leads in
+    let read = leads_by o.files.contents (fitting_image_of settings.frames) MOST_IMAGE_BYTES image (ran settings) work (bytes image) (known image (inl refl)) leads in
     let guest = fitting_found settings (bytes image) read.0 read.2 read.1 in
     let h = wrote report_of_schedule o (inputs_of read.0 [] settings) works.Running work text (λ told. told) (work_is work _ read.3) is taken in
     let inputs = inputs_of read.0 [] settings in
@@ -615,13 +585,13 @@ headline_of o (commands.Serve image requests settings) bytes work text within kn
           (wrote report_of_schedule o _ works.Running work text (λ told. told) found.3 is taken);
     }
 headline_of o (commands.Asm source) bytes work text within known leads is taken =
-    let read = leads_by o.files.contents source_of MOST_SOURCE_BYTES source made work (bytes source) (known source refl) leads in record {
+    let read = leads_by o.files.contents source_of MOST_SOURCE_BYTES source made work (bytes source) (known source (inl refl)) leads in record {
       guest = read.0;
       accepted = source_found (bytes source) read.0 read.1;
       text = taken ∙ ap (appended o.out.taken) (let P : Work → Type 0 = λ w. IsText w text in subst P (work_is work _ read.3) is);
     }
 headline_of o (commands.Dis image) bytes work text within known leads is taken =
-    let read = leads_by o.files.contents image_of MOST_IMAGE_BYTES image listed work (bytes image) (known image refl) leads in
+    let read = leads_by o.files.contents image_of MOST_IMAGE_BYTES image listed work (bytes image) (known image (inl refl)) leads in
     let spelled = image_found (bytes image) read.0 read.2 read.1 in record {
       guest = read.0;
       image = spelled.0;
@@ -639,7 +609,7 @@ headline_of o (commands.Gen number) bytes work text within known leads is taken 
       text = taken ∙ ap (appended o.out.taken) h.2;
     }
 headline_of o (commands.Lift image) bytes work text within known leads is taken =
-    let read = leads_by o.files.contents image_of MOST_IMAGE_BYTES image raised work (bytes image) (known image refl) leads in
+    let read = leads_by o.files.contents image_of MOST_IMAGE_BYTES image raised work (bytes image) (known image (inl refl)) leads in
     let spelled = image_found (bytes image) read.0 read.2 read.1 in record {
       guest = read.0;
       image = spelled.0;
@@ -650,7 +620,7 @@ headline_of o (commands.Lift image) bytes work text within known leads is taken 
 headline_of o (commands.Monitor image schedule settings) bytes work text within known leads is taken =
     let files = o.files.contents in
     let read = leads_by files (fitting_image_of settings.frames) MOST_IMAGE_BYTES image (after_monitor_image schedule settings) work (bytes image) (known image (inl refl)) leads in
-    let steps = leads_by files (schedule_of (threads_for read.0 settings.job) MOST_STEPS) MOST_SCHEDULE_BYTES schedule (monitored settings read.0) work (bytes schedule) (known schedule (inr refl)) read.3 in
+    let steps = leads_by files (schedule_of (threads_for read.0 settings.job) MOST_STEPS) MOST_SCHEDULE_BYTES schedule (monitored settings read.0) work (bytes schedule) (known schedule (inr (inl refl))) read.3 in
     let guest = fitting_found settings (bytes image) read.0 read.2 read.1 in
     let inputs = inputs_of read.0 [] settings in
     let can = replay_opens None settings bytes (bytes image) read.0 [] within guest refl in record {
@@ -668,7 +638,7 @@ headline_of o (commands.Vault image vault schedule settings) bytes work text wit
     let secret = leads_by files (fitting_vault_for settings.frames x) MOST_VAULT_BYTES vault (after_vault schedule settings x) work (bytes vault) (known vault (inr (inl refl))) read.3 in
     let v = secret.0 in
     let found = fitting_vault_found settings (bytes vault) x v secret.2 secret.1 in
-    let steps = leads_by files (schedule_of (threads_for x settings.job) MOST_STEPS) MOST_SCHEDULE_BYTES schedule (kept_beside settings x v) work (bytes schedule) (known schedule (inr (inr refl))) secret.3 in
+    let steps = leads_by files (schedule_of (threads_for x settings.job) MOST_STEPS) MOST_SCHEDULE_BYTES schedule (kept_beside settings x v) work (bytes schedule) (known schedule (inr (inr (inl refl)))) secret.3 in
     let inputs = inputs_of x [] settings in
     let can = vault_opens settings (bytes vault) x v within spelled.0 found in record {
       guest = x;
@@ -690,7 +660,7 @@ headline_of o (commands.Debug image schedule script settings) bytes work text wi
     let files = o.files.contents in
     let read = leads_by files (fitting_image_of settings.frames) MOST_IMAGE_BYTES image (after_debug_image schedule script settings) work (bytes image) (known image (inl refl)) leads in
     let steps = leads_by files (schedule_of (threads_for read.0 settings.job) MOST_DEBUGGED_STEPS) MOST_SCHEDULE_BYTES schedule (after_debug_schedule script settings read.0) work (bytes schedule) (known schedule (inr (inl refl))) read.3 in
-    let asked = leads_by files script_of MOST_SCRIPT_BYTES script (answered settings read.0 steps.0) work (bytes script) (known script (inr (inr refl))) steps.3 in
+    let asked = leads_by files script_of MOST_SCRIPT_BYTES script (answered settings read.0 steps.0) work (bytes script) (known script (inr (inr (inl refl)))) steps.3 in
     let guest = fitting_found settings (bytes image) read.0 read.2 read.1 in
     let inputs = inputs_of read.0 [] settings in
     let can = replay_opens None settings bytes (bytes image) read.0 [] within guest refl in record {

@@ -1,14 +1,13 @@
 -- What a call of the program promises.
-use Rattle.std.specs.Prelude.{◌≡◌, ◌⊎◌, ℕ, List, Option, None, Some, Result, Ok, Err, All}
+use Rattle.std.specs.Prelude.{◌≡◌, ◌⊎◌, ℕ, List, [], ◌∷◌, Option, None, Some, Result, Ok, Err, All}
 use Rattle.lwc_io.specs.Outside.{FilesView, SinkView}
 use Rattle.lwcrun_inputs.specs.declared.ending.Rejection.{Rejection}
 use Rattle.lwcrun_inputs.specs.declared.status.ExitStatus.{ExitStatus}
 use Rattle.lwcrun_inputs.specs.declared.status.ExitStatus.TheVariants as statuses
 use Rattle.lwcrun_inputs.specs.Ends.{End, Outside, Ended, FetchFailed, IsUnwritten, WriteFailed}
 use Rattle.lwcrun_inputs.specs.Ends as ends
-use Rattle.lwcrun_core.specs.Works.{IsText, Work, plan_of}
+use Rattle.lwcrun_core.specs.Works.{IsText, Named, Work, plan_of, row_of}
 use Rattle.lwcrun_line.specs.Lines.{Command, IsStream}
-use Rattle.lwcrun_line.specs.Lines as commands
 use Rattle.lwcrun_inputs.specs.Plans.{AreFetchesOf, FileContents, outcome}
 use Rattle.lwcrun_inputs.specs.Reading.{Fetched}
 use Rattle.lwcrun_core.specs.StreamEnds.{WroteReplies}
@@ -37,24 +36,14 @@ abbrev pub Answers : Outside → Option Command → ExitStatus → SinkView → 
 Answers o asked status err err_after =
     (e : End Rejection) × CallEnded o asked e × IsAnswered e status err err_after
 
--- this is the name of the file, where there is one
-abbrev pub IsNameIn : Option (List ℕ) → List ℕ → Type 0
-IsNameIn None q = ⊥
-IsNameIn (Some name) q = q ≡ name
+-- this is the name of one of these files
+abbrev pub IsNamed : Named → List ℕ → Type 0
+IsNamed [] q = ⊥
+IsNamed (file ∷ files) q = (q ≡ file.1) ⊎ IsNamed files q
 
 -- the files that a command names
 abbrev pub Names : Command → List ℕ → Type 0
-Names (commands.Replay image schedule requests settings) q = (q ≡ image) ⊎ ((q ≡ schedule) ⊎ IsNameIn requests q)
-Names (commands.Run image settings) q = q ≡ image
-Names (commands.Serve image requests settings) q = (q ≡ image) ⊎ (q ≡ requests)
-Names (commands.Asm source) q = q ≡ source
-Names (commands.Dis image) q = q ≡ image
-Names (commands.Gen number) q = ⊥
-Names (commands.Lift image) q = q ≡ image
-Names (commands.Monitor image schedule settings) q = (q ≡ image) ⊎ (q ≡ schedule)
-Names (commands.Vault image vault schedule settings) q = (q ≡ image) ⊎ ((q ≡ vault) ⊎ (q ≡ schedule))
-Names (commands.Debug image schedule script settings) q = (q ≡ image) ⊎ ((q ≡ schedule) ⊎ (q ≡ script))
-Names (commands.Stream image requests settings) q = (q ≡ image) ⊎ (q ≡ requests)
+Names command q = IsNamed (row_of command).files q
 
 -- a call fetched what its command's plan comes to, and nothing where the line is not accepted
 abbrev pub FetchesPlan : Option Command → FilesView → FilesView → Type 0

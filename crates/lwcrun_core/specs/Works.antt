@@ -1,11 +1,13 @@
 -- What a call does: its work, its plan, and the text that it writes.
-use Rattle.std.specs.Prelude.{◌≡◌, ℕ, List, [], Option, None, Some, Result}
+use Rattle.std.specs.Prelude.{◌≡◌, ℕ, List, [], ◌∷◌, Option, None, Some, Result}
 use Rattle.guest_dis.specs.Listing.{listing}
 use Rattle.lwc_types.specs.declared.limits.TheConstants.{MOST_IMAGE_BYTES, MOST_REQUEST_FILE_BYTES}
 use Rattle.lwc_types.specs.declared.limits.TheConstants.{MOST_SCHEDULE_BYTES, MOST_SOURCE_BYTES, MOST_STEPS}
 use Rattle.guest_image.specs.Limits.{lifted}
 use Rattle.guest_image.specs.Spelling.{spelling}
+use Rattle.guest_image.specs.declared.image.Form.TheVariants.{One}
 use Rattle.guest_image.specs.declared.image.Image.{Image}
+use Rattle.guest_image.specs.declared.image.Vault.{Vault}
 use Rattle.kernel_core.specs.declared.settings.Settings.{Settings}
 use Rattle.kernel_core.specs.Histories.{IsComplete}
 use Rattle.kernel_core.specs.Start.{Inputs, start, threads_for}
@@ -18,12 +20,11 @@ use Rattle.lwc_debug.specs.declared.script.TheConstants.{MOST_SCRIPT_BYTES}
 use Rattle.lwc_monitor.specs.Reports.{monitored_text}
 use Rattle.lwc_text.specs.Report.{report_of_schedule, stream_text}
 use Rattle.lwc_text.specs.declared.vault.TheConstants.{MOST_VAULT_BYTES}
-use Rattle.lwc_vault.specs.Secrets.{beside}
 use Rattle.lwcrun_inputs.specs.declared.ending.Rejection.{Rejection}
 use Rattle.lwcrun_core.specs.Beside.{fitting_vault_for, script_of}
 use Rattle.lwcrun_inputs.specs.Inputs.{bounded_requests_of, fitting_image_of, image_of}
 use Rattle.lwcrun_inputs.specs.Inputs.{requests_of, schedule_of, source_of}
-use Rattle.lwcrun_line.specs.Lines.{Command}
+use Rattle.lwcrun_line.specs.Lines.{Command, default_settings}
 use Rattle.lwcrun_line.specs.Lines as commands
 use Rattle.lwcrun_inputs.specs.Plans.{Plan, Read, Write, accepted}
 
@@ -61,79 +62,132 @@ abbrev pub inputs_of : Image → List (List ℕ) → Settings → Inputs
 inputs_of image requests settings =
     record { image = image; vault = None; requests = requests; settings = settings }
 
+-- what is read as a file: an image whose pages fit the frames, or any image; the image of a source; the steps of a
+-- schedule, at most this number; requests, or such that a serve of them takes no more steps than there may be; a vault
+-- beside the image, with which the frames are tested; a script
+pub data FileKind : Type 0 where
+  FittingImage : FileKind
+  AnyImage : FileKind
+  Source : FileKind
+  Schedule : ℕ → FileKind
+  Requests : FileKind
+  BoundedRequests : FileKind
+  VaultFile : FileKind
+  ScriptFile : FileKind
+
+-- what was read so far: an image, a vault beside it if there is one, the steps of a schedule, requests, and the
+-- commands of a script
+pub record Parts : Type 0 where
+  pub image : Image
+  pub vault : Option Vault
+  pub steps : List ℕ
+  pub requests : List (List ℕ)
+  pub script : List debug.Command
+
+-- an image of nothing
+abbrev pub blank : Image
+blank = record { form = One; text = []; uid = 0; pages = []; files = []; slots = []; entries = [] }
+
+-- nothing was read
+abbrev pub nothing_read : Parts
+nothing_read = record { image = blank; vault = None; steps = []; requests = []; script = [] }
+
+-- an image and a schedule were read
+abbrev pub scheduled : Image → List ℕ → Parts
+scheduled image steps = record nothing_read { image = image; steps = steps }
+
 -- a file is read by a grammar, and what it is says what follows
 abbrev pub read_by : {A : Type 0} → (List ℕ → Result A Rejection) → ℕ → List ℕ → (A → Plan Rejection Work) →
     Plan Rejection Work
 read_by grammar limit name next = Read name limit (λ bytes. accepted (grammar bytes) next)
 
--- the requests in the file of this name are read, and say what follows; there are none where there is no name
-abbrev pub read_requests : Option (List ℕ) → (List (List ℕ) → Plan Rejection Work) → Plan Rejection Work
-read_requests None next = next []
-read_requests (Some name) next = read_by requests_of MOST_REQUEST_FILE_BYTES name next
+-- a file is read behind these parts and becomes one of them; then comes what follows
+abbrev pub read_file : FileKind → List ℕ → Settings → Parts → (Parts → Plan Rejection Work) → Plan Rejection Work
+read_file FittingImage name settings parts next =
+    read_by (fitting_image_of settings.frames) MOST_IMAGE_BYTES name (λ x. next (record parts { image = x }))
+read_file AnyImage name settings parts next =
+    read_by image_of MOST_IMAGE_BYTES name (λ x. next (record parts { image = x }))
+read_file Source name settings parts next =
+    read_by source_of MOST_SOURCE_BYTES name (λ x. next (record parts { image = x }))
+read_file (Schedule most) name settings parts next =
+    read_by (schedule_of (threads_for parts.image settings.job) most) MOST_SCHEDULE_BYTES name
+    (λ steps. next (record parts { steps = steps }))
+read_file Requests name settings parts next =
+    read_by requests_of MOST_REQUEST_FILE_BYTES name (λ asked. next (record parts { requests = asked }))
+read_file BoundedRequests name settings parts next =
+    read_by (bounded_requests_of settings) MOST_REQUEST_FILE_BYTES name
+    (λ asked. next (record parts { requests = asked }))
+read_file VaultFile name settings parts next =
+    read_by (fitting_vault_for settings.frames parts.image) MOST_VAULT_BYTES name
+    (λ v. next (record parts { vault = Some v }))
+read_file ScriptFile name settings parts next =
+    read_by script_of MOST_SCRIPT_BYTES name (λ script. next (record parts { script = script }))
 
--- the steps of a schedule, plain or under traps: the image is read, then the schedule of its threads, and then the
--- requests of a serve
-unfoldable pub replay_plan : (Inputs → List ℕ → Work) →
-    List ℕ → List ℕ → Option (List ℕ) → Settings → Plan Rejection Work
-replay_plan work image schedule requests settings =
-    read_by (fitting_image_of settings.frames) MOST_IMAGE_BYTES image (λ guest.
-    read_by (schedule_of (threads_for guest settings.job) MOST_STEPS) MOST_SCHEDULE_BYTES schedule (λ steps.
-    read_requests requests (λ asked. Write (work (inputs_of guest asked settings) steps))))
+-- files that are read in order, what each is read as and its name
+abbrev pub Named : Type 0
+Named = List (FileKind × List ℕ)
 
--- a run: the image is read
-unfoldable pub run_plan : List ℕ → Settings → Plan Rejection Work
-run_plan image settings =
-    read_by (fitting_image_of settings.frames) MOST_IMAGE_BYTES image (λ x. Write (Running (inputs_of x [] settings)))
+-- files are read behind these parts, each tested before the next, and then a work is done with all parts
+abbrev pub read_files : Named → Settings → (Parts → Work) → Parts → Plan Rejection Work
+read_files [] settings work parts = Write (work parts)
+read_files (file ∷ files) settings work parts =
+    read_file file.0 file.1 settings parts (read_files files settings work)
 
--- a serve or a stream: the image is read, and then the requests
-unfoldable pub server_plan : (Inputs → Work) → List ℕ → List ℕ → Settings → Plan Rejection Work
-server_plan work image requests settings =
-    read_by (fitting_image_of settings.frames) MOST_IMAGE_BYTES image (λ guest.
-    read_by (bounded_requests_of settings) MOST_REQUEST_FILE_BYTES requests (λ asked.
-    Write (work (inputs_of guest asked settings))))
+-- the requests of a replay; a run has none
+abbrev pub requests_named : Option (List ℕ) → Named
+requests_named None = []
+requests_named (Some name) = (Requests, name) ∷ []
 
--- the image of a source
-unfoldable pub asm_plan : List ℕ → Plan Rejection Work
-asm_plan source = read_by source_of MOST_SOURCE_BYTES source (λ image. Write (Spelling image))
+-- what a kernel is opened with, by what was read
+abbrev pub inputs_from : Settings → Parts → Inputs
+inputs_from settings parts =
+    record { image = parts.image; vault = parts.vault; requests = parts.requests; settings = settings }
 
--- the source of an image
-unfoldable pub dis_plan : List ℕ → Plan Rejection Work
-dis_plan image = read_by image_of MOST_IMAGE_BYTES image (λ x. Write (Disassembling x))
+-- a command's row: the files that it reads in order, the settings that these are tested with, and what is done with
+-- them
+pub record Row : Type 0 where
+  pub files : Named
+  pub settings : Settings
+  pub work : Settings → Parts → Work
 
--- the lifted image of an image
-unfoldable pub lift_plan : List ℕ → Plan Rejection Work
-lift_plan image = read_by image_of MOST_IMAGE_BYTES image (λ x. Write (Spelling (lifted x)))
+-- a row of these
+abbrev pub new_row : Named → Settings → (Settings → Parts → Work) → Row
+new_row files settings work = record { files = files; settings = settings; work = work }
 
--- a run beside a vault: the image is read, then the vault, with which the frames are tested, and then the schedule
-unfoldable pub vault_plan : List ℕ → List ℕ → List ℕ → Settings → Plan Rejection Work
-vault_plan image vault schedule settings =
-    read_by image_of MOST_IMAGE_BYTES image (λ guest.
-    read_by (fitting_vault_for settings.frames guest) MOST_VAULT_BYTES vault (λ v.
-    read_by (schedule_of (threads_for guest settings.job) MOST_STEPS) MOST_SCHEDULE_BYTES schedule (λ steps.
-    Write (Replaying (beside (inputs_of guest [] settings) v) steps))))
+-- the steps of a schedule, plain or under traps
+abbrev pub replay_row : (Inputs → List ℕ → Work) → List ℕ → List ℕ → Option (List ℕ) → Settings → Row
+replay_row work image schedule requests settings =
+    new_row ((FittingImage, image) ∷ (Schedule MOST_STEPS, schedule) ∷ requests_named requests) settings
+    (λ s p. work (inputs_from s p) p.steps)
 
--- a debugged run: the image is read, then the schedule, which has fewer steps than others, and then the script
-unfoldable pub debug_plan : List ℕ → List ℕ → List ℕ → Settings → Plan Rejection Work
-debug_plan image schedule script settings =
-    read_by (fitting_image_of settings.frames) MOST_IMAGE_BYTES image (λ guest.
-    read_by (schedule_of (threads_for guest settings.job) MOST_DEBUGGED_STEPS) MOST_SCHEDULE_BYTES schedule (λ steps.
-    read_by script_of MOST_SCRIPT_BYTES script (λ commands.
-    Write (Debugging (inputs_of guest [] settings) steps commands))))
+-- a serve or a stream
+abbrev pub server_row : (Inputs → Work) → List ℕ → List ℕ → Settings → Row
+server_row work image requests settings =
+    new_row ((FittingImage, image) ∷ (BoundedRequests, requests) ∷ []) settings (λ s p. work (inputs_from s p))
 
--- a generated serve: no file is read
-unfoldable pub gen_plan : ℕ → Plan Rejection Work
-gen_plan number = Write (Generating number)
+-- the table of what commands read and do
+abbrev pub row_of : Command → Row
+row_of (commands.Replay image schedule requests settings) = replay_row Replaying image schedule requests settings
+row_of (commands.Run image settings) =
+    new_row ((FittingImage, image) ∷ []) settings (λ s p. Running (inputs_from s p))
+row_of (commands.Serve image requests settings) = server_row Running image requests settings
+row_of (commands.Asm source) = new_row ((Source, source) ∷ []) default_settings (λ s p. Spelling p.image)
+row_of (commands.Dis image) = new_row ((AnyImage, image) ∷ []) default_settings (λ s p. Disassembling p.image)
+row_of (commands.Gen number) = new_row [] default_settings (λ s p. Generating number)
+row_of (commands.Lift image) = new_row ((AnyImage, image) ∷ []) default_settings (λ s p. Spelling (lifted p.image))
+row_of (commands.Monitor image schedule settings) = replay_row Monitoring image schedule None settings
+row_of (commands.Vault image vault schedule settings) =
+    new_row ((AnyImage, image) ∷ (VaultFile, vault) ∷ (Schedule MOST_STEPS, schedule) ∷ []) settings
+    (λ s p. Replaying (inputs_from s p) p.steps)
+row_of (commands.Debug image schedule script settings) =
+    new_row ((FittingImage, image) ∷ (Schedule MOST_DEBUGGED_STEPS, schedule) ∷ (ScriptFile, script) ∷ []) settings
+    (λ s p. Debugging (inputs_from s p) p.steps p.script)
+row_of (commands.Stream image requests settings) = server_row Streaming image requests settings
+
+-- what is done by a row
+unfoldable pub plan_by : Row → Plan Rejection Work
+plan_by row = read_files row.files row.settings (row.work row.settings) nothing_read
 
 -- what a command does
 abbrev pub plan_of : Command → Plan Rejection Work
-plan_of (commands.Replay image schedule requests settings) = replay_plan Replaying image schedule requests settings
-plan_of (commands.Run image settings) = run_plan image settings
-plan_of (commands.Serve image requests settings) = server_plan Running image requests settings
-plan_of (commands.Asm source) = asm_plan source
-plan_of (commands.Dis image) = dis_plan image
-plan_of (commands.Gen number) = gen_plan number
-plan_of (commands.Lift image) = lift_plan image
-plan_of (commands.Monitor image schedule settings) = replay_plan Monitoring image schedule None settings
-plan_of (commands.Vault image vault schedule settings) = vault_plan image vault schedule settings
-plan_of (commands.Debug image schedule script settings) = debug_plan image schedule script settings
-plan_of (commands.Stream image requests settings) = server_plan Streaming image requests settings
+plan_of command = plan_by (row_of command)

@@ -3,7 +3,8 @@ ghost use Rattle.guest_image.specs.Limits.{IsImage};
 ghost use Rattle.kernel_core.specs.Start.{threads_for};
 ghost use Rattle.lwc_debug.specs.Transcript.{transcript_of_schedule};
 ghost use Rattle.lwcrun_inputs.specs.Ends.{Ended};
-ghost use Rattle.lwcrun_core.specs.Works.{IsText, debug_plan};
+ghost use Rattle.lwcrun_core.specs.Works.{IsText, plan_of};
+ghost use Rattle.lwcrun_line.specs.Lines as commands;
 ghost use Rattle.lwcrun_core.specs.Works.{inputs_of};
 ghost use Rattle.lwcrun_line.specs.Lines.{AreRunSettings};
 ghost use Rattle.lwcrun_inputs.specs.Plans.{AreFetchesOf};
@@ -36,9 +37,9 @@ pub fn debug_run<'a, F: Files, O: Sink>(
     requires settings { AreRunSettings settings.now }
     ensures ended { Ended IsText
         (outside (F.seen files.old) (F.seen files.new) (O.seen out.old) (O.seen out.new))
-        (debug_plan image.now schedule.now script.now settings.now) (end_of result) }
-    ensures fetches { Fetched
-        (AreFetchesOf (F.seen files.old).contents (debug_plan image.now schedule.now script.now settings.now))
+        (plan_of (commands.Debug image.now schedule.now script.now settings.now)) (end_of result) }
+    ensures fetches { Fetched (AreFetchesOf (F.seen files.old).contents
+        (plan_of (commands.Debug image.now schedule.now script.now settings.now)))
         (F.seen files.old).fetches (F.seen files.new).fetches }
 {
     match debug_files(alloc, files, image, schedule, script, settings) {

@@ -7,12 +7,12 @@ ghost use Rattle.kernel_core.specs.Start.{Inputs, threads_for};
 ghost use Rattle.lwc_types.specs.declared.limits.TheConstants.{MOST_STEPS};
 ghost use Rattle.lwc_vault.specs.Secrets.{beside};
 ghost use Rattle.lwcrun_core.specs.Works as works;
-ghost use Rattle.lwcrun_core.specs.Works.{Work, debug_plan, inputs_of, read_requests, replay_plan};
-ghost use Rattle.lwcrun_core.specs.Works.{server_plan, vault_plan};
+ghost use Rattle.lwcrun_core.specs.Works.{Parts, Work, inputs_of, plan_by, plan_of, read_files};
+ghost use Rattle.lwcrun_core.specs.Works.{replay_row, requests_named, scheduled, server_row};
+ghost use Rattle.lwcrun_line.specs.Lines as commands;
 ghost use Rattle.lwcrun_line.specs.Lines.{AreReplaySettings, AreRunSettings, AreServeSettings};
 ghost use Rattle.lwcrun_inputs.specs.Inputs.{serve_steps};
 ghost use Rattle.lwcrun_inputs.specs.Parts.{Gathers};
-ghost use Rattle.lwcrun_inputs.specs.Plans as plans;
 ghost use Rattle.lwcrun_inputs.specs.Plans.{AreFetchesOf};
 ghost use Rattle.lwcrun_inputs.specs.Reading.{Fetched};
 ghost use Rattle.lwcrun_inputs.specs.Views.{found};
@@ -41,10 +41,10 @@ pub fn replay_files<'a, F: Files>(
 ) -> Result<(Image, Schedule, Requests), Ending<'a>>
     requires settings { AreReplaySettings requests settings.now }
     ensures gathers { (work : Inputs → List ℕ → Work) → Gathers (F.seen files.old) (F.seen files.new)
-        (replay_plan work image.now schedule.now (option_map (λ s. s.now) requests.entry) settings.now)
+        (plan_by (replay_row work image.now schedule.now (option_map (λ s. s.now) requests.entry) settings.now))
         (found (λ read. work (inputs_of read.0 read.2 settings.now) read.1) result) }
     ensures fetches { (work : Inputs → List ℕ → Work) → Fetched (AreFetchesOf (F.seen files.old).contents
-        (replay_plan work image.now schedule.now (option_map (λ s. s.now) requests.entry) settings.now))
+        (plan_by (replay_row work image.now schedule.now (option_map (λ s. s.now) requests.entry) settings.now)))
         (F.seen files.old).fetches (F.seen files.new).fetches }
     ensures image { IfOk result (λ read. IsImage read.0) }
     ensures fits { IfOk result (λ read. length read.0.pages ≤ settings.now.frames) }
@@ -66,11 +66,13 @@ fn named_requests<'a, F: Files>(
     files: &mut F,
     name: Option<&'a str>,
 ) -> Result<Requests, Ending<'a>>
-    ensures gathers { (work : List (List ℕ) → Work) → Gathers (F.seen files.old) (F.seen files.new)
-        (read_requests (option_map (λ s. s.now) name.entry) (λ asked. plans.Write (work asked)))
-        (found (λ asked. work asked) result) }
-    ensures fetches { (work : List (List ℕ) → Work) → Fetched (AreFetchesOf (F.seen files.old).contents
-        (read_requests (option_map (λ s. s.now) name.entry) (λ asked. plans.Write (work asked))))
+    ensures gathers { (settings : Settings) (work : Parts → Work) (image : Image) (steps : List ℕ)
+        → Gathers (F.seen files.old) (F.seen files.new)
+        (read_files (requests_named (option_map (λ s. s.now) name.entry)) settings work (scheduled image steps))
+        (found (λ asked. work (record (scheduled image steps) { requests = asked })) result) }
+    ensures fetches { (settings : Settings) (work : Parts → Work) (image : Image) (steps : List ℕ)
+        → Fetched (AreFetchesOf (F.seen files.old).contents
+        (read_files (requests_named (option_map (λ s. s.now) name.entry)) settings work (scheduled image steps)))
         (F.seen files.old).fetches (F.seen files.new).fetches }
     ensures limits { IfOk result AreRequests }
     ensures none { option_map (λ s. s.now) name.entry ≡ None → IfOk result (λ asked. asked ≡ []) }
@@ -91,10 +93,11 @@ pub fn server_files<'a, F: Files>(
 ) -> Result<(Image, Requests), Ending<'a>>
     requires settings { AreServeSettings settings.now }
     ensures gathers { (work : Inputs → Work) → Gathers (F.seen files.old) (F.seen files.new)
-        (server_plan work image.now requests.now settings.now)
+        (plan_by (server_row work image.now requests.now settings.now))
         (found (λ read. work (inputs_of read.0 read.1 settings.now)) result) }
     ensures fetches { (work : Inputs → Work) → Fetched
-        (AreFetchesOf (F.seen files.old).contents (server_plan work image.now requests.now settings.now))
+        (AreFetchesOf (F.seen files.old).contents
+        (plan_by (server_row work image.now requests.now settings.now)))
         (F.seen files.old).fetches (F.seen files.new).fetches }
     ensures image { IfOk result (λ read. IsImage read.0) }
     ensures fits { IfOk result (λ read. length read.0.pages ≤ settings.now.frames) }
@@ -117,10 +120,10 @@ pub fn vault_files<'a, F: Files>(
 ) -> Result<(Image, Vault, Schedule), Ending<'a>>
     requires settings { AreRunSettings settings.now }
     ensures gathers { Gathers (F.seen files.old) (F.seen files.new)
-        (vault_plan image.now vault.now schedule.now settings.now)
+        (plan_of (commands.Vault image.now vault.now schedule.now settings.now))
         (found (λ read. works.Replaying (beside (inputs_of read.0 [] settings.now) read.1) read.2) result) }
-    ensures fetches { Fetched
-        (AreFetchesOf (F.seen files.old).contents (vault_plan image.now vault.now schedule.now settings.now))
+    ensures fetches { Fetched (AreFetchesOf (F.seen files.old).contents
+        (plan_of (commands.Vault image.now vault.now schedule.now settings.now)))
         (F.seen files.old).fetches (F.seen files.new).fetches }
     ensures image { IfOk result (λ read. IsImage read.0) }
     ensures vault { IfOk result (λ read. CanKeep read.0 settings.now.job read.1) }
@@ -146,10 +149,10 @@ pub fn debug_files<'a, F: Files>(
 ) -> Result<(Image, Schedule, Script), Ending<'a>>
     requires settings { AreRunSettings settings.now }
     ensures gathers { Gathers (F.seen files.old) (F.seen files.new)
-        (debug_plan image.now schedule.now script.now settings.now)
+        (plan_of (commands.Debug image.now schedule.now script.now settings.now))
         (found (λ read. works.Debugging (inputs_of read.0 [] settings.now) read.1 read.2) result) }
-    ensures fetches { Fetched
-        (AreFetchesOf (F.seen files.old).contents (debug_plan image.now schedule.now script.now settings.now))
+    ensures fetches { Fetched (AreFetchesOf (F.seen files.old).contents
+        (plan_of (commands.Debug image.now schedule.now script.now settings.now)))
         (F.seen files.old).fetches (F.seen files.new).fetches }
     ensures image { IfOk result (λ read. IsImage read.0) }
     ensures fits { IfOk result (λ read. length read.0.pages ≤ settings.now.frames) }

@@ -8,8 +8,8 @@ ghost use Rattle.kernel_core.specs.Settings.{IsSettings};
 ghost use Rattle.kernel_core.specs.Start.{start};
 ghost use Rattle.lwcrun_inputs.specs.Ends.{Ended};
 ghost use Rattle.lwc_io.specs.Outside.{FilesView};
-ghost use Rattle.lwcrun_core.specs.Works.{IsText, gen_plan, inputs_of, run_plan};
-ghost use Rattle.lwcrun_core.specs.Works.{server_plan};
+ghost use Rattle.lwcrun_core.specs.Works.{IsText, inputs_of, plan_by, plan_of, server_row};
+ghost use Rattle.lwcrun_line.specs.Lines as commands;
 ghost use Rattle.lwcrun_core.specs.Works as works;
 ghost use Rattle.lwcrun_line.specs.Lines.{AreRunSettings, AreServeSettings};
 ghost use Rattle.lwcrun_inputs.specs.Plans.{AreFetchesOf};
@@ -48,8 +48,9 @@ pub fn run<'a, R: Threads + Wait + Sync, F: Files, O: Sink, G: Gate>(
     requires settings { AreRunSettings settings.now }
     ensures ended { Ended IsText
         (outside (F.seen files.old) (F.seen files.new) (O.seen out.old) (O.seen out.new))
-        (run_plan image.now settings.now) (end_of result) }
-    ensures fetches { Fetched (AreFetchesOf (F.seen files.old).contents (run_plan image.now settings.now))
+        (plan_of (commands.Run image.now settings.now)) (end_of result) }
+    ensures fetches { Fetched
+        (AreFetchesOf (F.seen files.old).contents (plan_of (commands.Run image.now settings.now)))
         (F.seen files.old).fetches (F.seen files.new).fetches }
 {
     match fitting_image_in(alloc, files, image, settings.frames) {
@@ -78,9 +79,10 @@ pub fn serve<'a, R: Threads + Wait + Sync, F: Files, O: Sink, G: Gate>(
     requires settings { AreServeSettings settings.now }
     ensures ended { Ended IsText
         (outside (F.seen files.old) (F.seen files.new) (O.seen out.old) (O.seen out.new))
-        (server_plan works.Running image.now requests.now settings.now) (end_of result) }
+        (plan_by (server_row works.Running image.now requests.now settings.now)) (end_of result) }
     ensures fetches { Fetched
-        (AreFetchesOf (F.seen files.old).contents (server_plan works.Running image.now requests.now settings.now))
+        (AreFetchesOf (F.seen files.old).contents
+        (plan_by (server_row works.Running image.now requests.now settings.now)))
         (F.seen files.old).fetches (F.seen files.new).fetches }
 {
     match server_files(alloc, files, image, requests, settings) {
@@ -102,7 +104,7 @@ pub fn serve_generated<'a, R: Threads + Wait + Sync, O: Sink, G: Gate>(
 ) -> Ending<'a>
     requires number { (1 ≤ number) × (number ≤ 100) }
     ensures { (files : FilesView) → Ended IsText (outside files files (O.seen out.old) (O.seen out.new))
-        (gen_plan number) (end_of result) }
+        (plan_of (commands.Gen number)) (end_of result) }
 {
     write_work(out, summary_text(rt, alloc, gate, number))
 }

@@ -1,5 +1,6 @@
 ghost use Rattle.lwcrun_inputs.specs.Ends.{Ended};
-ghost use Rattle.lwcrun_core.specs.Works.{IsText, asm_plan, dis_plan, lift_plan};
+ghost use Rattle.lwcrun_core.specs.Works.{IsText, plan_of};
+ghost use Rattle.lwcrun_line.specs.Lines as commands;
 ghost use Rattle.lwcrun_inputs.specs.Plans.{AreFetchesOf};
 ghost use Rattle.lwcrun_inputs.specs.Reading.{Fetched};
 ghost use Rattle.lwcrun_inputs.specs.Views.{end_of, outside};
@@ -20,8 +21,8 @@ pub fn asm<'a, F: Files, O: Sink>(
 ) -> Ending<'a>
     ensures ended { Ended IsText
         (outside (F.seen files.old) (F.seen files.new) (O.seen out.old) (O.seen out.new))
-        (asm_plan source.now) (end_of result) }
-    ensures fetches { Fetched (AreFetchesOf (F.seen files.old).contents (asm_plan source.now))
+        (plan_of (commands.Asm source.now)) (end_of result) }
+    ensures fetches { Fetched (AreFetchesOf (F.seen files.old).contents (plan_of (commands.Asm source.now)))
         (F.seen files.old).fetches (F.seen files.new).fetches }
 {
     match source_in(alloc, files, source) {
@@ -39,8 +40,8 @@ pub fn dis<'a, F: Files, O: Sink>(
 ) -> Ending<'a>
     ensures ended { Ended IsText
         (outside (F.seen files.old) (F.seen files.new) (O.seen out.old) (O.seen out.new))
-        (dis_plan image.now) (end_of result) }
-    ensures fetches { Fetched (AreFetchesOf (F.seen files.old).contents (dis_plan image.now))
+        (plan_of (commands.Dis image.now)) (end_of result) }
+    ensures fetches { Fetched (AreFetchesOf (F.seen files.old).contents (plan_of (commands.Dis image.now)))
         (F.seen files.old).fetches (F.seen files.new).fetches }
 {
     match image_in(alloc, files, image) {
@@ -59,8 +60,8 @@ pub fn lift<'a, F: Files, O: Sink>(
 ) -> Ending<'a>
     ensures ended { Ended IsText
         (outside (F.seen files.old) (F.seen files.new) (O.seen out.old) (O.seen out.new))
-        (lift_plan image.now) (end_of result) }
-    ensures fetches { Fetched (AreFetchesOf (F.seen files.old).contents (lift_plan image.now))
+        (plan_of (commands.Lift image.now)) (end_of result) }
+    ensures fetches { Fetched (AreFetchesOf (F.seen files.old).contents (plan_of (commands.Lift image.now)))
         (F.seen files.old).fetches (F.seen files.new).fetches }
 {
     match image_in(alloc, files, image) {

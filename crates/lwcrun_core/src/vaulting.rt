@@ -6,7 +6,8 @@ ghost use Rattle.lwc_types.specs.declared.limits.TheConstants.{MOST_STEPS};
 ghost use Rattle.lwc_text.specs.Report.{report_of_schedule};
 ghost use Rattle.lwc_vault.specs.Secrets.{beside};
 ghost use Rattle.lwcrun_inputs.specs.Ends.{Ended};
-ghost use Rattle.lwcrun_core.specs.Works.{IsText, inputs_of, vault_plan};
+ghost use Rattle.lwcrun_core.specs.Works.{IsText, inputs_of, plan_of};
+ghost use Rattle.lwcrun_line.specs.Lines as commands;
 ghost use Rattle.lwcrun_line.specs.Lines.{AreRunSettings};
 ghost use Rattle.lwcrun_inputs.specs.Plans.{AreFetchesOf};
 ghost use Rattle.lwcrun_inputs.specs.Reading.{Fetched};
@@ -38,9 +39,9 @@ pub fn replay_with_vault<'a, F: Files, O: Sink>(
     requires settings { AreRunSettings settings.now }
     ensures ended { Ended IsText
         (outside (F.seen files.old) (F.seen files.new) (O.seen out.old) (O.seen out.new))
-        (vault_plan image.now vault.now schedule.now settings.now) (end_of result) }
-    ensures fetches { Fetched
-        (AreFetchesOf (F.seen files.old).contents (vault_plan image.now vault.now schedule.now settings.now))
+        (plan_of (commands.Vault image.now vault.now schedule.now settings.now)) (end_of result) }
+    ensures fetches { Fetched (AreFetchesOf (F.seen files.old).contents
+        (plan_of (commands.Vault image.now vault.now schedule.now settings.now)))
         (F.seen files.old).fetches (F.seen files.new).fetches }
 {
     match vault_files(alloc, files, image, vault, schedule, settings) {

@@ -1,6 +1,6 @@
 -- The numbers of an accepted line are within their limits.
 use Rattle.std.proofs.Common.{◌≡◌, ◌≤◌, ℕ, Bool, true, false, cond, List, Option, None, Some, refl, sym, subst, ap, arith}
-use Rattle.std.specs.Prelude.{◌||◌, ◌&&◌, bytes_eq, codes, is_some, nat_le}
+use Rattle.std.specs.Prelude.{◌&&◌, is_some, nat_le}
 use Rattle.std.specs.Option.{option_and_then, option_map}
 use Rattle.std.proofs.lemmas.Bool.Decides.{nat_tests}
 use Rattle.std.proofs.lemmas.Option.{option_and_then_some}
@@ -10,8 +10,13 @@ use Rattle.kernel_core.specs.declared.settings.Job.TheVariants as jobs
 use Rattle.kernel_core.specs.declared.settings.Settings.{Settings}
 use Rattle.lwc_types.specs.declared.limits.TheConstants.{MOST_BUDGET, MOST_FRAMES, MOST_THREADS}
 use Rattle.lwcrun_line.specs.Arguments.{Arguments, arguments_of}
-use Rattle.lwcrun_line.specs.Lines.{AreRunSettings, AreServeSettings, Command, IsWithinLimits, asked_in, budget_of, command_of, debug_of, frames_of, gen_of, monitor_of, number_or, only_word, replay_with, run_of, run_settings_of, serve_of, serve_settings_of, settings_for, settings_of, stream_of, two_words, vault_of, workers_of}
-use Rattle.lwcrun_line.specs.Lines as commands
+use Rattle.lwcrun_line.specs.declared.line.Choice.{Choice}
+use Rattle.lwcrun_line.specs.declared.mode.Mode.{Mode}
+use Rattle.lwcrun_line.specs.declared.mode.Mode.TheVariants as modes
+use Rattle.lwcrun_line.specs.declared.mode.Options.{Options}
+use Rattle.lwcrun_line.specs.declared.mode.Options.TheVariants as options
+use Rattle.lwcrun_line.specs.Lines.{AreGivenBy, AreRunSettings, AreServeSettings, Command, IsGivenBy, IsWithinLimits, asked_in, budget_of, choice_in, choice_of, command_by, command_of, command_with, frames_of, number_by, number_or, places_in, run_settings_of, serve_settings_of, settings_by, settings_for, settings_of, workers_of}
+use Rattle.lwcrun_line.specs.Modes.{mode_called, row_of}
 use Rattle.lwc_text.specs.Numbers.{number_of}
 use Rattle.lwcrun_line.specs.Numbers.{kept_within, number_within}
 
@@ -68,92 +73,51 @@ serve_within a settings e =
     let h = settings_within (jobs.Serve workers) a settings few rest in
     record { limits = h.0; workers = workers; job = h.1 })
 
--- what two words and settings ask for has what the settings have
-asked_with : (a : Arguments) (make : List ℕ → List ℕ → Settings → Command) (settings : Option Settings) (command : Command) (P : Type 0) →
-    two_words a (λ first second. option_map (make first second) settings) ≡ Some command →
-    ((first second : List ℕ) (s : Settings) → settings ≡ Some s → make first second s ≡ command → P) → P
-asked_with a make settings command P e with_it =
-    option_and_then_some (λ first. option_and_then (λ second. option_map (make first second) settings) a.second) a.first command e (λ first here rest.
-    option_and_then_some (λ second. option_map (make first second) settings) a.second command rest (λ second there more.
-    let made = mapped_some (make first second) settings command more in with_it first second made.0 made.1 made.2))
+abbrev made_of : Mode → Settings → ℕ → Choice
+made_of mode settings number = record { mode = mode; settings = settings; number = number }
 
-replay_within : (a : Arguments) (requests : Option (List ℕ)) (command : Command) → replay_with a requests ≡ Some command → IsWithinLimits command
-replay_within a None command e =
-    asked_with a (λ image schedule. commands.Replay image schedule None) (run_settings_of a) command _ e
-    (λ image schedule s is made. subst IsWithinLimits made (run_within a s is))
-replay_within a (Some requests) command e =
-    asked_with a (λ image schedule. commands.Replay image schedule (Some requests)) (serve_settings_of a) command _ e
-    (λ image schedule s is made. subst IsWithinLimits made (serve_within a s is))
+settings_given : (options : Options) (a : Arguments) (settings : Settings) → settings_by options a ≡ Some settings → AreGivenBy options settings
+settings_given options.Nothing a settings e = tt
+settings_given options.Number a settings e = tt
+settings_given options.Run a settings e = run_within a settings e
+settings_given options.Serve a settings e = serve_within a settings e
 
-run_is_within : (a : Arguments) (command : Command) → run_of a ≡ Some command → IsWithinLimits command
-run_is_within a command e =
-    by_branch (is_some a.second || is_some a.third) None _ command (not_none command) (λ rest.
-    option_and_then_some (λ image. option_map (commands.Run image) (run_settings_of a)) a.first command rest (λ image here more.
-    let made = mapped_some (commands.Run image) (run_settings_of a) command more in
-    subst IsWithinLimits made.2 (run_within a made.0 made.1))) e
+number_given : (options : Options) (a : Arguments) (number : ℕ) → number_by options a ≡ Some number → IsGivenBy options number
+number_given options.Number a number e =
+    option_and_then_some (number_within 1 100) a.first number e (λ word here found. number_is_within 1 100 word number found)
+number_given options.Nothing a number e = tt
+number_given options.Run a number e = tt
+number_given options.Serve a number e = tt
 
-serve_is_within : (a : Arguments) (command : Command) → serve_of a ≡ Some command → IsWithinLimits command
-serve_is_within a command e =
-    by_branch (is_some a.third) None _ command (not_none command) (λ rest.
-    asked_with a commands.Serve (serve_settings_of a) command _ rest
-    (λ image requests s is made. subst IsWithinLimits made (serve_within a s is))) e
+-- what a mode's options give is within their limits
+choice_given : (a : Arguments) (mode : Mode) (chosen : Choice) → choice_of a mode ≡ Some chosen → AreGivenBy (row_of chosen.mode).options chosen.settings × IsGivenBy (row_of chosen.mode).options chosen.number
+choice_given a mode chosen e =
+    option_and_then_some (λ settings. option_map (made_of mode settings) (number_by (row_of mode).options a)) (settings_by (row_of mode).options a) chosen e (λ settings found rest.
+    let number = mapped_some (made_of mode settings) (number_by (row_of mode).options a) chosen rest in
+    subst (λ (c : Choice). AreGivenBy (row_of c.mode).options c.settings × IsGivenBy (row_of c.mode).options c.number) number.2
+    (settings_given (row_of mode).options a settings found, number_given (row_of mode).options a number.0 number.1))
 
-gen_is_within : (a : Arguments) (command : Command) → gen_of a ≡ Some command → IsWithinLimits command
-gen_is_within a command e =
-    let made = mapped_some commands.Gen (option_and_then (number_within 1 100) (only_word a)) command e in
-    subst IsWithinLimits made.2
-    (option_and_then_some (number_within 1 100) (only_word a) made.0 made.1 (λ word here number. number_is_within 1 100 word made.0 number))
-
-asm_is_within : (a : Arguments) (command : Command) → option_map commands.Asm (only_word a) ≡ Some command → IsWithinLimits command
-asm_is_within a command e = let made = mapped_some commands.Asm (only_word a) command e in subst IsWithinLimits made.2 tt
-
-dis_is_within : (a : Arguments) (command : Command) → option_map commands.Dis (only_word a) ≡ Some command → IsWithinLimits command
-dis_is_within a command e = let made = mapped_some commands.Dis (only_word a) command e in subst IsWithinLimits made.2 tt
-
-lift_is_within : (a : Arguments) (command : Command) → option_map commands.Lift (only_word a) ≡ Some command → IsWithinLimits command
-lift_is_within a command e = let made = mapped_some commands.Lift (only_word a) command e in subst IsWithinLimits made.2 tt
-
-monitor_is_within : (a : Arguments) (command : Command) → monitor_of a ≡ Some command → IsWithinLimits command
-monitor_is_within a command e =
-    by_branch (is_some a.third) None _ command (not_none command) (λ rest.
-    asked_with a commands.Monitor (run_settings_of a) command _ rest
-    (λ image schedule s is made. subst IsWithinLimits made (run_within a s is))) e
-
-vault_is_within : (a : Arguments) (command : Command) → vault_of a ≡ Some command → IsWithinLimits command
-vault_is_within a command e =
-    option_and_then_some (λ schedule. two_words a (λ image vault. option_map (commands.Vault image vault schedule) (run_settings_of a))) a.third command e (λ schedule here more.
-    asked_with a (λ image vault. commands.Vault image vault schedule) (run_settings_of a) command _ more
-    (λ image vault s is made. subst IsWithinLimits made (run_within a s is)))
-
-debug_is_within : (a : Arguments) (command : Command) → debug_of a ≡ Some command → IsWithinLimits command
-debug_is_within a command e =
-    option_and_then_some (λ script. two_words a (λ image schedule. option_map (commands.Debug image schedule script) (run_settings_of a))) a.third command e (λ script here more.
-    asked_with a (λ image schedule. commands.Debug image schedule script) (run_settings_of a) command _ more
-    (λ image schedule s is made. subst IsWithinLimits made (run_within a s is)))
-
-stream_is_within : (a : Arguments) (command : Command) → stream_of a ≡ Some command → IsWithinLimits command
-stream_is_within a command e =
-    by_branch (is_some a.third) None _ command (not_none command) (λ rest.
-    asked_with a commands.Stream (serve_settings_of a) command _ rest
-    (λ image requests s is made. subst IsWithinLimits made (serve_within a s is))) e
-
-asked_is_within : (mode : List ℕ) (a : Arguments) (command : Command) → asked_in mode a ≡ Some command → IsWithinLimits command
-asked_is_within mode a command e =
-    by_branch (bytes_eq mode (codes "replay")) (replay_with a a.third) _ command (replay_within a a.third command)
-    (by_branch (bytes_eq mode (codes "run")) (run_of a) _ command (run_is_within a command)
-    (by_branch (bytes_eq mode (codes "serve")) (serve_of a) _ command (serve_is_within a command)
-    (by_branch (bytes_eq mode (codes "asm")) (option_map commands.Asm (only_word a)) _ command (asm_is_within a command)
-    (by_branch (bytes_eq mode (codes "dis")) (option_map commands.Dis (only_word a)) _ command (dis_is_within a command)
-    (by_branch (bytes_eq mode (codes "gen")) (gen_of a) _ command (gen_is_within a command)
-    (by_branch (bytes_eq mode (codes "lift")) (option_map commands.Lift (only_word a)) _ command (lift_is_within a command)
-    (by_branch (bytes_eq mode (codes "monitor")) (monitor_of a) _ command (monitor_is_within a command)
-    (by_branch (bytes_eq mode (codes "vault")) (vault_of a) _ command (vault_is_within a command)
-    (by_branch (bytes_eq mode (codes "debug")) (debug_of a) _ command (debug_is_within a command)
-    (by_branch (bytes_eq mode (codes "stream")) (stream_of a) None command (stream_is_within a command) (not_none command))))))))))) e
+-- a mode's command has the limits of its options
+within_with : (mode : Mode) (first second third : List ℕ) (settings : Settings) (number : ℕ) → AreGivenBy (row_of mode).options settings → IsGivenBy (row_of mode).options number → IsWithinLimits (command_with mode first second third settings number)
+within_with modes.Replay first second third settings number given said = given
+within_with modes.ReplayServe first second third settings number given said = given
+within_with modes.Run first second third settings number given said = given
+within_with modes.Serve first second third settings number given said = given
+within_with modes.Asm first second third settings number given said = tt
+within_with modes.Dis first second third settings number given said = tt
+within_with modes.Gen first second third settings number given said = said
+within_with modes.Lift first second third settings number given said = tt
+within_with modes.Monitor first second third settings number given said = given
+within_with modes.Vault first second third settings number given said = given
+within_with modes.Debug first second third settings number given said = given
+within_with modes.Stream first second third settings number given said = given
 
 -- the numbers of an accepted line are within their limits
 pub accepted_is_within : (words : List (List ℕ)) (command : Command) → command_of words ≡ Some command → IsWithinLimits command
 unfolding command_of
 accepted_is_within words command e =
-    option_and_then_some (λ a. option_and_then (λ mode. asked_in mode a) a.mode) (arguments_of words) command e (λ a found rest.
-    option_and_then_some (λ mode. asked_in mode a) a.mode command rest (λ mode there asked. asked_is_within mode a command asked))
+    option_and_then_some (λ a. option_and_then (λ word. asked_in word a) a.mode) (arguments_of words) command e (λ a found rest.
+    option_and_then_some (λ word. asked_in word a) a.mode command rest (λ word there asked.
+    let chosen = mapped_some (λ (c : Choice). command_by a c.mode c.settings c.number) (choice_in word a) command asked in
+    let given = option_and_then_some (choice_of a) (mode_called word (places_in a.first a.second a.third)) chosen.0 chosen.1 (λ mode called choice. choice_given a mode chosen.0 choice) in
+    subst IsWithinLimits chosen.2 (within_with chosen.0.mode _ _ _ chosen.0.settings chosen.0.number given.0 given.1)))

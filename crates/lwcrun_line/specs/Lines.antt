@@ -1,15 +1,21 @@
 -- What a line of words asks for.
-use Rattle.std.specs.Prelude.{◌≡◌, ◌≤◌, ℕ, ◌||◌, if◌then◌else◌, List, Option, None, Some, is_some, bytes_eq, codes}
-use Rattle.std.specs.Prelude.{string_bytes}
+use Rattle.std.specs.Prelude.{◌≡◌, ◌≤◌, ℕ, ◌||◌, if◌then◌else◌, List, [], Option, None, Some, is_some}
+use Rattle.std.specs.Prelude.{string_bytes, unwrap_or}
 use Rattle.std.specs.Option.{option_map, option_and_then}
 use Rattle.kernel_core.specs.Settings.{IsSettings}
 use Rattle.kernel_core.specs.declared.settings.Settings.{Settings}
 use Rattle.kernel_core.specs.declared.settings.Job.{Job}
 use Rattle.kernel_core.specs.declared.settings.Job.TheVariants as jobs
 use Rattle.lwc_types.specs.declared.limits.TheConstants.{MOST_BUDGET, MOST_FRAMES, MOST_THREADS}
+use Rattle.lwcrun_line.specs.declared.line.Choice.{Choice}
 use Rattle.lwcrun_line.specs.declared.line.Line.{Line}
 use Rattle.lwcrun_line.specs.declared.line.Line.TheVariants as lines
+use Rattle.lwcrun_line.specs.declared.mode.Mode.{Mode}
+use Rattle.lwcrun_line.specs.declared.mode.Mode.TheVariants as modes
+use Rattle.lwcrun_line.specs.declared.mode.Options.{Options}
+use Rattle.lwcrun_line.specs.declared.mode.Options.TheVariants as options
 use Rattle.lwcrun_line.specs.Arguments.{Arguments, arguments_of}
+use Rattle.lwcrun_line.specs.Modes.{mode_called, row_of}
 use Rattle.lwcrun_line.specs.Numbers.{number_within}
 
 -- what is asked for, each file by its name: an image under a schedule, a serve where there are requests; the
@@ -74,83 +80,81 @@ run_settings_of a = if is_some a.workers then None else settings_of jobs.Run a
 abbrev pub serve_settings_of : Arguments → Option Settings
 serve_settings_of a = option_and_then (λ workers. settings_of (jobs.Serve workers) a) (workers_of a)
 
--- the only word behind the mode, where there is no option
-abbrev pub only_word : Arguments → Option (List ℕ)
-only_word a =
-    if is_some a.second || is_some a.third || is_some a.frames || is_some a.budget || is_some a.workers then None
-    else a.first
+-- the settings of a mode that takes no option
+abbrev pub default_settings : Settings
+default_settings = settings_for jobs.Run 4096 10000
 
--- the first two words behind the mode
-abbrev pub two_words : Arguments → (List ℕ → List ℕ → Option Command) → Option Command
-two_words a command =
-    option_and_then (λ first. option_and_then (λ second. command first second) a.second) a.first
+-- the default, where the line has no option
+abbrev pub unset : {A : Type 0} → A → Arguments → Option A
+unset default a = if is_some a.frames || is_some a.budget || is_some a.workers then None else Some default
 
--- `replay` wants an image and a schedule, and takes frames and a budget; with requests it takes workers too
-abbrev pub replay_with : Arguments → Option (List ℕ) → Option Command
-replay_with a None =
-    two_words a (λ image schedule. option_map (Replay image schedule None) (run_settings_of a))
-replay_with a (Some requests) =
-    two_words a (λ image schedule. option_map (Replay image schedule (Some requests)) (serve_settings_of a))
+-- the settings of a line by the options of its mode, where none is refused
+abbrev pub settings_by : Options → Arguments → Option Settings
+settings_by options.Nothing a = unset default_settings a
+settings_by options.Number a = unset default_settings a
+settings_by options.Run a = run_settings_of a
+settings_by options.Serve a = serve_settings_of a
 
--- `run` wants an image, and takes frames and a budget
-abbrev pub run_of : Arguments → Option Command
-run_of a =
-    if is_some a.second || is_some a.third then None
-    else option_and_then (λ image. option_map (Run image) (run_settings_of a)) a.first
+-- the number of a line by the options of its mode: one from 1 to 100, or 0 where the mode takes none
+abbrev pub number_by : Options → Arguments → Option ℕ
+number_by options.Number a = option_and_then (number_within 1 100) a.first
+number_by options a = Some 0
 
--- `serve` wants an image and requests, and takes frames, a budget and workers
-abbrev pub serve_of : Arguments → Option Command
-serve_of a =
-    if is_some a.third then None
-    else two_words a (λ image requests. option_map (Serve image requests) (serve_settings_of a))
+-- how many words are behind the mode
+abbrev pub places_in : Option (List ℕ) → Option (List ℕ) → Option (List ℕ) → ℕ
+places_in (Some first) (Some second) (Some third) = 3
+places_in (Some first) (Some second) None = 2
+places_in (Some first) None None = 1
+places_in first second third = 0
 
--- `stream` wants and takes what `serve` does
-abbrev pub stream_of : Arguments → Option Command
-stream_of a =
-    if is_some a.third then None
-    else two_words a (λ image requests. option_map (Stream image requests) (serve_settings_of a))
+-- the command of a mode with these words behind it
+abbrev pub command_with : Mode → List ℕ → List ℕ → List ℕ → Settings → ℕ → Command
+command_with modes.Replay first second third settings number = Replay first second None settings
+command_with modes.ReplayServe first second third settings number = Replay first second (Some third) settings
+command_with modes.Run first second third settings number = Run first settings
+command_with modes.Serve first second third settings number = Serve first second settings
+command_with modes.Asm first second third settings number = Asm first
+command_with modes.Dis first second third settings number = Dis first
+command_with modes.Gen first second third settings number = Gen number
+command_with modes.Lift first second third settings number = Lift first
+command_with modes.Monitor first second third settings number = Monitor first second settings
+command_with modes.Vault first second third settings number = Vault first second third settings
+command_with modes.Debug first second third settings number = Debug first second third settings
+command_with modes.Stream first second third settings number = Stream first second settings
 
--- `gen` wants a number from 1 to 100, and takes no option
-abbrev pub gen_of : Arguments → Option Command
-gen_of a = option_map Gen (option_and_then (number_within 1 100) (only_word a))
+-- what a mode asks for with these arguments
+abbrev pub command_by : Arguments → Mode → Settings → ℕ → Command
+command_by a mode settings number =
+    command_with mode (unwrap_or a.first []) (unwrap_or a.second []) (unwrap_or a.third []) settings number
 
--- `monitor` wants an image and a schedule, and takes frames and a budget
-abbrev pub monitor_of : Arguments → Option Command
-monitor_of a =
-    if is_some a.third then None
-    else two_words a (λ image schedule. option_map (Monitor image schedule) (run_settings_of a))
+-- what a mode's options say, where it takes those of the line
+abbrev pub choice_of : Arguments → Mode → Option Choice
+choice_of a mode =
+    option_and_then (λ settings. option_map (λ number. record { mode = mode; settings = settings; number = number })
+    (number_by (row_of mode).options a)) (settings_by (row_of mode).options a)
 
--- `vault` wants an image, a vault and a schedule, and takes frames and a budget
-abbrev pub vault_of : Arguments → Option Command
-vault_of a =
-    option_and_then (λ schedule. two_words a (λ image vault.
-    option_map (Vault image vault schedule) (run_settings_of a))) a.third
+-- the mode of a word and of the words behind it, and what its options say
+abbrev pub choice_in : List ℕ → Arguments → Option Choice
+choice_in word a = option_and_then (choice_of a) (mode_called word (places_in a.first a.second a.third))
 
--- `debug` wants an image, a schedule and a script, and takes frames and a budget
-abbrev pub debug_of : Arguments → Option Command
-debug_of a =
-    option_and_then (λ script. two_words a (λ image schedule.
-    option_map (Debug image schedule script) (run_settings_of a))) a.third
-
--- the table of modes: what each asks for, if it takes the other arguments
+-- what the arguments ask for
 abbrev pub asked_in : List ℕ → Arguments → Option Command
-asked_in mode a =
-    if bytes_eq mode (codes "replay") then replay_with a a.third
-    else if bytes_eq mode (codes "run") then run_of a
-    else if bytes_eq mode (codes "serve") then serve_of a
-    else if bytes_eq mode (codes "asm") then option_map Asm (only_word a)
-    else if bytes_eq mode (codes "dis") then option_map Dis (only_word a)
-    else if bytes_eq mode (codes "gen") then gen_of a
-    else if bytes_eq mode (codes "lift") then option_map Lift (only_word a)
-    else if bytes_eq mode (codes "monitor") then monitor_of a
-    else if bytes_eq mode (codes "vault") then vault_of a
-    else if bytes_eq mode (codes "debug") then debug_of a
-    else if bytes_eq mode (codes "stream") then stream_of a
-    else None
+asked_in word a = option_map (λ chosen. command_by a chosen.mode chosen.settings chosen.number) (choice_in word a)
 
 -- what the words ask for, the program's name first; none where the line is not accepted
 unfoldable pub command_of : List (List ℕ) → Option Command
 command_of words = option_and_then (λ a. option_and_then (λ mode. asked_in mode a) a.mode) (arguments_of words)
+
+-- settings that these options may give, if they say any
+abbrev pub AreGivenBy : Options → Settings → Type 0
+AreGivenBy options.Run settings = AreRunSettings settings
+AreGivenBy options.Serve settings = AreServeSettings settings
+AreGivenBy options settings = Unit {0}
+
+-- a number that these options may give, if they say one
+abbrev pub IsGivenBy : Options → ℕ → Type 0
+IsGivenBy options.Number number = (1 ≤ number) × (number ≤ 100)
+IsGivenBy options number = Unit {0}
 
 -- what a line that was read asks for
 abbrev pub asked_by : Line → Command

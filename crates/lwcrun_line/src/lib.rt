@@ -3,6 +3,8 @@
 
 mod arguments;
 mod line;
+mod mode;
 mod numbers;
 
 pub use line::{Line, LineFault, read_line};
+pub use mode::{Mode, Options};

@@ -1,12 +1,16 @@
 ghost use Rattle.std.specs.Prelude.{◌≡◌, ◌≢◌, ◌≤◌, ◌↔◌, None, Some, map, IfErr, IfOk, IfSome, string_bytes};
+ghost use Rattle.std.specs.Prelude.{[], unwrap_or};
 ghost use Rattle.std.specs.Option.{option_map};
 ghost use Rattle.kernel_core.specs.Settings.{IsJob, IsSettings};
 ghost use Rattle.lwc_types.specs.declared.limits.TheConstants.{MOST_BUDGET, MOST_FRAMES, MOST_THREADS};
 ghost use Rattle.lwcrun_line.specs.Arguments.{arguments_in};
 ghost use Rattle.lwcrun_line.specs.Lines as spec;
-ghost use Rattle.lwcrun_line.specs.Lines.{AreRunSettings, AreServeSettings, IsWithinLimits, asked_by, command_of};
+ghost use Rattle.lwcrun_line.specs.Lines.{AreGivenBy, AreRunSettings, AreServeSettings, IsGivenBy};
+ghost use Rattle.lwcrun_line.specs.Lines.{IsWithinLimits, asked_by, command_of};
+ghost use Rattle.lwcrun_line.specs.Modes.{row_of};
 
 use crate::arguments::{Arguments, parse_words};
+use crate::mode::{Mode, Options, mode_called, row_of};
 use crate::numbers::number_within;
 use kernel_core::{Job, Settings};
 use lwc_base::{MOST_BUDGET, MOST_FRAMES, MOST_THREADS};
@@ -86,6 +90,14 @@ pub enum LineFault {
     Usage,
 }
 
+/// A mode, and what its options say.
+#[derive(Clone, Copy)]
+struct Choice {
+    mode: Mode,
+    settings: Settings,
+    number: u32,
+}
+
 /// The number of frames of a line that asks for none.
 const DEFAULT_FRAMES: u32 = 4096;
 
@@ -109,298 +121,191 @@ pub fn read_line(alloc: Global, words: &[String]) -> Result<Line, LineFault>
 {
     let arguments = parse_words(alloc, words)?;
     match arguments.mode {
-        Some(mode) => line_in(alloc, mode, &arguments),
+        Some(word) => line_in(alloc, word, &arguments),
         None => Err(LineFault::Usage),
     }
 }
 
-/// The table of modes: what each asks for, if it takes the other arguments.
-fn line_in(alloc: Global, mode: &str, arguments: &Arguments<'_>) -> Result<Line, LineFault>
+/// What the arguments behind a mode's word ask for.
+fn line_in(alloc: Global, word: &str, arguments: &Arguments<'_>) -> Result<Line, LineFault>
     ensures accepted { IfOk result (λ line.
-        spec.asked_in mode.now (arguments_in arguments.now) ≡ Some (asked_by line)) }
+        spec.asked_in word.now (arguments_in arguments.now) ≡ Some (asked_by line)) }
     ensures limits { IfOk result (λ line. IsWithinLimits (asked_by line)) }
     ensures usage { result ≡ Err LineFault.Usage
-        → spec.asked_in mode.now (arguments_in arguments.now) ≡ None }
+        → spec.asked_in word.now (arguments_in arguments.now) ≡ None }
 {
+    let chosen = choice_in(word, arguments).ok_or(LineFault::Usage)?;
+    let first = text_of(alloc, arguments.first)?;
+    let second = text_of(alloc, arguments.second)?;
+    let third = text_of(alloc, arguments.third)?;
+    Ok(line_with(chosen, first, second, third))
+}
+
+/// The line of a mode with these words behind it, those that are not there empty.
+fn line_with(chosen: Choice, first: String, second: String, third: String) -> Line
+    requires settings { AreGivenBy (row_of chosen.mode).options chosen.settings }
+    requires number { IsGivenBy (row_of chosen.mode).options chosen.number }
+    ensures asked { asked_by result ≡ spec.command_with chosen.mode (string_bytes first) (string_bytes second)
+        (string_bytes third) chosen.settings chosen.number }
+    ensures limits { IsWithinLimits (asked_by result) }
+{
+    let Choice {
+        mode,
+        settings,
+        number,
+    } = chosen;
     match mode {
-        "replay" => replay_line(alloc, arguments),
-        "run" => run_line(alloc, arguments),
-        "serve" => serve_line(alloc, arguments),
-        "asm" => asm_line(alloc, arguments),
-        "dis" => dis_line(alloc, arguments),
-        "gen" => gen_line(arguments),
-        "lift" => lift_line(alloc, arguments),
-        "monitor" => monitor_line(alloc, arguments),
-        "vault" => vault_line(alloc, arguments),
-        "debug" => debug_line(alloc, arguments),
-        "stream" => stream_line(alloc, arguments),
-        _ => Err(LineFault::Usage),
+        Mode::Replay => Line::Replay {
+            image: first,
+            schedule: second,
+            requests: None,
+            settings,
+        },
+        Mode::ReplayServe => Line::Replay {
+            image: first,
+            schedule: second,
+            requests: Some(third),
+            settings,
+        },
+        Mode::Run => Line::Run {
+            image: first,
+            settings,
+        },
+        Mode::Serve => Line::Serve {
+            image: first,
+            requests: second,
+            settings,
+        },
+        Mode::Asm => Line::Asm { source: first },
+        Mode::Dis => Line::Dis { image: first },
+        Mode::Gen => Line::Gen { number },
+        Mode::Lift => Line::Lift { image: first },
+        Mode::Monitor => Line::Monitor {
+            image: first,
+            schedule: second,
+            settings,
+        },
+        Mode::Vault => Line::Vault {
+            image: first,
+            vault: second,
+            schedule: third,
+            settings,
+        },
+        Mode::Debug => Line::Debug {
+            image: first,
+            schedule: second,
+            script: third,
+            settings,
+        },
+        Mode::Stream => Line::Stream {
+            image: first,
+            requests: second,
+            settings,
+        },
     }
 }
 
-/// The line of a replay: an image and a schedule, and requests for a serve.
-fn replay_line(alloc: Global, arguments: &Arguments<'_>) -> Result<Line, LineFault>
-    ensures accepted { IfOk result (λ line. spec.replay_with (arguments_in arguments.now)
-        (arguments_in arguments.now).third ≡ Some (asked_by line)) }
-    ensures limits { IfOk result (λ line. IsWithinLimits (asked_by line)) }
-    ensures usage { result ≡ Err LineFault.Usage → spec.replay_with (arguments_in arguments.now)
-        (arguments_in arguments.now).third ≡ None }
+/// The mode of a word and of the words behind it, and what its options say.
+fn choice_in(word: &str, arguments: &Arguments<'_>) -> Option<Choice>
+    ensures value { result ≡ spec.choice_in word.now (arguments_in arguments.now) }
+    ensures settings { IfSome result (λ chosen. AreGivenBy (row_of chosen.mode).options chosen.settings) }
+    ensures number { IfSome result (λ chosen. IsGivenBy (row_of chosen.mode).options chosen.number) }
 {
-    match arguments.third {
-        Some(requests) => replay_of_serve(alloc, arguments, requests),
-        None => replay_of_run(alloc, arguments),
+    let mode = mode_called(word, places_in(arguments))?;
+    choice_of(mode, arguments)
+}
+
+/// What a mode's options say, if it takes those of the line.
+fn choice_of(mode: Mode, arguments: &Arguments<'_>) -> Option<Choice>
+    ensures value { result ≡ spec.choice_of (arguments_in arguments.now) mode }
+    ensures settings { IfSome result (λ chosen. AreGivenBy (row_of chosen.mode).options chosen.settings) }
+    ensures number { IfSome result (λ chosen. IsGivenBy (row_of chosen.mode).options chosen.number) }
+{
+    let options = row_of(mode).options;
+    Some(Choice {
+        mode,
+        settings: settings_by(options, arguments)?,
+        number: number_by(options, arguments)?,
+    })
+}
+
+/// How many words are behind the mode.
+fn places_in(arguments: &Arguments<'_>) -> usize
+    ensures { result ≡ spec.places_in (arguments_in arguments.now).first (arguments_in arguments.now).second
+        (arguments_in arguments.now).third }
+{
+    match (arguments.first, arguments.second, arguments.third) {
+        (Some(_), Some(_), Some(_)) => 3,
+        (Some(_), Some(_), None) => 2,
+        (Some(_), None, None) => 1,
+        _ => 0,
     }
 }
 
-/// The line of a run's replay, with frames and a budget.
-fn replay_of_run(alloc: Global, arguments: &Arguments<'_>) -> Result<Line, LineFault>
-    ensures accepted { IfOk result (λ line.
-        spec.replay_with (arguments_in arguments.now) None ≡ Some (asked_by line)) }
-    ensures limits { IfOk result (λ line. IsWithinLimits (asked_by line)) }
-    ensures usage { result ≡ Err LineFault.Usage → spec.replay_with (arguments_in arguments.now) None ≡ None }
+/// A word of the line; an empty text where it is not there.
+fn text_of(alloc: Global, word: Option<&str>) -> Result<String, LineFault>
+    ensures text { IfOk result (λ text.
+        string_bytes text ≡ unwrap_or (option_map (λ s. s.now) word.entry) []) }
+    ensures usage { result ≢ Err LineFault.Usage }
 {
-    let settings = run_settings_of(arguments)?;
-    Ok(Line::Replay {
-        image: name_of(alloc, arguments.first)?,
-        schedule: name_of(alloc, arguments.second)?,
-        requests: None,
-        settings,
-    })
+    String::from_str(alloc, word.unwrap_or("")).map_err(|_| LineFault::OutOfMemory)
 }
 
-/// The line of a serve's replay, with frames, a budget and workers.
-fn replay_of_serve(
-    alloc: Global,
-    arguments: &Arguments<'_>,
-    requests: &str,
-) -> Result<Line, LineFault>
-    ensures accepted { IfOk result (λ line.
-        spec.replay_with (arguments_in arguments.now) (Some requests.now) ≡ Some (asked_by line)) }
-    ensures limits { IfOk result (λ line. IsWithinLimits (asked_by line)) }
-    ensures usage { result ≡ Err LineFault.Usage →
-        spec.replay_with (arguments_in arguments.now) (Some requests.now) ≡ None }
+/// The settings of a line by the options of its mode, if none is refused.
+fn settings_by(options: Options, arguments: &Arguments<'_>) -> Option<Settings>
+    ensures value { result ≡ spec.settings_by options (arguments_in arguments.now) }
+    ensures given { IfSome result (AreGivenBy options) }
 {
-    let settings = serve_settings_of(arguments)?;
-    Ok(Line::Replay {
-        image: name_of(alloc, arguments.first)?,
-        schedule: name_of(alloc, arguments.second)?,
-        requests: Some(name_of(alloc, Some(requests))?),
-        settings,
-    })
-}
-
-/// The line of a run: an image, with frames and a budget.
-fn run_line(alloc: Global, arguments: &Arguments<'_>) -> Result<Line, LineFault>
-    ensures accepted { IfOk result (λ line. spec.run_of (arguments_in arguments.now) ≡ Some (asked_by line)) }
-    ensures limits { IfOk result (λ line. IsWithinLimits (asked_by line)) }
-    ensures usage { result ≡ Err LineFault.Usage → spec.run_of (arguments_in arguments.now) ≡ None }
-{
-    if arguments.second.is_some() || arguments.third.is_some() {
-        return Err(LineFault::Usage);
-    }
-    let settings = run_settings_of(arguments)?;
-    Ok(Line::Run {
-        image: name_of(alloc, arguments.first)?,
-        settings,
-    })
-}
-
-/// The line of a serve: an image and requests, with frames, a budget and workers.
-fn serve_line(alloc: Global, arguments: &Arguments<'_>) -> Result<Line, LineFault>
-    ensures accepted { IfOk result (λ line. spec.serve_of (arguments_in arguments.now)
-        ≡ Some (asked_by line)) }
-    ensures limits { IfOk result (λ line. IsWithinLimits (asked_by line)) }
-    ensures usage { result ≡ Err LineFault.Usage → spec.serve_of (arguments_in arguments.now) ≡ None }
-{
-    if arguments.third.is_some() {
-        return Err(LineFault::Usage);
-    }
-    let settings = serve_settings_of(arguments)?;
-    Ok(Line::Serve {
-        image: name_of(alloc, arguments.first)?,
-        requests: name_of(alloc, arguments.second)?,
-        settings,
-    })
-}
-
-/// The line of an assembly: a source, without options.
-fn asm_line(alloc: Global, arguments: &Arguments<'_>) -> Result<Line, LineFault>
-    ensures accepted { IfOk result (λ line.
-        option_map spec.Asm (spec.only_word (arguments_in arguments.now)) ≡ Some (asked_by line)) }
-    ensures limits { IfOk result (λ line. IsWithinLimits (asked_by line)) }
-    ensures usage { result ≡ Err LineFault.Usage
-        → option_map spec.Asm (spec.only_word (arguments_in arguments.now)) ≡ None }
-{
-    Ok(Line::Asm {
-        source: name_of(alloc, only_word(arguments))?,
-    })
-}
-
-/// The line of a disassembly: an image, without options.
-fn dis_line(alloc: Global, arguments: &Arguments<'_>) -> Result<Line, LineFault>
-    ensures accepted { IfOk result (λ line.
-        option_map spec.Dis (spec.only_word (arguments_in arguments.now)) ≡ Some (asked_by line)) }
-    ensures limits { IfOk result (λ line. IsWithinLimits (asked_by line)) }
-    ensures usage { result ≡ Err LineFault.Usage
-        → option_map spec.Dis (spec.only_word (arguments_in arguments.now)) ≡ None }
-{
-    Ok(Line::Dis {
-        image: name_of(alloc, only_word(arguments))?,
-    })
-}
-
-/// The line of a generated serve: a number, without options.
-fn gen_line(arguments: &Arguments<'_>) -> Result<Line, LineFault>
-    ensures accepted { IfOk result (λ line. spec.gen_of (arguments_in arguments.now) ≡ Some (asked_by line)) }
-    ensures limits { IfOk result (λ line. IsWithinLimits (asked_by line)) }
-    ensures usage { result ≡ Err LineFault.Usage → spec.gen_of (arguments_in arguments.now) ≡ None }
-{
-    let word = only_word(arguments).ok_or(LineFault::Usage)?;
-    let number = number_within(1, 100, word).ok_or(LineFault::Usage)?;
-    Ok(Line::Gen { number })
-}
-
-/// The line of a lifting: an image, without options.
-fn lift_line(alloc: Global, arguments: &Arguments<'_>) -> Result<Line, LineFault>
-    ensures accepted { IfOk result (λ line.
-        option_map spec.Lift (spec.only_word (arguments_in arguments.now)) ≡ Some (asked_by line)) }
-    ensures limits { IfOk result (λ line. IsWithinLimits (asked_by line)) }
-    ensures usage { result ≡ Err LineFault.Usage
-        → option_map spec.Lift (spec.only_word (arguments_in arguments.now)) ≡ None }
-{
-    Ok(Line::Lift {
-        image: name_of(alloc, only_word(arguments))?,
-    })
-}
-
-/// The line of a monitored run: an image and a schedule, with frames and a budget.
-fn monitor_line(alloc: Global, arguments: &Arguments<'_>) -> Result<Line, LineFault>
-    ensures accepted { IfOk result (λ line. spec.monitor_of (arguments_in arguments.now)
-        ≡ Some (asked_by line)) }
-    ensures limits { IfOk result (λ line. IsWithinLimits (asked_by line)) }
-    ensures usage { result ≡ Err LineFault.Usage → spec.monitor_of (arguments_in arguments.now) ≡ None }
-{
-    if arguments.third.is_some() {
-        return Err(LineFault::Usage);
-    }
-    let settings = run_settings_of(arguments)?;
-    Ok(Line::Monitor {
-        image: name_of(alloc, arguments.first)?,
-        schedule: name_of(alloc, arguments.second)?,
-        settings,
-    })
-}
-
-/// The line of a run beside a vault: an image, a vault and a schedule, with frames and a budget.
-fn vault_line(alloc: Global, arguments: &Arguments<'_>) -> Result<Line, LineFault>
-    ensures accepted { IfOk result (λ line. spec.vault_of (arguments_in arguments.now) ≡ Some (asked_by line)) }
-    ensures limits { IfOk result (λ line. IsWithinLimits (asked_by line)) }
-    ensures usage { result ≡ Err LineFault.Usage → spec.vault_of (arguments_in arguments.now) ≡ None }
-{
-    let settings = run_settings_of(arguments)?;
-    Ok(Line::Vault {
-        image: name_of(alloc, arguments.first)?,
-        vault: name_of(alloc, arguments.second)?,
-        schedule: name_of(alloc, arguments.third)?,
-        settings,
-    })
-}
-
-/// The line of a debugged run: an image, a schedule and a script, with frames and a budget.
-fn debug_line(alloc: Global, arguments: &Arguments<'_>) -> Result<Line, LineFault>
-    ensures accepted { IfOk result (λ line. spec.debug_of (arguments_in arguments.now) ≡ Some (asked_by line)) }
-    ensures limits { IfOk result (λ line. IsWithinLimits (asked_by line)) }
-    ensures usage { result ≡ Err LineFault.Usage → spec.debug_of (arguments_in arguments.now) ≡ None }
-{
-    let settings = run_settings_of(arguments)?;
-    Ok(Line::Debug {
-        image: name_of(alloc, arguments.first)?,
-        schedule: name_of(alloc, arguments.second)?,
-        script: name_of(alloc, arguments.third)?,
-        settings,
-    })
-}
-
-/// The line of a stream: an image and requests, with frames, a budget and workers.
-fn stream_line(alloc: Global, arguments: &Arguments<'_>) -> Result<Line, LineFault>
-    ensures accepted { IfOk result (λ line. spec.stream_of (arguments_in arguments.now)
-        ≡ Some (asked_by line)) }
-    ensures limits { IfOk result (λ line. IsWithinLimits (asked_by line)) }
-    ensures usage { result ≡ Err LineFault.Usage → spec.stream_of (arguments_in arguments.now) ≡ None }
-{
-    if arguments.third.is_some() {
-        return Err(LineFault::Usage);
-    }
-    let settings = serve_settings_of(arguments)?;
-    Ok(Line::Stream {
-        image: name_of(alloc, arguments.first)?,
-        requests: name_of(alloc, arguments.second)?,
-        settings,
-    })
-}
-
-/// The name of a file, if it is given.
-fn name_of(alloc: Global, word: Option<&str>) -> Result<String, LineFault>
-    ensures name { IfOk result (λ name. option_map (λ s. s.now) word.entry ≡ Some (string_bytes name)) }
-    ensures usage { result ≡ Err LineFault.Usage → option_map (λ s. s.now) word.entry ≡ None }
-{
-    match word {
-        Some(word) => String::from_str(alloc, word).map_err(|_| LineFault::OutOfMemory),
-        None => Err(LineFault::Usage),
+    match options {
+        Options::Nothing | Options::Number => default_settings(arguments),
+        Options::Run => run_settings_of(arguments),
+        Options::Serve => serve_settings_of(arguments),
     }
 }
 
-/// The only word behind the mode, where there is no option.
-fn only_word<'a>(arguments: &Arguments<'a>) -> Option<&'a str>
-    ensures { option_map (λ s. s.now) result ≡ spec.only_word (arguments_in arguments.now) }
+/// The settings of a mode that takes no option, if the line has none.
+fn default_settings(arguments: &Arguments<'_>) -> Option<Settings>
+    ensures { result ≡ spec.unset spec.default_settings (arguments_in arguments.now) }
 {
-    match arguments {
-        Arguments {
-            second: None,
-            third: None,
-            frames: None,
-            budget: None,
-            workers: None,
-            first,
-            ..
-        } => *first,
-        _ => None,
+    if arguments.frames.is_some() || arguments.budget.is_some() || arguments.workers.is_some() {
+        return None;
+    }
+    Some(Settings {
+        frames: DEFAULT_FRAMES,
+        budget: DEFAULT_BUDGET,
+        job: Job::Run,
+    })
+}
+
+/// The number of a line by the options of its mode, 0 if the mode takes none.
+fn number_by(options: Options, arguments: &Arguments<'_>) -> Option<u32>
+    ensures value { result ≡ spec.number_by options (arguments_in arguments.now) }
+    ensures given { IfSome result (IsGivenBy options) }
+{
+    match options {
+        Options::Number => number_within(1, 100, arguments.first?),
+        Options::Nothing | Options::Run | Options::Serve => Some(0),
     }
 }
 
-/// The settings of a run, which takes no workers.
-///
-/// # Errors
-///
-/// `Usage` where workers are given or a number is refused.
-fn run_settings_of(arguments: &Arguments<'_>) -> Result<Settings, LineFault>
-    ensures accepted { IfOk result (λ settings.
-        spec.run_settings_of (arguments_in arguments.now) ≡ Some settings) }
-    ensures limits { IfOk result AreRunSettings }
-    ensures usage { IfErr result (λ fault. (fault ≡ LineFault.Usage)
-        × (spec.run_settings_of (arguments_in arguments.now) ≡ None)) }
+/// The settings of a run, which takes no workers, if no number is refused.
+fn run_settings_of(arguments: &Arguments<'_>) -> Option<Settings>
+    ensures value { result ≡ spec.run_settings_of (arguments_in arguments.now) }
+    ensures limits { IfSome result AreRunSettings }
 {
     if arguments.workers.is_some() {
-        return Err(LineFault::Usage);
+        return None;
     }
-    settings_of(arguments, Job::Run).ok_or(LineFault::Usage)
+    settings_of(arguments, Job::Run)
 }
 
-/// The settings of a serve.
-///
-/// # Errors
-///
-/// `Usage` where a number is refused.
-fn serve_settings_of(arguments: &Arguments<'_>) -> Result<Settings, LineFault>
-    ensures accepted { IfOk result (λ settings.
-        spec.serve_settings_of (arguments_in arguments.now) ≡ Some settings) }
-    ensures limits { IfOk result AreServeSettings }
-    ensures usage { IfErr result (λ fault. (fault ≡ LineFault.Usage)
-        × (spec.serve_settings_of (arguments_in arguments.now) ≡ None)) }
+/// The settings of a serve, if no number is refused.
+fn serve_settings_of(arguments: &Arguments<'_>) -> Option<Settings>
+    ensures value { result ≡ spec.serve_settings_of (arguments_in arguments.now) }
+    ensures limits { IfSome result AreServeSettings }
 {
-    let workers = number_or(DEFAULT_WORKERS, MOST_THREADS, arguments.workers);
-    let workers = workers.ok_or(LineFault::Usage)?;
-    settings_of(arguments, Job::Serve { workers }).ok_or(LineFault::Usage)
+    let workers = number_or(DEFAULT_WORKERS, MOST_THREADS, arguments.workers)?;
+    settings_of(arguments, Job::Serve { workers })
 }
 
 /// The settings of a line for a job, if neither number is refused.

@@ -1,29 +1,29 @@
 use Rattle.std.proofs.Common.{refl}
-use Rattle.lwcrun_core.specs.Works.{IsText, server_plan}
+use Rattle.lwcrun_core.specs.Works.{IsText, plan_by}
 use Rattle.lwcrun_inputs.proofs.Fetches.{nothing_fetched}
 use Rattle.lwcrun_inputs.proofs.Follows.{fetches_on, fetches_stop, gathers_all, gathers_none, gathers_on, gathers_stop}
 use Rattle.lwcrun_core.proofs.gathering.server_files.Goals as goal
 
 pub returns-in_err-image-clause-gathers : goal.returns-in_err-image-clause-gathers
-unfolding server_plan
+unfolding plan_by
 returns-in_err-image-clause-gathers g c = λ work. gathers_none _ _ _ _ _ _ c.from_residual.ensures.0 c.from_residual.ensures.1 (gathers_stop IsText _ _ _ _ _ _ _ c.in_err-image.ensures.reads)
 
 pub returns-in_err-image-clause-fetches : goal.returns-in_err-image-clause-fetches
-unfolding server_plan
+unfolding plan_by
 returns-in_err-image-clause-fetches g c = λ work. fetches_stop _ _ _ _ _ _ c.fitting_image_in.ensures.fetches
 
 pub returns-in_err-requests-clause-gathers : goal.returns-in_err-requests-clause-gathers
-unfolding server_plan
+unfolding plan_by
 returns-in_err-requests-clause-gathers g c = λ work. gathers_none _ _ _ _ _ _ c.from_residual-in_err-requests.ensures.0 c.from_residual-in_err-requests.ensures.1 (gathers_on IsText _ _ _ _ _ _ _ _ _ c.in_ok-image.ensures.reads c.fitting_image_in.ensures.same (gathers_stop IsText _ _ _ _ _ _ _ c.in_err-requests.ensures.reads))
 
 pub returns-in_err-requests-clause-fetches : goal.returns-in_err-requests-clause-fetches
-unfolding server_plan
+unfolding plan_by
 returns-in_err-requests-clause-fetches g c = λ work. fetches_on IsText _ _ _ _ _ _ _ _ c.in_ok-image.ensures.reads c.fitting_image_in.ensures.same c.in_ok-image.ensures.whole (fetches_stop _ _ _ _ _ _ c.bounded_requests_in.ensures.fetches)
 
 pub returns-clause-gathers : goal.returns-clause-gathers
-unfolding server_plan
+unfolding plan_by
 returns-clause-gathers g c = λ work. gathers_on IsText _ _ _ _ _ _ _ _ _ c.in_ok-image.ensures.reads c.fitting_image_in.ensures.same (gathers_on IsText _ _ _ _ _ _ _ _ _ c.in_ok-requests.ensures.reads c.bounded_requests_in.ensures.same (gathers_all _ _ _))
 
 pub returns-clause-fetches : goal.returns-clause-fetches
-unfolding server_plan
+unfolding plan_by
 returns-clause-fetches g c = λ work. fetches_on IsText _ _ _ _ _ _ _ _ c.in_ok-image.ensures.reads c.fitting_image_in.ensures.same c.in_ok-image.ensures.whole (fetches_on IsText _ _ _ _ _ _ _ _ c.in_ok-requests.ensures.reads c.bounded_requests_in.ensures.same c.in_ok-requests.ensures.whole (nothing_fetched _ refl))
