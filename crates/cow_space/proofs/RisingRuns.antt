@@ -3,7 +3,7 @@ use Rattle.std.proofs.Common.{◌≡◌, ℕ, ◌+◌, ◌-◌, ◌<◌, ◌≤�
 use Rattle.std.specs.Option.{option_or}
 use Rattle.std.specs.List.Sorted.{IsNonDecreasingBy}
 use Rattle.std.proofs.lemmas.Bool.{and_parts, cases_lt, leb-true, ltb-true}
-use Rattle.std.proofs.lemmas.List.{get_or-drop, take-append-drop, take_all}
+use Rattle.std.proofs.lemmas.List.{get_or-drop, get_or_default, take-append-drop, take_all}
 use Rattle.std.proofs.lemmas.List.Folds.{find-append, list_any-append}
 use Rattle.std.proofs.lemmas.List.Sorted.{IsNonDecreasingBy-from_default}
 use Rattle.std.proofs.Math.Bool.{or-true}
@@ -26,6 +26,15 @@ module _ (runs : List PageRun) (rise : Rise runs) where
       (λ after. let b = rise.apart n k no_run (omega arith) after inside in let s = rise.order k no_run (omega arith) inside in omega (arith, b, s))
       (λ last. let is : k ≡ n = omega (arith, low, last) in let e = ap (λ i. (get_or runs i no_run).range.to) is in omega (arith, e))
       (cases_lt n k))
+
+  -- all up to one that ends by a page do
+  pub ended_before : (p n : ℕ) (e : PageRun) → n < length runs → (get_or runs n e).range.to ≤ p → (k : ℕ) (d : PageRun) → k < n + 1 → (get_or runs k d).range.to ≤ p
+  ended_before p n e inside last k d early =
+      let is = ap (λ (s : PageRun). s.range.to) (get_or_default runs k d e (omega (arith, early, inside))) in
+      ⊎_elim
+      (λ before. let b = rise.apart k n e (omega arith) before inside in let s = rise.order n e (omega arith) inside in omega (arith, b, s, last, is))
+      (λ same. let at : k ≡ n = omega (arith, early, same) in let t = ap (λ i. (get_or runs i e).range.to) at in omega (arith, t, last, is))
+      (cases_lt k n)
 
   -- where a page run has a page it is one of some number
   on_page : (q : ℕ) (s : PageRun) → page_run_at runs q ≡ Some s → (k : ℕ) × ((k < length runs) × ((get_or runs k no_run ≡ s) × (((get_or runs k no_run).range.from ≤ q) × (q < (get_or runs k no_run).range.to))))

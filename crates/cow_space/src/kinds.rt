@@ -22,6 +22,7 @@ use lwc_base::{MOST_PAGES, PageNumber, Range, Right};
 use range_map::{PageState, RangeMap, Segment, SegmentKind, sooner_edge};
 
 /// The first page run that has a page. It looks at each.
+#[inline(never)]
 fn page_run_at(page_runs: &[PageRun], p: PageNumber) -> Option<&PageRun>
     ensures { option_copied result ≡ spec.page_run_at page_runs.now p }
 {
@@ -29,6 +30,7 @@ fn page_run_at(page_runs: &[PageRun], p: PageNumber) -> Option<&PageRun>
 }
 
 /// Where the first page run after a page begins or ends, or the end of all pages. It looks at each.
+#[inline(never)]
 fn page_run_edge(page_runs: &[PageRun], p: PageNumber) -> PageNumber
     requires { p < MOST_PAGES }
     ensures past { p < result }
@@ -45,7 +47,8 @@ fn page_run_edge(page_runs: &[PageRun], p: PageNumber) -> PageNumber
 }
 
 /// How many page runs that rise end at a page or before it, by halving.
-fn ended_by(page_runs: &[PageRun], p: PageNumber) -> usize
+#[inline(never)]
+fn ended_by_halving(page_runs: &[PageRun], p: PageNumber) -> usize
     requires { Rise page_runs.now }
     ensures before { (k : ℕ) (d : PageRun) → k < result → (slice_index_or page_runs.now k d).range.to ≤ p }
     ensures after { (d : PageRun) → result < length page_runs.now
@@ -58,9 +61,43 @@ fn ended_by(page_runs: &[PageRun], p: PageNumber) -> usize
     )
 }
 
-/// The page run of those that rise that has a page, and where the next one begins or this one ends, or the end
-/// of all pages.
-fn rising_run(page_runs: &[PageRun], p: PageNumber) -> (Option<PageRun>, PageNumber)
+/// Whether this many page runs that rise are there, and end at a page or before it.
+#[inline(always)]
+fn have_ended(page_runs: &[PageRun], count: usize, p: PageNumber) -> bool
+    requires { Rise page_runs.now }
+    ensures { result ≡ true → (k : ℕ) (d : PageRun) → k < count
+        → (slice_index_or page_runs.now k d).range.to ≤ p }
+{
+    count == 0 || (count <= page_runs.len() && page_runs[count - 1].range.to <= p)
+}
+
+/// How many page runs that rise end at a page or before it. If at least `near` of them do, those past them are
+/// looked at one by one: a walk from page run to page run knows how many it has passed.
+#[inline(always)]
+fn ended_by(page_runs: &[PageRun], near: usize, p: PageNumber) -> usize
+    requires { Rise page_runs.now }
+    ensures before { (k : ℕ) (d : PageRun) → k < result → (slice_index_or page_runs.now k d).range.to ≤ p }
+    ensures after { (d : PageRun) → result < length page_runs.now
+        → p < (slice_index_or page_runs.now result d).range.to }
+{
+    if !have_ended(page_runs, near, p) {
+        return ended_by_halving(page_runs, p);
+    }
+    let mut count = near;
+    'ended: while count < page_runs.len() && page_runs[count].range.to <= p {
+        count += 1;
+    }
+    count
+}
+
+/// The page run of those that rise that has a page, where the next one begins or this one ends, or the end of
+/// all pages, and how many end by the page. The search begins near the number that is given.
+#[inline(always)]
+fn rising_run(
+    page_runs: &[PageRun],
+    near: usize,
+    p: PageNumber,
+) -> (Option<PageRun>, PageNumber, usize)
     requires rise { Rise page_runs.now }
     requires page { p < MOST_PAGES }
     ensures run { result.0 ≡ spec.page_run_at page_runs.now p }
@@ -70,16 +107,27 @@ fn rising_run(page_runs: &[PageRun], p: PageNumber) -> (Option<PageRun>, PageNum
         → spec.page_run_at page_runs.now q ≡ spec.page_run_at page_runs.now p }
     ensures edge { result.1 < MOST_PAGES → is_edge page_runs.now result.1 ≡ true }
 {
-    match page_runs.get(ended_by(page_runs, p)) {
-        Some(page_run) if p < page_run.range.from => (None, page_run.range.from.min(MOST_PAGES)),
-        Some(page_run) => (Some(*page_run), page_run.range.to.min(MOST_PAGES)),
-        None => (None, MOST_PAGES),
+    let ended = ended_by(page_runs, near, p);
+    match page_runs.get(ended) {
+        Some(page_run) if p < page_run.range.from => (
+            None,
+            page_run.range.from.min(MOST_PAGES),
+            ended,
+        ),
+        Some(page_run) => (Some(*page_run), page_run.range.to.min(MOST_PAGES), ended),
+        None => (None, MOST_PAGES, ended),
     }
 }
 
-/// The first page run that has a page, and where the next one begins or ends, or the end of all pages. Page
-/// runs that rise are searched by halving.
-fn run_from(page_runs: &[PageRun], rise: bool, p: PageNumber) -> (Option<PageRun>, PageNumber)
+/// The first page run that has a page, where the next one begins or ends, or the end of all pages, and where
+/// the next search begins. Page runs that rise are searched from near the number that is given.
+#[inline(always)]
+fn run_from(
+    page_runs: &[PageRun],
+    rise: bool,
+    near: usize,
+    p: PageNumber,
+) -> (Option<PageRun>, PageNumber, usize)
     requires rise { rise ≡ true → Rise page_runs.now }
     requires page { p < MOST_PAGES }
     ensures run { result.0 ≡ spec.page_run_at page_runs.now p }
@@ -90,11 +138,12 @@ fn run_from(page_runs: &[PageRun], rise: bool, p: PageNumber) -> (Option<PageRun
     ensures edge { result.1 < MOST_PAGES → is_edge page_runs.now result.1 ≡ true }
 {
     if rise {
-        rising_run(page_runs, p)
+        rising_run(page_runs, near, p)
     } else {
         (
             page_run_at(page_runs, p).copied(),
             page_run_edge(page_runs, p),
+            near,
         )
     }
 }
@@ -142,12 +191,30 @@ pub(crate) fn rising_parts(page_runs: &[PageRun]) -> Rising
     }
 }
 
-/// The first page run that has a page, and where the next one begins or ends, or the end of all pages.
+/// Where a walk looks for the next page runs: at most how many of each part end by its page. Any numbers do, but
+/// others make it longer.
+#[derive(Clone, Copy)]
+pub(crate) struct Near {
+    first: usize,
+    last: usize,
+}
+
+impl Near {
+    /// Before the first page run of each part.
+    pub(crate) fn start() -> Near {
+        Near { first: 0, last: 0 }
+    }
+}
+
+/// The first page run that has a page, where the next one begins or ends, or the end of all pages, and where
+/// the next search begins.
+#[inline(always)]
 pub(crate) fn found_run(
     page_runs: &[PageRun],
     rising: Rising,
+    near: Near,
     p: PageNumber,
-) -> (Option<PageRun>, PageNumber)
+) -> (Option<PageRun>, PageNumber, Near)
     requires rising { IsSplit rising page_runs.now }
     requires page { p < MOST_PAGES }
     ensures run { result.0 ≡ spec.page_run_at page_runs.now p }
@@ -157,9 +224,9 @@ pub(crate) fn found_run(
         → spec.page_run_at page_runs.now q ≡ spec.page_run_at page_runs.now p }
     ensures edge { result.1 < MOST_PAGES → is_edge page_runs.now result.1 ≡ true }
 {
-    let (first, first_edge) = run_from(&page_runs[..rising.from], rising.first, p);
-    let (last, last_edge) = rising_run(&page_runs[rising.from..], p);
-    (first.or(last), first_edge.min(last_edge))
+    let (run, edge, first) = run_from(&page_runs[..rising.from], rising.first, near.first, p);
+    let (other, other_edge, last) = rising_run(&page_runs[rising.from..], near.last, p);
+    (run.or(other), edge.min(other_edge), Near { first, last })
 }
 
 /// Whether ranges have a page.
@@ -212,32 +279,33 @@ fn right_given(right: Option<Right>, read: bool) -> Option<Right>
 
 /// What a page of a place, and all up to a later one, get by page runs and by ranges that may only be read,
 /// as one page run: of their own place where none has them. The later page is where a page run or a range
-/// begins or ends.
+/// begins or ends. Answers too where the next search begins.
 pub(crate) fn stretch_at(
     i: usize,
     page_runs: &[PageRun],
     rising: Rising,
+    near: Near,
     reads: &[Range],
     p: PageNumber,
-) -> PageRun
+) -> (PageRun, Near)
     requires rising { IsSplit rising page_runs.now }
     requires page { p < MOST_PAGES }
-    ensures from { result.range.from ≡ p }
-    ensures past { p < result.range.to }
-    ensures within { result.range.to ≤ MOST_PAGES }
+    ensures from { result.0.range.from ≡ p }
+    ensures past { p < result.0.range.to }
+    ensures within { result.0.range.to ≤ MOST_PAGES }
     ensures origin { (count : ℕ) → i < count → All (IsPageRun count i) page_runs.now
-        → (j : ℕ) → result.origin ≡ CopyOf j → j < count }
-    ensures states { (cells : List Place) (rights : List (ℕ → Right)) (q : ℕ) → p ≤ q → q < result.range.to
-        → changed_states cells rights i page_runs.now reads.now q ≡ given_states cells rights result q }
-    ensures edge { result.range.to < MOST_PAGES
-        → (is_edge page_runs.now result.range.to ≡ true)
-        ⊎ (spec.is_range_edge reads.now result.range.to ≡ true) }
+        → (j : ℕ) → result.0.origin ≡ CopyOf j → j < count }
+    ensures states { (cells : List Place) (rights : List (ℕ → Right)) (q : ℕ) → p ≤ q → q < result.0.range.to
+        → changed_states cells rights i page_runs.now reads.now q ≡ given_states cells rights result.0 q }
+    ensures edge { result.0.range.to < MOST_PAGES
+        → (is_edge page_runs.now result.0.range.to ≡ true)
+        ⊎ (spec.is_range_edge reads.now result.0.range.to ≡ true) }
 {
-    let (found, edge) = found_run(page_runs, rising, p);
+    let (found, edge, next) = found_run(page_runs, rising, near, p);
     let to = range_edge(reads, p, edge);
     let range = Range { from: p, to };
     let read = have_page(reads, p);
-    match found {
+    let stretch = match found {
         Some(page_run) => PageRun {
             range,
             origin: page_run.origin,
@@ -248,7 +316,8 @@ pub(crate) fn stretch_at(
             origin: Origin::CopyOf(i),
             right: right_given(None, read),
         },
-    }
+    };
+    (stretch, next)
 }
 
 /// The state of new pages of a kind: that of the right, or `Write` where none is given.
@@ -345,11 +414,13 @@ impl PageCells {
         ensures past { (p : ℕ) → MOST_PAGES ≤ p → state_at result p ≡ None }
     {
         let rising = rising_parts(page_runs);
+        let mut near = Near::start();
         let mut kinds = RangeMap::empty();
         let mut p: PageNumber = 0;
         'stretches: while p < MOST_PAGES {
-            let stretch = stretch_at(i, page_runs, rising, reads, p);
+            let (stretch, next) = stretch_at(i, page_runs, rising, near, reads, p);
             self.append_given(&mut kinds, &stretch);
+            near = next;
             p = stretch.range.to;
         }
         kinds

@@ -11,7 +11,7 @@ ghost use Rattle.cow_space.specs.Rows.{changed_row, origin_value};
 ghost use Rattle.cow_space.specs.Seen.{cells, frames_of, free_frames, free_nodes, node_steps, pool, rights};
 
 use crate::cells::PageCells;
-use crate::kinds::{found_run, has_own_page, rising_parts, stretch_at};
+use crate::kinds::{Near, found_run, has_own_page, rising_parts, stretch_at};
 use crate::rows::Rows;
 use lwc_base::{MOST_PAGES, Name, PageNumber, Range, Right};
 use range_map::RangeMap;
@@ -106,13 +106,15 @@ fn fill_row(rows: &mut Rows, i: usize, page_runs: &[PageRun])
         → rows_seen.node_steps rows.new ≤ rows_seen.node_steps rows.old + 128 * length page_runs.now }
 {
     let rising = rising_parts(page_runs);
+    let mut near = Near::start();
     let mut p: PageNumber = 0;
     'pieces: while p < MOST_PAGES {
-        let (found, edge) = found_run(page_runs, rising, p);
+        let (found, edge, next) = found_run(page_runs, rising, near, p);
         if let Some(page_run) = found {
             let range = Range { from: p, to: edge };
             fill_range(rows, i, page_run.origin, range);
         }
+        near = next;
         p = edge;
     }
 }
@@ -126,14 +128,16 @@ impl PageCells {
             (changed_states (cells self.now) (rights self.now) i page_runs.now reads.now) }
     {
         let rising = rising_parts(page_runs);
+        let mut near = Near::start();
         let mut count = 0u32;
         let mut last = None;
         let mut p: PageNumber = 0;
         'stretches: while p < MOST_PAGES {
-            let stretch = stretch_at(i, page_runs, rising, reads, p);
+            let (stretch, next) = stretch_at(i, page_runs, rising, near, reads, p);
             let (more, end) = self.count_given(&stretch, last);
             count += more;
             last = end;
+            near = next;
             p = stretch.range.to;
         }
         count

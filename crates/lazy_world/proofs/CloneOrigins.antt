@@ -114,14 +114,14 @@ module _ (items : List Item) (pages : ℕ) (spec : IsSpec pages items) (i : ℕ)
   mode_more : mode (take (i + 1) items) (Page q) ≡ option_or (mode (take i items) (Page q)) (cond (names item (Page q)) (Some item.mode) None)
   mode_more = mode_one_more items i d inside (Page q)
 
-  mode_named : names item (Page q) ≡ true → mode (take (i + 1) items) (Page q) ≡ Some item.mode
+  pub mode_named : names item (Page q) ≡ true → mode (take (i + 1) items) (Page q) ≡ Some item.mode
   mode_named here = mode_more ∙ (λ x. option_or (none_before here x) (cond (here x) (Some item.mode) None))
 
-  mode_other : names item (Page q) ≡ false → mode (take (i + 1) items) (Page q) ≡ mode (take i items) (Page q)
+  pub mode_other : names item (Page q) ≡ false → mode (take (i + 1) items) (Page q) ≡ mode (take i items) (Page q)
   mode_other off = mode_more ∙ ap (λ b. option_or (mode (take i items) (Page q)) (cond b (Some item.mode) None)) off ∙ or_none (mode (take i items) (Page q))
 
   -- the item that names a page gives it its mode
-  mode_here : names item (Page q) ≡ true → mode items (Page q) ≡ Some item.mode
+  pub mode_here : names item (Page q) ≡ true → mode items (Page q) ≡ Some item.mode
   mode_here here =
       ap (λ xs. mode xs (Page q)) (sym (take-append-drop (i + 1) items))
       ∙ mode_append (take (i + 1) items) (drop (i + 1) items) (Page q)

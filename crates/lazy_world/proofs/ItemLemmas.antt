@@ -5,7 +5,7 @@ use Rattle.std.specs.Int.Bits.{bit_or}
 use Rattle.std.specs.Option.{option_or}
 use Rattle.std.proofs.lemmas.Bool.{false≢true}
 use Rattle.lwc_base.specs.declared.cell.Cell.{Cell}
-use Rattle.lwc_base.specs.declared.cell.Cell.TheVariants.{Own}
+use Rattle.lwc_base.specs.declared.cell.Cell.TheVariants.{Common, Own}
 use Rattle.lwc_base.specs.declared.descriptor.Descriptor.TheVariants.{Empty}
 use Rattle.lwc_base.specs.declared.item.Item.{Item}
 use Rattle.lwc_base.specs.declared.item.Mode.{Mode}
@@ -13,7 +13,7 @@ use Rattle.lwc_base.specs.declared.item.Mode.TheVariants.{Copy, Share, Unmap, Co
 use Rattle.lwc_base.specs.Capabilities.{has_bit}
 use Rattle.lwc_base.specs.Keys.{ValueOf}
 use Rattle.lwc_base.specs.Modes.{mode, names, same_kind}
-use Rattle.lwc_base.specs.Sharing.{needs_group, shared_cell}
+use Rattle.lwc_base.specs.Sharing.{needs_group}
 use Rattle.lwc_base.specs.World.{World}
 use Rattle.lwc_types.specs.declared.key.Key.{Key}
 use Rattle.lwc_types.specs.declared.key.Key.TheVariants.{Slot}
@@ -75,16 +75,9 @@ settled_by items k row told = at (moves items k row) refl
 pub none-shared : (w : World) (c : Name) (items : List Item) → ((k : Key) → mode items k ≢ Some Share) → needs_group w c items ≡ false
 none-shared w c items none = not_needed w c items (λ k inside is. absurd (none k (share_mode (mode items k) (sym (as_mode items k) ∙ is))))
 
-unshared : (g : Name) (m : Option Mode) → m ≢ Some Share → (k : Key) (cell : Cell (ValueOf k)) → shared_cell g (unwrap_or m Copy) k cell ≡ cell
-unshared g None never k cell = refl
-unshared g (Some Copy) never k cell = refl
-unshared g (Some Share) never k cell = absurd (never refl)
-unshared g (Some Unmap) never k cell = refl
-unshared g (Some CopyRead) never k cell = refl
-
--- and a context is marked as it is
-pub unshared-same : (w : World) (g : Name) (items : List Item) (row old : Row) → ((k : Key) → mode items k ≢ Some Share) → transferred_row w (Mark g) items row old ≡ row
-unshared-same w g items row old none = λ e k. unshared g (mode items k) (none k) k (row k) e
+-- a context is marked as it is where none of its values moves
+pub unmoved-same : (w : World) (g : Name) (items : List Item) (row old : Row) → ((k : Key) → moves items k row ≡ false) → transferred_row w (Mark g) items row old ≡ row
+unmoved-same w g items row old none = λ e k. ap (λ b. cond b (Common g) (row k)) (none k) e
 
 nothing_transferred : (w : World) (transfer : Transfer) (n : ℕ) → transferred_cell w transfer None (Slot n) (Own Empty) (Own Empty) ≡ Own Empty
 nothing_transferred w (Mark g) n = refl

@@ -22,3 +22,10 @@ moves-own CopyRead k cell is = cc
 
 pub stays : (m : Mode) (k : Key) (cell : Cell (ValueOf k)) → is_moved m k cell ≡ false → m ≡ Share → has_own k cell ≡ false
 stays m k cell is share = ap (λ n. is_moved n k cell) (sym share) ∙ is
+
+-- what is not the context's own stays, whatever its mode
+pub still : (m : Mode) (k : Key) (cell : Cell (ValueOf k)) → has_own k cell ≡ false → is_moved m k cell ≡ false
+still Copy k cell off = refl
+still Share k cell off = off
+still Unmap k cell off = refl
+still CopyRead k cell off = refl

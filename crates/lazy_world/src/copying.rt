@@ -13,7 +13,6 @@ ghost use Rattle.lazy_world.specs.Transfers.{transferred_rights, transferred_row
 ghost use Rattle.lazy_world.specs.Seen.{count, frame_count, free_frames, free_nodes, node_steps, pool, rights, rows};
 
 use crate::places::Places;
-use crate::sharing::shares_nothing;
 use crate::transfer::Transfer;
 use crate::world::PlacedWorld;
 use cow_space::Origin;
@@ -101,8 +100,8 @@ impl Places {
 impl PlacedWorld {
     ghost use Rattle.lazy_world.specs.Worlds.{seen};
 
-    /// Whether a transfer gives all that a place has, as it is there: nothing is shared where it marks what
-    /// is, or no item names a key, and what is copied is the place's own.
+    /// Whether a transfer gives all that a place has, as it is there: it makes a clone, no item names a key, and
+    /// what is copied is the place's own.
     pub(crate) fn gives_same(&self, transfer: Transfer, spec: &Items, from: usize) -> bool
         requires { from < count self.now.places }
         ensures row { result ≡ true → (old : Row)
@@ -113,9 +112,8 @@ impl PlacedWorld {
             old ≡ rights self.now.places from }
     {
         match transfer {
-            Transfer::Mark(_) => shares_nothing(spec),
             Transfer::Clone(_) => spec.items().is_empty() && self.places.is_all_own(from),
-            Transfer::Move | Transfer::Overlay(_) => false,
+            Transfer::Mark(_) | Transfer::Move | Transfer::Overlay(_) => false,
         }
     }
 

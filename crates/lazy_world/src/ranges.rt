@@ -24,46 +24,16 @@ use lwc_base::{
     Cell, Item, Items, Key, Kind, MOST_PAGE_RUNS, MOST_PAGES, Mode, PageNumber, Range, Right,
     SlotNumber,
 };
-use range_map::{PageState, SegmentKind, sooner_edge};
+use range_map::{PageState, SegmentKind};
 use res_spec::mode_of;
 
-/// Where an item of pages first begins or ends past a page, if that is before the edge.
-fn item_edge(item: &Item, p: PageNumber, edge: PageNumber) -> PageNumber
-    requires item { IsItem MOST_PAGES item.now }
-    requires page { p < edge }
-    ensures past { p < result }
-    ensures within { result ≤ edge }
-    ensures alike { (q : ℕ) → p ≤ q → q < result → names item.now (Page q) ≡ names item.now (Page p) }
-    ensures one { result < edge → (result ≡ item.now.from) ⊎ (result ≡ item.now.to) }
-{
-    match item.pages() {
-        Some(range) => sooner_edge(range.from, range.to, p, edge),
-        None => edge,
-    }
-}
-
-/// Where an item of pages first begins or ends past a page, if that is before the edge; else the edge. Up to
-/// there the pages have the mode of this one.
-pub(crate) fn mode_edge(spec: &Items, p: PageNumber, edge: PageNumber) -> PageNumber
-    requires { p < edge }
-    ensures past { p < result }
-    ensures within { result ≤ edge }
-    ensures alike { (q : ℕ) → p ≤ q → q < result → mode spec.now (Page q) ≡ mode spec.now (Page p) }
-    ensures edge { result < edge
-        → list_any (λ item. (item.from == result) || (item.to == result)) spec.now ≡ true }
-{
-    let mut next = edge;
-    for item in spec.items() {
-        next = item_edge(item, p, next);
-    }
-    next
-}
-
-/// The mode of the pages from one on, up to a later one.
+/// The mode of the pages from one on, up to a later one, and the number of the item that is looked at first for
+/// the next pages. Any number does; mostly items are in the order of their pages.
 #[derive(Clone, Copy)]
 pub(crate) struct ModeRun {
     pub(crate) mode: Option<Mode>,
     pub(crate) to: PageNumber,
+    pub(crate) near: usize,
 }
 
 impl ModeRun {
@@ -71,23 +41,73 @@ impl ModeRun {
     pub(crate) fn empty() -> ModeRun
         ensures { (items : List Item) → IsModeRun items 0 result }
     {
-        ModeRun { mode: None, to: 0 }
+        ModeRun {
+            mode: None,
+            to: 0,
+            near: 0,
+        }
+    }
+
+    /// The mode of a page and of all up to the end of the item of a number, if that has the page.
+    fn in_item(items: &Items, near: usize, p: PageNumber) -> Option<ModeRun>
+        ensures past { IfSome result (λ run. p < run.to) }
+        ensures run { IfSome result (λ run. IsModeRun items.now p run) }
+    {
+        let item = items.items().get(near)?;
+        let range = item.pages()?;
+        if p < range.from || range.to <= p {
+            return None;
+        }
+        Some(ModeRun {
+            mode: Some(item.mode),
+            to: range.to,
+            near: near + 1,
+        })
+    }
+
+    /// The mode of a page and of all up to a later one, where an item begins or ends: that of the item that has
+    /// the page, or none up to the next item. It looks at each item.
+    fn at(items: &Items, near: usize, p: PageNumber) -> ModeRun
+        requires page { p < MOST_PAGES }
+        ensures past { p < result.to }
+        ensures run { IsModeRun items.now p result }
+    {
+        let mut to = MOST_PAGES;
+        for item in items.items() {
+            let Some(range) = item.pages() else {
+                continue;
+            };
+            if p < range.from {
+                to = to.min(range.from);
+            } else if p < range.to {
+                return ModeRun {
+                    mode: Some(item.mode),
+                    to: range.to,
+                    near,
+                };
+            }
+        }
+        ModeRun {
+            mode: None,
+            to,
+            near,
+        }
     }
 
     /// The mode of a page and of all up to a later one, where an item begins or ends. The items are looked
     /// through once for all pages of one mode.
-    pub(crate) fn next(self, spec: &Items, p: PageNumber) -> ModeRun
+    pub(crate) fn next(self, items: &Items, p: PageNumber) -> ModeRun
         requires page { p < MOST_PAGES }
-        requires known { IsModeRun spec.now p self }
+        requires known { IsModeRun items.now p self }
         ensures past { p < result.to }
-        ensures run { IsModeRun spec.now p result }
+        ensures run { IsModeRun items.now p result }
     {
         if p < self.to {
             return self;
         }
-        ModeRun {
-            mode: mode_of(spec, Key::Page(p)),
-            to: mode_edge(spec, p, MOST_PAGES),
+        match ModeRun::in_item(items, self.near, p) {
+            Some(run) => run,
+            None => ModeRun::at(items, self.near, p),
         }
     }
 }

@@ -54,6 +54,7 @@ impl PlacedWorld {
     ghost use Rattle.world_face.specs.Calls.{IsLive};
     ghost use Rattle.lazy_world.specs.Followed.{IsOfContexts, followed};
     ghost use Rattle.lazy_world.specs.Transfers.{IsFor};
+    ghost use Rattle.lazy_world.specs.declared.transfer.Transfer.TheVariants.{Mark};
     ghost use Rattle.lazy_world.specs.Worlds.{parts, right_transferred, transferred, seen};
 
     /// The name of the next group of job 0, which no cell has.
@@ -109,6 +110,21 @@ impl PlacedWorld {
         }
     }
 
+    /// The number of ranges of a context once its own values of mode share are common of a group. Mostly none
+    /// is, and the ranges are as they were.
+    fn ranges_left(&self, c: Name, items: &Items) -> u32
+        requires live { IsLive (seen self.now) c }
+        requires within { IsSpec (seen self.now).size.pages items.now }
+        ensures { result
+            ≡ ranges_of (followed (seen self.now) (Mark (next_group (seen self.now) 0)) items.now c c) c }
+    {
+        if self.needs_group(c, items) {
+            self.ranges_after(Transfer::Mark(self.unnamed()), items, c, c)
+        } else {
+            self.places.range_count(self.place(c))
+        }
+    }
+
     /// The numbers of ranges that the context and the new one would have after `clone_context`, in this
     /// order. They are the same for every job.
     pub(crate) fn ranges_after_clone(&self, c: Name, spec: &Items) -> (u32, u32)
@@ -116,11 +132,9 @@ impl PlacedWorld {
         requires within { IsSpec (seen self.now).size.pages spec.now }
         ensures value { (job : ℕ) → result ≡ ranges_after_clone (seen self.now) c job spec.now }
     {
-        let g = self.unnamed();
-        let left = self.ranges_after(Transfer::Mark(g), spec, c, c);
         // The new context's cells do not depend on what is at its place, so that any place will do.
-        let made = self.ranges_after(Transfer::Clone(g), spec, c, c);
-        (left, made)
+        let made = self.ranges_after(Transfer::Clone(self.unnamed()), spec, c, c);
+        (self.ranges_left(c, spec), made)
     }
 
     /// The numbers of ranges that the contexts `from` and `to` would have after `overlay`, in this order.
@@ -131,14 +145,10 @@ impl PlacedWorld {
         requires within { IsSpec (seen self.now).size.pages spec.now }
         ensures value { (job : ℕ) → result ≡ ranges_after_overlay (seen self.now) to from job spec.now }
     {
-        let g = self.unnamed();
-        let taken = self.ranges_after(Transfer::Overlay(g), spec, from, to);
+        let taken = self.ranges_after(Transfer::Overlay(self.unnamed()), spec, from, to);
         if to == from {
             return (taken, taken);
         }
-        (
-            self.ranges_after(Transfer::Mark(g), spec, from, from),
-            taken,
-        )
+        (self.ranges_left(from, spec), taken)
     }
 }

@@ -1,6 +1,11 @@
 ghost use Rattle.std.specs.Prelude.{◌≡◌, ◌≢◌, ◌<◌, ◌≤◌, ◌+◌, ◌*◌, ◌^◌, ℕ, Some, false, true};
 ghost use Rattle.lwc_base.specs.declared.item.Mode.TheVariants.{Share};
+ghost use Rattle.lwc_base.specs.declared.cell.Cell.{Cell};
+ghost use Rattle.lwc_base.specs.Keys.{ValueOf};
 ghost use Rattle.lwc_base.specs.Modes.{IsItem, IsSpec, mode, names};
+ghost use Rattle.lwc_base.specs.Sharing.{has_own};
+ghost use Rattle.lwc_types.specs.declared.right.Right.{Right};
+ghost use Rattle.range_map.specs.Kinds.{kind_of, state_of};
 ghost use Rattle.lwc_types.specs.declared.key.TheConstants.{SLOTS};
 ghost use Rattle.lwc_types.specs.declared.key.Key.{Key};
 ghost use Rattle.lwc_types.specs.declared.key.Key.TheVariants.{Page, Slot, Cred};
@@ -8,21 +13,23 @@ ghost use Rattle.lwc_types.specs.declared.limits.TheConstants.{MOST_PAGES, MOST_
 ghost use Rattle.lazy_world.specs.Transfers.{moves};
 
 use crate::counts::Counts;
-use crate::ranges::{mode_edge, names_slots};
+use crate::ranges::names_slots;
 use crate::transfer::Transfer;
 use crate::world::PlacedWorld;
-use lwc_base::{Cell, Item, Items, Key, MOST_PAGES, Mode, NOBODY, Name, PageNumber, Range, SLOTS};
+use lwc_base::{Cell, Item, Items, Key, Mode, NOBODY, Name, PageNumber, Range, SLOTS};
+use range_map::{PageState, SegmentKind};
 use res_spec::mode_of;
 
 /// Whether an item shares what it names.
 fn is_share(item: &Item) -> bool
-    ensures { result ≡ false → item.now.mode ≢ Share }
+    ensures is { result ≡ true → item.now.mode ≡ Share }
+    ensures other { result ≡ false → item.now.mode ≢ Share }
 {
     item.mode == Mode::Share
 }
 
 /// Whether no item shares what it names, so that no value moves.
-pub(crate) fn shares_nothing(spec: &Items) -> bool
+fn shares_nothing(spec: &Items) -> bool
     ensures { result ≡ true → (k : Key) → mode spec.now k ≢ Some Share }
 {
     for item in spec.items() {
@@ -31,6 +38,20 @@ pub(crate) fn shares_nothing(spec: &Items) -> bool
         }
     }
     true
+}
+
+/// Whether a state is one of a page that is the context's own.
+fn is_of_own(state: Option<PageState>) -> bool
+    ensures { (p : ℕ) (cell : Cell (ValueOf (Page p))) (right : Right)
+        → state ≡ state_of (kind_of cell) right → result ≡ has_own (Page p) cell }
+{
+    match state {
+        Some(state) => match state.kind {
+            SegmentKind::Own => true,
+            SegmentKind::Common(_) => false,
+        },
+        None => false,
+    }
 }
 
 impl PlacedWorld {
@@ -50,39 +71,42 @@ impl PlacedWorld {
     ghost use Rattle.lazy_world.specs.Seen.{KeepsStore, count, node_steps, rows};
     ghost use Rattle.lazy_world.specs.Worlds.{parts, seen};
 
-    /// Whether a page of a range moves that a place has.
-    fn moves_between(&self, i: usize, spec: &Items, range: Range) -> bool
+    /// Whether a page of a range is a place's own.
+    fn has_own_between(&self, i: usize, range: Range) -> bool
         requires place { i < count self.now.places }
         requires order { range.from ≤ range.to }
         requires inside { range.to ≤ MOST_PAGES }
-        ensures some { result ≡ true → (p : ℕ) × (moves spec.now (Page p) (rows self.now.places i) ≡ true) }
+        ensures some { result ≡ true → (p : ℕ) × (range.from ≤ p) × (p < range.to)
+            × (has_own (Page p) (rows self.now.places i (Page p)) ≡ true) }
         ensures none { result ≡ false → (p : ℕ) → range.from ≤ p → p < range.to
-            → moves spec.now (Page p) (rows self.now.places i) ≡ false }
+            → has_own (Page p) (rows self.now.places i (Page p)) ≡ false }
     {
         let mut p: PageNumber = range.from;
         'pages: while p < range.to {
-            let (found, edge) = self.found_page(i, p);
-            if found.moves(mode_of(spec, Key::Page(p))) {
+            let (state, edge) = self.places.run_at(i, p);
+            if is_of_own(state) {
                 return true;
             }
-            p = mode_edge(spec, p, edge);
+            p = edge;
         }
         false
     }
 
-    /// Whether a page moves that an item names. No page does of one that shares nothing.
-    fn moves_page_of(&self, i: usize, spec: &Items, item: &Item) -> bool
+    /// Whether an item shares a page that is a place's own.
+    fn shares_own_page(&self, i: usize, item: &Item) -> bool
         requires place { i < count self.now.places }
         requires item { IsItem MOST_PAGES item.now }
-        ensures some { result ≡ true → (p : ℕ) × (moves spec.now (Page p) (rows self.now.places i) ≡ true) }
+        ensures share { result ≡ true → item.now.mode ≡ Share }
+        ensures some { result ≡ true → (p : ℕ) × (names item.now (Page p) ≡ true)
+            × (has_own (Page p) (rows self.now.places i (Page p)) ≡ true) }
         ensures none { result ≡ false → (p : ℕ) → names item.now (Page p) ≡ true → item.now.mode ≡ Share
-            → moves spec.now (Page p) (rows self.now.places i) ≡ false }
+            → has_own (Page p) (rows self.now.places i (Page p)) ≡ false }
     {
         if !is_share(item) {
             return false;
         }
         match item.pages() {
-            Some(range) => self.moves_between(i, spec, range),
+            Some(range) => self.has_own_between(i, range),
             None => false,
         }
     }
@@ -95,7 +119,7 @@ impl PlacedWorld {
             → moves spec.now (Page p) (rows self.now.places i) ≡ false }
     {
         for item in spec.items() {
-            if self.moves_page_of(i, spec, item) {
+            if self.shares_own_page(i, item) {
                 return true;
             }
         }

@@ -10,7 +10,7 @@ returns-clause-run c =
     let runs = c.args.page_runs.now in
     let from = c.args.rising.from in
     c.or.ensures
-    ∙ (λ e. option_or (c.run_from-first.ensures.run e) ((c.rising_run-last.ensures.run ∙ ap (λ xs. page_run_at xs c.args.p) (last_runs from runs)) e))
+    ∙ (λ e. option_or (c.run_from-run.ensures.run e) ((c.rising_run-other.ensures.run ∙ ap (λ xs. page_run_at xs c.args.p) (last_runs from runs)) e))
     ∙ sym (found_in from c.args.p runs)
 
 pub returns-clause-alike : goal.returns-clause-alike
@@ -18,8 +18,8 @@ returns-clause-alike c q low high =
     let runs = c.args.page_runs.now in
     let from = c.args.rising.from in
     let last = last_runs from runs in
-    both_alike from c.args.p q runs (c.run_from-first.ensures.alike q low (omega (arith, high)))
-    (sym (ap (λ xs. page_run_at xs q) last) ∙ c.rising_run-last.ensures.alike q low (omega (arith, high)) ∙ ap (λ xs. page_run_at xs c.args.p) last)
+    both_alike from c.args.p q runs (c.run_from-run.ensures.alike q low (omega (arith, high)))
+    (sym (ap (λ xs. page_run_at xs q) last) ∙ c.rising_run-other.ensures.alike q low (omega (arith, high)) ∙ ap (λ xs. page_run_at xs c.args.p) last)
 
 pub returns-clause-edge : goal.returns-clause-edge
 returns-clause-edge c early =
@@ -27,10 +27,10 @@ returns-clause-edge c early =
     let from = c.args.rising.from in
     ⊎_elim
     (λ low.
-    let is : c.min.result ≡ c.run_from-first.result.1 = omega (arith, c.min.ensures, low) in
-    edge_first from c.min.result runs (subst (λ e. is_edge (take from runs) e ≡ true) (sym is) (c.run_from-first.ensures.edge (omega (arith, early, is)))))
+    let is : c.min.result ≡ c.run_from-run.result.1 = omega (arith, c.min.ensures, low) in
+    edge_first from c.min.result runs (subst (λ e. is_edge (take from runs) e ≡ true) (sym is) (c.run_from-run.ensures.edge (omega (arith, early, is)))))
     (λ high.
-    let is : c.min.result ≡ c.rising_run-last.result.1 = omega (arith, c.min.ensures, high) in
+    let is : c.min.result ≡ c.rising_run-other.result.1 = omega (arith, c.min.ensures, high) in
     edge_last from c.min.result runs
-    (subst (λ e. is_edge (drop from runs) e ≡ true) (sym is) (subst (λ xs. is_edge xs c.rising_run-last.result.1 ≡ true) (last_runs from runs) (c.rising_run-last.ensures.edge (omega (arith, early, is))))))
-    (cases_lt c.run_from-first.result.1 c.rising_run-last.result.1)
+    (subst (λ e. is_edge (drop from runs) e ≡ true) (sym is) (subst (λ xs. is_edge xs c.rising_run-other.result.1 ≡ true) (last_runs from runs) (c.rising_run-other.ensures.edge (omega (arith, early, is))))))
+    (cases_lt c.run_from-run.result.1 c.rising_run-other.result.1)

@@ -11,7 +11,7 @@ loop-item-init c = record { unshared = λ k is. cc }
 
 pub loop-item-preserved : goal.loop-item-preserved
 loop-item-preserved c = record {
-  unshared = λ k. still_unshared c.items-item-items.result.now c.loop-item.item-index _ c.loop-item-test.true k (c.is_share.ensures c.if-is_share.false) (c.loop-item.invariant.unshared k);
+  unshared = λ k. still_unshared c.items-item-items.result.now c.loop-item.item-index _ c.loop-item-test.true k (c.is_share.ensures.other c.if-is_share.false) (c.loop-item.invariant.unshared k);
 }
 
 pub returns : goal.returns

@@ -2,15 +2,8 @@ use Rattle.std.proofs.Common.{◌∙◌}
 use Rattle.lazy_world.specs.Transfers.{transferred_rights, transferred_row}
 use Rattle.lazy_world.specs.Seen.{rights, rows}
 use Rattle.lazy_world.specs.Worlds.{parts, seen}
-use Rattle.lazy_world.proofs.CopyLemmas.{all-own, cloned-rights, cloned-same, marked-rights, no-items}
-use Rattle.lazy_world.proofs.ItemLemmas.{unshared-same}
+use Rattle.lazy_world.proofs.CopyLemmas.{all-own, cloned-rights, cloned-same, no-items}
 use Rattle.lazy_world.proofs.world.PlacedWorld.gives_same.Goals as goal
-
-pub returns-in-Mark-clause-row : goal.returns-in-Mark-clause-row
-returns-in-Mark-clause-row c nothing old =
-    let w = c.args.self.now in
-    (λ e. transferred_row (seen w) (c.in-Mark.is e) c.args.spec.now (rows w.places c.args.from) old)
-    ∙ unshared-same (seen w) c.in-Mark.field-0 c.args.spec.now (rows w.places c.args.from) old (c.shares_nothing.ensures nothing)
 
 pub returns-then-is_empty-clause-row : goal.returns-then-is_empty-clause-row
 unfolding parts
@@ -21,12 +14,6 @@ returns-then-is_empty-clause-row c here old =
     (λ e. transferred_row (seen w) (c.in-Clone.is e) (none e) (rows w.places c.args.from) old)
     ∙ cloned-same (seen w) c.in-Clone.field-0 (rows w.places c.args.from) old
     (all-own w.size.pages (rows w.places c.args.from) w.sound.sizes.size.pages.1 (w.sound.past c.args.from) (own.slots here) (own.uid here) (own.pages here))
-
-pub returns-in-Mark-clause-rights : goal.returns-in-Mark-clause-rights
-returns-in-Mark-clause-rights c _ old =
-    let w = c.args.self.now in
-    (λ e. transferred_rights (c.in-Mark.is e) c.args.spec.now (rows w.places c.args.from) (rights w.places c.args.from) old)
-    ∙ marked-rights c.in-Mark.field-0 c.args.spec.now (rows w.places c.args.from) (rights w.places c.args.from) old
 
 pub returns-then-is_empty-clause-rights : goal.returns-then-is_empty-clause-rights
 returns-then-is_empty-clause-rights c here old =

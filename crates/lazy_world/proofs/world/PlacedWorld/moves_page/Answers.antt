@@ -1,11 +1,17 @@
-use Rattle.std.proofs.Common.{◌≡◌, ◌∙◌, Some, false, subst}
+use Rattle.std.proofs.Common.{◌≡◌, ◌∙◌, List, Some, ap, false, subst, sym}
+use Rattle.std.specs.Prelude.{unwrap_or}
 use Rattle.std.proofs.lemmas.List.{take_all}
-use Rattle.lwc_base.specs.declared.item.Mode.TheVariants.{Share}
-use Rattle.lwc_base.specs.Modes.{mode}
+use Rattle.lwc_base.specs.declared.item.Item.{Item}
+use Rattle.lwc_base.specs.declared.item.Mode.TheVariants.{Copy, Share}
+use Rattle.lwc_base.specs.Modes.{IsSpec, mode}
+use Rattle.lwc_base.specs.Sharing.{is_moved}
 use Rattle.lwc_types.specs.declared.key.Key.TheVariants.{Page}
+use Rattle.lwc_types.specs.declared.limits.TheConstants.{MOST_PAGES}
 use Rattle.lazy_world.specs.Transfers.{moves}
 use Rattle.lazy_world.specs.Seen.{rows}
+use Rattle.lazy_world.proofs.CloneOrigins.{mode_here}
 use Rattle.lazy_world.proofs.ItemLemmas.{one_more_shared, settled_by}
+use Rattle.lazy_world.proofs.MoveLemmas.{still}
 use Rattle.lazy_world.proofs.world.PlacedWorld.moves_page.Goals as goal
 
 pub loop-item-init : goal.loop-item-init
@@ -15,8 +21,21 @@ loop-item-init c = record { none = λ q is. cc }
 pub loop-item-preserved : goal.loop-item-preserved
 loop-item-preserved c = record {
   none = λ q. one_more_shared c.items-item-items.result.now c.loop-item.item-index _ c.loop-item-test.true (Page q) _
-      (c.loop-item.invariant.none q) (c.moves_page_of.ensures.none c.if-moves_page_of.false q);
+      (c.loop-item.invariant.none q)
+      (λ here share. still (unwrap_or (mode c.args.spec.now (Page q)) Copy) (Page q) (rows c.args.self.now.places c.args.i (Page q)) (c.shares_own_page.ensures.none c.if-shares_own_page.false q here share));
 }
+
+pub returns-then-shares_own_page-clause-some : goal.returns-then-shares_own_page-clause-some
+returns-then-shares_own_page-clause-some c = λ _.
+    let items = c.items-item-items in
+    let valid = subst (IsSpec MOST_PAGES) (sym items.ensures.items) items.ensures.valid in
+    let some = c.shares_own_page.ensures.some c.if-shares_own_page.true in
+    let share = c.shares_own_page.ensures.share c.if-shares_own_page.true in (
+      some.0,
+      ap (λ o. is_moved (unwrap_or o Copy) (Page some.0) (rows c.args.self.now.places c.args.i (Page some.0)))
+          (ap (λ (xs : List Item). mode xs (Page some.0)) (sym items.ensures.items) ∙ mode_here items.result.now MOST_PAGES valid c.loop-item.item-index _ c.loop-item-test.true some.0 some.1 ∙ ap Some share)
+          ∙ some.2,
+    )
 
 pub returns-clause-none : goal.returns-clause-none
 returns-clause-none c = λ _ p low.

@@ -3,7 +3,7 @@ use Rattle.lwc_base.specs.Ranges.{ranges_of}
 use Rattle.lwc_types.specs.declared.name.Name.{Name}
 use Rattle.lazy_world.specs.Followed.{followed}
 use Rattle.lazy_world.specs.Worlds.{parts, seen}
-use Rattle.lazy_world.specs.declared.transfer.Transfer.TheVariants.{Mark, Overlay}
+use Rattle.lazy_world.specs.declared.transfer.Transfer.TheVariants.{Overlay}
 use Rattle.lazy_world.proofs.AfterLemmas.{after-apart, after-self}
 use Rattle.lazy_world.proofs.RenameLemmas.{names-differ}
 use Rattle.lazy_world.proofs.world.PlacedWorld.ranges_after_overlay.Goals as goal
@@ -17,7 +17,7 @@ returns-then-eq c =
       value = λ job.
           after-self w c.args.self.now.sound.fresh c.args.spec.now c.requires.within c.args.from c.requires.from job
           c.args.to same c.ranges_after-taken.result
-          (c.ranges_after-taken.ensures ∙ ap (λ (g : Name). ranges_of (followed w (Overlay g) c.args.spec.now c.args.from c.args.to) c.args.to) c.unnamed-g.ensures);
+          (c.ranges_after-taken.ensures ∙ ap (λ (g : Name). ranges_of (followed w (Overlay g) c.args.spec.now c.args.from c.args.to) c.args.to) c.unnamed.ensures);
     }
 
 pub returns : goal.returns
@@ -27,7 +27,6 @@ returns c =
     record {
       value = λ job.
           after-apart w c.args.self.now.sound.fresh c.args.spec.now c.requires.within c.args.from c.requires.from job
-          c.args.to c.requires.to (names-differ c.args.to c.args.from (sym c.eq.ensures ∙ c.if-eq.false)) c.ranges_after.result c.ranges_after-taken.result
-          (c.ranges_after.ensures ∙ ap (λ (g : Name). ranges_of (followed w (Mark g) c.args.spec.now c.args.from c.args.from) c.args.from) c.unnamed-g.ensures)
-          (c.ranges_after-taken.ensures ∙ ap (λ (g : Name). ranges_of (followed w (Overlay g) c.args.spec.now c.args.from c.args.to) c.args.to) c.unnamed-g.ensures);
+          c.args.to c.requires.to (names-differ c.args.to c.args.from (sym c.eq.ensures ∙ c.if-eq.false)) c.ranges_left.result c.ranges_after-taken.result c.ranges_left.ensures
+          (c.ranges_after-taken.ensures ∙ ap (λ (g : Name). ranges_of (followed w (Overlay g) c.args.spec.now c.args.from c.args.to) c.args.to) c.unnamed.ensures);
     }

@@ -1,7 +1,7 @@
 use Rattle.std.proofs.Common.{leb, leb-true, leb-false, arith, rules}
 use Rattle.std.proofs.lemmas.List.Sorted.{IsPartitionPoint-from_clause, IsPartitionedBy-leb}
 use Rattle.cow_space.proofs.RisingRuns.{ends_rise}
-use Rattle.cow_space.proofs.kinds.ended_by.Goals as goal
+use Rattle.cow_space.proofs.kinds.ended_by_halving.Goals as goal
 
 pub returns-clause-before : goal.returns-clause-before
 returns-clause-before c =
