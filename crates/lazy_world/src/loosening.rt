@@ -36,6 +36,16 @@ fn is_among(names: &[Name], c: Name) -> bool
     names.contains(&c)
 }
 
+/// The same. It looks at this place first, since a root mostly stays where it was among the roots.
+fn is_among_at(names: &[Name], place: usize, c: Name) -> bool
+    ensures { result ≡ is_among names.now c }
+{
+    if place < names.len() && names[place] == c {
+        return true;
+    }
+    is_among(names, c)
+}
+
 impl PlacedWorld {
     /// The context that a slot of the context at a place has a descriptor of, if it has one.
     pub(crate) fn linked(&self, i: usize, n: SlotNumber) -> Option<Name>
@@ -182,12 +192,13 @@ impl PlacedWorld {
         self.contexts.place(c).is_some()
     }
 
-    /// Whether a context is near the roots, or not live. Mostly it is near them, so that is looked at first.
-    fn is_settled(&self, roots: &[Name], c: Name) -> bool
+    /// Whether a context is near the roots, or not live. Mostly it is near them, so that is looked at first; and mostly
+    /// it is the root at this place.
+    fn is_settled(&self, roots: &[Name], place: usize, c: Name) -> bool
         requires { All (λ root. IsLive (seen self.now) root) roots.now }
         ensures { result ≡ true → is_live (seen self.now) c ≡ true → Reaches (seen self.now) roots.now c }
     {
-        if is_among(roots, c) {
+        if is_among_at(roots, place, c) {
             return true;
         }
         if self.places.may_name(c) && self.is_next(roots, c) {
@@ -206,7 +217,7 @@ impl PlacedWorld {
         let mut loose = None;
         for k in 0..names.len() {
             let c = names[k];
-            if loose == Some(c) || self.is_settled(roots, c) {
+            if loose == Some(c) || self.is_settled(roots, k, c) {
                 continue;
             }
             if loose.is_some() || !self.is_live(c) || !self.is_loose(roots, c) {
