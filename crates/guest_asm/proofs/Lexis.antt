@@ -78,11 +78,11 @@ starts_by : (b : ℕ) (bs : List ℕ) (t : Bool) → is_separator b ≡ t → pr
 starts_by b bs true e later = let k : 1 + prefix_len is_separator bs ≡ suc (prefix_len is_separator bs) = omega arith in rw k later
 starts_by b bs false e later = rw e refl
 
-starts : (text : List ℕ) → prefix_len is_separator (from_first_word text) ≡ 0
+pub starts : (text : List ℕ) → prefix_len is_separator (from_first_word text) ≡ 0
 starts [] = refl
 starts (b ∷ bs) = starts_by b bs (is_separator b) refl (starts bs)
 
-no_separator : (t : Bool) (n : ℕ) → cond t (1 + n) 0 ≡ 0 → t ≡ false
+pub no_separator : (t : Bool) (n : ℕ) → cond t (1 + n) 0 ≡ 0 → t ≡ false
 no_separator true n e = absurd (omega arith)
 no_separator false n e = refl
 

@@ -8,3 +8,4 @@ pub mod Steps
 pub mod Labels
 pub mod Writes
 pub mod Lengths
+pub mod Fronts

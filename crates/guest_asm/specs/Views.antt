@@ -1,5 +1,5 @@
 -- What the values that borrow from a source stand for.
-use Rattle.std.specs.Prelude.{◌≡◌, ◌==◌, ◌||◌, ℕ, Bool, List, [], ◌∷◌, map, Option, Some, None, Result, Ok, Err}
+use Rattle.std.specs.Prelude.{◌≡◌, ◌==◌, ◌||◌, ℕ, ◌+◌, Bool, List, [], ◌∷◌, map, Option, Some, None, Result, Ok, Err}
 use Rattle.std.specs.Option.{option_map}
 use Rattle.std.specs.HashMap as hash
 use Rattle.std.specs.Str.{bytes_eq}
@@ -11,9 +11,10 @@ use Rattle.guest_asm.specs.declared.operand.Immediate.TheVariants as immediates
 use Rattle.guest_asm.specs.declared.statement.Statement.{Statement}
 use Rattle.guest_asm.specs.declared.statement.Statement.TheVariants as statements
 use Rattle.guest_asm.specs.declared.statement.Line.{Line}
+use Rattle.guest_asm.specs.declared.name.Name.{Name}
 use Rattle.guest_asm.specs.declared.source.Use.{Use}
 use Rattle.guest_asm.specs.declared.source.Source.{Source}
-use Rattle.guest_asm.specs.Lexis.{is_plain}
+use Rattle.guest_asm.specs.Lexis.{is_plain, is_separator}
 use Rattle.guest_asm.specs.Statements as said
 use Rattle.guest_asm.specs.Sources as source
 use Rattle.guest_asm.specs.Drafts as draft
@@ -27,9 +28,21 @@ is_clean b = is_plain b || b == 0x0a
 abbrev pub ends_text : ℕ → Bool
 ends_text b = b == 0x0a || b == 0x3b
 
+-- whether a byte ends a word or a label
+abbrev pub ends_part : ℕ → Bool
+ends_part b = is_separator b || b == 0x3a
+
+-- the name of a register of one digit
+abbrev pub short_name : ℕ → List ℕ
+short_name n = 0x72 ∷ (0x30 + n) ∷ []
+
 -- a borrowed text, as its bytes
 abbrev pub bytes_in : Bor (List ℕ) → List ℕ
 bytes_in text = text.now
+
+-- the bytes of a name
+abbrev pub name_in : Name → List ℕ
+name_in name = name.bytes.now
 
 -- an immediate
 abbrev pub immediate_in : Immediate → said.Immediate
@@ -60,8 +73,8 @@ abbrev pub use_in : Use → source.Use
 use_in u = record { at = u.at; name = u.name.now }
 
 -- what a map of labels has at a name
-abbrev pub label_at : {S : Type 0} → hash.HashMap (Bor (List ℕ)) ℕ S → List ℕ → Option ℕ
-label_at labels name = hash.get_by (λ k. bytes_eq name k.now) labels
+abbrev pub label_at : {S : Type 0} → hash.HashMap Name ℕ S → List ℕ → Option ℕ
+label_at labels name = hash.get_by (λ k. bytes_eq name (name_in k)) labels
 
 -- what lines have said
 abbrev pub source_in : Source → source.Source

@@ -11,6 +11,7 @@ ghost use Rattle.guest_asm.specs.Drafts as spec;
 ghost use Rattle.guest_asm.specs.Views.{draft_in, immediate_in, label_at, source_in};
 
 use crate::error::{SourceError, SourceRule};
+use crate::name::Name;
 use crate::operand::Immediate;
 use crate::parts::{FileDraft, PageDraft, SlotDraft};
 use crate::source::Source;
@@ -26,7 +27,7 @@ pub(crate) fn check_labels(source: &Source<'_>) -> Result<(), SourceError>
     ensures { Answers (λ _. draft_in source.now) result (spec.resolved (source_in source.now)) }
 {
     for label in source.uses.iter() {
-        if !source.labels.contains_key(&label.name) {
+        if !source.labels.contains_key(&Name { bytes: label.name }) {
             return Err(ReadError::Refused {
                 rule: SourceRule::BadLabel,
                 at: label.at,
@@ -90,12 +91,12 @@ fn files_length(files: &[FileDraft]) -> u128
 }
 
 /// The number that an immediate stands for; 0 for a label that is not defined.
-fn value_of<'a>(labels: &HashMap<&'a [u8], u32>, imm: &Immediate<'a>) -> u32
+fn value_of<'a>(labels: &HashMap<Name<'a>, u32>, imm: &Immediate<'a>) -> u32
     ensures { result ≡ spec.value_of (label_at labels.now) (immediate_in imm.now) }
 {
     match imm {
         Immediate::Value(value) => *value,
-        Immediate::Label(name) => labels.get(name).copied().unwrap_or(0),
+        Immediate::Label(name) => labels.get(&Name { bytes: *name }).copied().unwrap_or(0),
     }
 }
 

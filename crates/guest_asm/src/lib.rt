@@ -5,6 +5,7 @@ mod assembly;
 mod draft;
 mod error;
 mod mnemonics;
+mod name;
 mod numbers;
 mod operand;
 mod parts;

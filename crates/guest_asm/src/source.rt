@@ -11,6 +11,7 @@ ghost use Rattle.lwc_types.specs.Outcomes.{Answers};
 ghost use Rattle.lwc_types.specs.declared.reading.ReadError.TheVariants.{OutOfMemory};
 
 use crate::error::{SourceError, SourceRule};
+use crate::name::Name;
 use crate::operand::Immediate;
 use crate::parts::{FileDraft, PageDraft, SlotDraft};
 use crate::statement::{Statement, read_line};
@@ -32,7 +33,7 @@ pub(crate) struct Use<'a> {
 /// What lines have said.
 #[derive(Drop)]
 pub(crate) struct Source<'a> {
-    pub(crate) labels: HashMap<&'a [u8], u32>,
+    pub(crate) labels: HashMap<Name<'a>, u32>,
     pub(crate) uses: Vec<Use<'a>>,
     pub(crate) uid: Option<u32>,
     pub(crate) form: Option<Form>,
@@ -110,7 +111,11 @@ impl<'a> Source<'a> {
         let Some(name) = label else {
             return Ok(());
         };
-        if self.labels.insert(name, self.text.len() as u32)?.is_some() {
+        if self
+            .labels
+            .insert(Name { bytes: name }, self.text.len() as u32)?
+            .is_some()
+        {
             return Err(ReadError::Refused {
                 rule: SourceRule::BadLabel,
                 at,

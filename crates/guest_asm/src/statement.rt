@@ -1,10 +1,12 @@
 //! What a line says.
 
-ghost use Rattle.std.specs.Prelude.{◌≡◌, ◌==◌, ◌+◌, length, slice_index, IfOk, true};
+ghost use Rattle.std.specs.Prelude.{◌≡◌, ◌≢◌, ◌==◌, ◌+◌, ℕ, List, length, slice_index, IfOk, Ok, Some, true};
 ghost use Rattle.std.specs.List.{list_all};
 ghost use Rattle.std.specs.Option.{option_map};
 ghost use Rattle.guest_asm.specs.Lexis.{is_plain, text_of, words};
+ghost use Rattle.guest_asm.specs.Numbers.{register_of};
 ghost use Rattle.guest_asm.specs.Statements as spec;
+ghost use Rattle.guest_isa.specs.declared.op.Field.TheVariants.{Imm};
 ghost use Rattle.guest_asm.specs.Views.{Gives, coded_in, immediate_in, line_in, statement_in};
 
 use crate::error::SourceRule;
@@ -14,7 +16,7 @@ use crate::operand::{
     three_words, two_words,
 };
 use crate::parts::SlotDraft;
-use crate::words::{FirstLine, all_plain, labelled, next_word};
+use crate::words::{FirstLine, all_plain, first_parts, next_word, short_register};
 use guest_image::Form;
 use guest_isa::{Field, Instr, Op};
 use lwc_types::PAGE_BYTES;
@@ -56,25 +58,18 @@ pub(crate) fn read_line<'a>(
     if !clean && !all_plain(text) {
         return Err(SourceRule::BadLine);
     }
-    let (label, rest) = labelled(text);
-    let statement = read_statement(has_uid, has_form, rest)?;
-    Ok(Line { label, statement })
-}
-
-/// Reads the statement of a line, if it has one.
-fn read_statement(
-    has_uid: bool,
-    has_form: bool,
-    text: &[u8],
-) -> Result<Option<Statement<'_>>, SourceRule>
-    ensures { Gives (λ s. option_map statement_in s) result
-        (spec.statement_of (record { uid = has_uid; form = has_form }) (words text.now)) }
-{
-    let Some((name, rest)) = next_word(text) else {
-        return Ok(None);
+    let (label, first) = first_parts(text);
+    let Some((name, rest)) = first else {
+        return Ok(Line {
+            label,
+            statement: None,
+        });
     };
     let statement = read_named(has_uid, has_form, name, rest)?;
-    Ok(Some(statement))
+    Ok(Line {
+        label,
+        statement: Some(statement),
+    })
 }
 
 /// Reads the directive or instruction with a name.
@@ -260,6 +255,13 @@ fn read_fields<'a>(
     let mut imm = Immediate::Value(0);
     let mut rest = text;
     for field in fields {
+        if is_register(*field) {
+            if let Some((number, after)) = short_register(rest) {
+                instr = with_register(*field, number, instr);
+                rest = after;
+                continue;
+            }
+        }
         let Some((word, after)) = next_word(rest) else {
             return Err(SourceRule::BadLine);
         };
@@ -267,6 +269,38 @@ fn read_fields<'a>(
         rest = after;
     }
     Ok((instr, imm, rest))
+}
+
+/// Whether a field is a register.
+fn is_register(field: Field) -> bool
+    ensures { result ≡ true → field ≢ Imm }
+{
+    match field {
+        Field::Rd | Field::Ra | Field::Rb => true,
+        Field::Imm => false,
+    }
+}
+
+/// An instruction with a register in a field.
+fn with_register(field: Field, number: u8, instr: Instr) -> Instr
+    ensures { (word : List ℕ) → (imm : spec.Immediate) → field ≢ Imm → register_of word ≡ Some number
+        → spec.with_field field word (instr, imm) ≡ Ok (result, imm) }
+{
+    match field {
+        Field::Rd => Instr {
+            rd: number,
+            ..instr
+        },
+        Field::Ra => Instr {
+            ra: number,
+            ..instr
+        },
+        Field::Rb => Instr {
+            rb: number,
+            ..instr
+        },
+        Field::Imm => instr,
+    }
 }
 
 /// Reads a word as the operand of a field.

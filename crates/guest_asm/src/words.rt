@@ -1,11 +1,11 @@
 //! Lines and words.
 
-ghost use Rattle.std.specs.Prelude.{◌≡◌, ◌++◌, ◌∷◌, [], ◌<◌, ◌≤◌, ◌==◌, length, IfSome, IfNone, true};
+ghost use Rattle.std.specs.Prelude.{◌≡◌, ◌++◌, ◌∷◌, [], ◌<◌, ◌≤◌, ◌==◌, length, slice_index, IfSome, IfNone, true};
 ghost use Rattle.std.specs.List.{list_all, position_or_len, prefix_len};
 ghost use Rattle.std.specs.Option.{option_map};
 ghost use Rattle.std.specs.Str.Lines.{strip_carriage_return};
 ghost use Rattle.guest_asm.specs.Lexis as spec;
-ghost use Rattle.guest_asm.specs.Views.{bytes_in, ends_text, is_clean};
+ghost use Rattle.guest_asm.specs.Views.{bytes_in, ends_part, ends_text, is_clean, short_name};
 
 use memchr::memchr2;
 
@@ -96,9 +96,44 @@ pub(crate) fn all_plain(text: &[u8]) -> bool
     text.iter().all(|b| is_plain(*b))
 }
 
+/// The label that a text begins with, and the first word after it with what follows.
+pub(crate) fn first_parts(text: &[u8]) -> (Option<&[u8]>, Option<(&[u8], &[u8])>)
+    ensures label { option_map bytes_in result.0 ≡ (spec.labelled text.now).0 }
+    ensures some { IfSome result.1 (λ x. spec.words (spec.labelled text.now).1 ≡ x.0.now ∷ spec.words x.1.now) }
+    ensures none { IfNone result.1 (spec.words (spec.labelled text.now).1 ≡ []) }
+{
+    let from = from_first_word(text);
+    let end = part_end(from);
+    if has_colon(from, end) {
+        let (label, rest) = labelled(text);
+        return (label, next_word(rest));
+    }
+    if end == 0 {
+        return (None, None);
+    }
+    (None, Some(from.split_at(end)))
+}
+
+/// Whether a text has a colon at a place.
+fn has_colon(text: &[u8], place: usize) -> bool
+    ensures { result ≡ (slice_index text.now place == 58) }
+{
+    place < text.len() && text[place] == b':'
+}
+
+/// The first place of a separator or a colon, or the length.
+fn part_end(text: &[u8]) -> usize
+    ensures place { result ≡ position_or_len ends_part text.now }
+    ensures within { result ≤ length text.now }
+{
+    text.iter()
+        .position(|b| is_separator(*b) || *b == b':')
+        .unwrap_or(text.len())
+}
+
 /// The label that a text begins with, and what follows it.
 #[tactic(auto, unfolding(crate::specs::Lexis::labelled))]
-pub(crate) fn labelled(text: &[u8]) -> (Option<&[u8]>, &[u8])
+fn labelled(text: &[u8]) -> (Option<&[u8]>, &[u8])
     ensures label { option_map bytes_in result.0 ≡ (spec.labelled text.now).0 }
     ensures rest { result.1.now ≡ (spec.labelled text.now).1 }
 {
@@ -121,6 +156,32 @@ pub(crate) fn next_word(text: &[u8]) -> Option<(&[u8], &[u8])>
         return None;
     }
     Some(text.split_at(word_end(text)))
+}
+
+/// A register of one digit that a text begins with, and what follows it.
+pub(crate) fn short_register(text: &[u8]) -> Option<(u8, &[u8])>
+    ensures word { IfSome result (λ x. spec.words text.now ≡ short_name x.0 ∷ spec.words x.1.now) }
+    ensures digit { IfSome result (λ x. x.0 < 10) }
+{
+    let from = from_first_word(text);
+    if from.len() < 2 || from[0] != b'r' {
+        return None;
+    }
+    let (digit, after) = (from[1], &from[2..]);
+    if digit < b'0' || b'9' < digit || !ends_word(after) {
+        return None;
+    }
+    Some((digit - b'0', after))
+}
+
+/// Whether a word ends where these bytes follow it.
+fn ends_word(after: &[u8]) -> bool
+    ensures { result ≡ (position_or_len spec.is_separator after.now == 0) }
+{
+    match after {
+        [] => true,
+        [byte, ..] => is_separator(*byte),
+    }
 }
 
 /// Whether a word is a name: a letter or `_`, and up to 31 letters, digits or `_`.
