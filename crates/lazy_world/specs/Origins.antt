@@ -1,6 +1,6 @@
 -- The row and the rights of a place that gets what origins give.
 use Rattle.std.specs.Prelude.{if◌then◌else◌, nat_lt, ℕ, Bool, unwrap_or, ◌<◌, ◌+◌, ◌*◌, List, Option, None, Some}
-use Rattle.std.specs.Prelude.{slice_index_or, All, length, min}
+use Rattle.std.specs.Prelude.{◌≡◌, [], slice_index_or, All, length, min, replicate}
 use Rattle.std.specs.Option.{option_map}
 use Rattle.lwc_base.specs.declared.cell.Cell.{Cell}
 use Rattle.lwc_types.specs.declared.key.Key.TheVariants.{Page, Slot, Cred}
@@ -42,6 +42,11 @@ origin_at page_runs p = option_map (λ gift. gift.0) (gift_at page_runs p)
 abbrev pub page_origin : PageOrigins → ℕ → Option Origin
 page_origin (AllOf j) p = Some (CopyOf j)
 page_origin (PageRuns page_runs reads) p = origin_at page_runs.items p
+
+-- no page run and no range: all pages stay
+abbrev pub HasNoRuns : PageOrigins → Type 0
+HasNoRuns (AllOf j) = ⊥
+HasNoRuns (PageRuns page_runs reads) = (page_runs.items ≡ []) × (reads.items ≡ [])
 
 -- the right that an origin has at a page: only another place has one of its own
 abbrev pub origin_right : (ℕ → ℕ → Right) → Origin → ℕ → Right
@@ -110,6 +115,12 @@ abbrev pub with_slots : ℕ → (ℕ → Row) → List (Option Origin) → Row �
 with_slots count rows slots row (Slot n) =
     if nat_lt n count then given_or rows (Slot n) (row (Slot n)) (slot_origin slots n) else row (Slot n)
 with_slots count rows slots row k = row k
+
+-- nothing has an origin
+pub record AreNone (s : Origins) : Type 0 where
+  pub pages : HasNoRuns s.pages
+  pub slots : s.slots ≡ replicate 64 None
+  pub uid : s.uid ≡ None
 
 -- the row of a place with what origins give
 abbrev pub origin_row : (ℕ → Row) → ℕ → Origins → Row

@@ -1,5 +1,5 @@
 ghost use Rattle.std.specs.Prelude.{◌≡◌, ◌≢◌, ◌<◌, ◌≤◌, ◌+◌, ◌*◌, ℕ, All, false, length, true};
-ghost use Rattle.std.specs.Prelude.{IfNone, IfSome, None, Some};
+ghost use Rattle.std.specs.Prelude.{[], IfNone, IfSome, None, Some};
 ghost use Rattle.lwc_base.specs.declared.cell.Cell.TheVariants.{Own};
 ghost use Rattle.lwc_base.specs.declared.item.Mode.TheVariants.{Copy};
 ghost use Rattle.lwc_base.specs.Modes.{IsItem, IsSpec, mode, names};
@@ -19,12 +19,12 @@ ghost use Rattle.lazy_world.specs.Clones.{clone_gift, item_gift, kind_origin};
 ghost use Rattle.lazy_world.specs.Transfers.{given_or, moves, transferred_rights, transferred_row};
 ghost use Rattle.lazy_world.specs.Seen.{count, rights, rows};
 ghost use Rattle.lazy_world.specs.Sound.{IsEmpty};
-ghost use Rattle.lazy_world.specs.Origins.{AreGiven, ArePagesGiven, gift_at, gift_of, origin_row};
+ghost use Rattle.lazy_world.specs.Origins.{AreGiven, AreNone, ArePagesGiven, HasNoRuns, gift_at, gift_of, origin_row};
 ghost use Rattle.lazy_world.specs.Origins.{page_origin, with_rights};
 ghost use Rattle.lazy_world.specs.declared.transfer.Transfer.TheVariants.{Clone};
 
 use crate::pieces::{Origins, PageOrigins};
-use crate::transfer::{Transfer, read_pages};
+use crate::transfer::{Transfer, list_read_pages};
 use crate::world::PlacedWorld;
 use arrayvec::ArrayVec;
 use cow_space::{Origin, PageRun};
@@ -55,20 +55,20 @@ fn item_run(item: &Item, from: usize) -> Option<PageRun>
     })
 }
 
-/// The page runs of items in a clone of the place `from`.
-fn item_runs(spec: &Items, from: usize) -> ArrayVec<PageRun, MOST_PAGE_RUNS>
-    ensures gifts { (q : ℕ) → gift_at result.items q ≡ item_gift from (mode spec.now (Page q)) }
-    ensures few { length result.items ≤ length spec.now }
-    ensures given { (count to : ℕ) → from < count → from ≢ to → All (IsPageRun count to) result.items }
+/// Lists the page runs of items in a clone of the place `from`.
+fn list_item_runs(spec: &Items, from: usize, page_runs: &mut ArrayVec<PageRun, MOST_PAGE_RUNS>)
+    requires none { page_runs.old.items ≡ [] }
+    ensures gifts { (q : ℕ) → gift_at page_runs.new.items q ≡ item_gift from (mode spec.now (Page q)) }
+    ensures few { length page_runs.new.items ≤ length spec.now }
+    ensures given { (count to : ℕ) → from < count → from ≢ to
+        → All (IsPageRun count to) page_runs.new.items }
 {
-    let mut page_runs = ArrayVec::new();
     for item in spec.items() {
         let Some(page_run) = item_run(item, from) else {
             continue;
         };
         page_runs.push(page_run);
     }
-    page_runs
 }
 
 /// Whether an item names pages in another mode than copy.
@@ -115,19 +115,26 @@ impl PlacedWorld {
         }
     }
 
-    /// The page runs that give a place without pages those of a clone of the place `from`: at most one for
-    /// each item, and one for each segment.
-    fn clone_runs(&self, spec: &Items, from: usize) -> ArrayVec<PageRun, MOST_PAGE_RUNS>
+    /// Lists the page runs that give a place without pages those of a clone of the place `from`: at most one
+    /// for each item, and one for each segment.
+    fn list_clone_runs(
+        &self,
+        spec: &Items,
+        from: usize,
+        page_runs: &mut ArrayVec<PageRun, MOST_PAGE_RUNS>,
+    )
         requires from { from < count self.now.places }
         requires within { IsSpec (seen self.now).size.pages spec.now }
-        ensures gifts { (q : ℕ) → gift_at result.items q ≡ clone_gift (parts self.now) spec.now from q }
-        ensures few { length result.items
+        requires none { page_runs.old.items ≡ [] }
+        ensures gifts { (q : ℕ)
+            → gift_at page_runs.new.items q ≡ clone_gift (parts self.now) spec.now from q }
+        ensures few { length page_runs.new.items
             ≤ ranges MOST_PAGES (states_of (rows self.now.places from) (rights self.now.places from))
             + length spec.now }
         ensures given { (to : ℕ) → from ≢ to → to < (parts self.now).size.contexts
-            → All (IsPageRun (count self.now.places) to) result.items }
+            → All (IsPageRun (count self.now.places) to) page_runs.new.items }
     {
-        let mut page_runs = item_runs(spec, from);
+        list_item_runs(spec, from, page_runs);
         for segment in self.places.segments(from) {
             page_runs.push(PageRun {
                 range: Range {
@@ -138,58 +145,66 @@ impl PlacedWorld {
                 right: Some(segment.right),
             });
         }
-        page_runs
     }
 
-    /// Where a place without pages gets those of a clone of the place `from`, where no page is left that
-    /// moves. Pages that are all copied and all that place's own are taken whole.
-    fn clone_pages(&self, spec: &Items, from: usize) -> PageOrigins
+    /// Tells where a place without pages gets those of a clone of the place `from`, where no page is left
+    /// that moves. Pages that are all copied and all that place's own are taken whole.
+    fn clone_pages(&self, spec: &Items, from: usize, pages: &mut PageOrigins)
+        requires none { HasNoRuns pages.old }
         requires from { from < count self.now.places }
         requires within { IsSpec (seen self.now).size.pages spec.now }
         requires settled { (q : ℕ) → moves spec.now (Page q) (rows self.now.places from) ≡ false }
         ensures gives { (made : Name) (old : Row) (q : ℕ)
-            → given_or (rows self.now.places) (Page q) (Own None) (page_origin result q)
+            → given_or (rows self.now.places) (Page q) (Own None) (page_origin pages.new q)
             ≡ transferred_row (seen self.now) (Clone made) spec.now (rows self.now.places from) old (Page q) }
         ensures rights { (made : Name) (to : ℕ) → HasNoPages (rows self.now.places to)
-            → with_rights (rows self.now.places) (rights self.now.places) to result
+            → with_rights (rows self.now.places) (rights self.now.places) to pages.new
             ≡ right_transferred self.now (Clone made) spec.now from to }
         ensures given { (to : ℕ) → from ≢ to → to < (parts self.now).size.contexts
-            → ArePagesGiven (count self.now.places) to result }
-        ensures bounded { AreBounded (rows self.now.places) (rights self.now.places) from spec.now result }
+            → ArePagesGiven (count self.now.places) to pages.new }
+        ensures bounded { AreBounded (rows self.now.places) (rights self.now.places) from spec.now
+            pages.new }
     {
         if copies_pages(spec) && self.places.has_own_pages(from) {
-            return PageOrigins::AllOf(from);
+            *pages = PageOrigins::AllOf(from);
+            return;
         }
-        PageOrigins::PageRuns(self.clone_runs(spec, from), read_pages(spec))
+        match pages {
+            PageOrigins::AllOf(_) => {}
+            PageOrigins::PageRuns(page_runs, reads) => {
+                self.list_clone_runs(spec, from, page_runs);
+                list_read_pages(spec, reads);
+            }
+        }
     }
 
-    /// Where the place `to`, which has no pages, gets the cells of a clone of the place `from`, where nothing
-    /// is left that moves.
-    fn clone_origins(&self, made: Name, spec: &Items, from: usize, to: usize) -> Origins
+    /// Tells where the place `to`, which has no pages, gets the cells of a clone of the place `from`, where
+    /// nothing is left that moves.
+    fn clone_origins(&self, made: Name, spec: &Items, from: usize, to: usize, origins: &mut Origins)
+        requires none { AreNone origins.old }
         requires from { from < count self.now.places }
         requires to { to < (parts self.now).size.contexts }
         requires apart { from ≢ to }
         requires within { IsSpec (seen self.now).size.pages spec.now }
         requires settled { (k : Key) → moves spec.now k (rows self.now.places from) ≡ false }
         requires empty { HasNoPages (rows self.now.places to) }
-        ensures row { origin_row (rows self.now.places) to result
+        ensures row { origin_row (rows self.now.places) to origins.new
             ≡ transferred self.now (Clone made) spec.now from to }
-        ensures rights { with_rights (rows self.now.places) (rights self.now.places) to result.pages
+        ensures rights { with_rights (rows self.now.places) (rights self.now.places) to origins.new.pages
             ≡ right_transferred self.now (Clone made) spec.now from to }
-        ensures given { AreGiven (count self.now.places) to result }
+        ensures given { AreGiven (count self.now.places) to origins.new }
         ensures bounded { AreBounded (rows self.now.places) (rights self.now.places) from spec.now
-            result.pages }
+            origins.new.pages }
     {
         let transfer = Transfer::Clone(made);
-        Origins {
-            pages: self.clone_pages(spec, from),
-            slots: self.slot_origins(transfer, spec, from, to),
-            uid: self.uid_origin(transfer, spec, from, to),
-        }
+        self.clone_pages(spec, from, &mut origins.pages);
+        self.slot_origins(transfer, spec, from, to, &mut origins.slots);
+        origins.uid = self.uid_origin(transfer, spec, from, to);
     }
 
     /// A context without pages gets the cells of a clone of another one, from where its origins say.
-    // The origins are a large value, which each caller would clear if this were a part of it.
+    // The origins are a large value: each caller would clear it if this were a part of it, and it is filled in
+    // its place, since each move of it is a copy.
     #[inline(never)]
     fn clone_pieces(&mut self, spec: &Items, c: Name, made: Name)
         requires from { IsLive (seen self.old) c }
@@ -206,7 +221,8 @@ impl PlacedWorld {
     {
         let from = self.place(c);
         let to = self.place(made);
-        let origins = self.clone_origins(made, spec, from, to);
+        let mut origins = Origins::none();
+        self.clone_origins(made, spec, from, to, &mut origins);
         self.places.take(to, &origins);
     }
 

@@ -20,6 +20,22 @@ pub struct Origins {
     pub(crate) uid: Option<Origin>,
 }
 
+impl Origins {
+    ghost use Rattle.lazy_world.specs.Origins.{AreNone};
+
+    /// Origins of nothing: all stays.
+    #[inline(always)]
+    pub(crate) fn none() -> Origins
+        ensures { AreNone result }
+    {
+        Origins {
+            pages: PageOrigins::PageRuns(ArrayVec::new(), ArrayVec::new()),
+            slots: [None; 64],
+            uid: None,
+        }
+    }
+}
+
 impl Places {
     ghost use Rattle.std.specs.Prelude.{◌≡◌, ◌≢◌, ◌<◌, ◌≤◌, ◌+◌, ◌*◌, ℕ, All, Some, length, min};
     ghost use Rattle.lwc_base.specs.declared.cell.Cell.{Cell};

@@ -1,5 +1,5 @@
 ghost use Rattle.std.specs.Prelude.{◌≡◌, ◌≢◌, ◌==◌, ◌||◌, ◌<◌, ◌≤◌, ◌+◌, ◌*◌, ◌⊎◌, ℕ, false, true};
-ghost use Rattle.std.specs.Prelude.{if◌then◌else◌, All, IfSome, List, None, length, unwrap_or};
+ghost use Rattle.std.specs.Prelude.{if◌then◌else◌, [], All, IfSome, List, None, length, replicate, unwrap_or};
 ghost use Rattle.std.specs.List.{list_any};
 ghost use Rattle.std.specs.Option.{option_map};
 ghost use Rattle.lwc_base.specs.Modes.{IsItem, IsSpec, mode, names, same_kind};
@@ -211,7 +211,7 @@ impl PlacedWorld {
     ghost use Rattle.lazy_world.specs.Transfers.{CanGet, Gives, IsFor, IsFound, given_or, reads};
     ghost use Rattle.lazy_world.specs.Seen.{count, rights, rows};
     ghost use Rattle.lazy_world.specs.Origins.{AreGiven, ArePagesGiven, gift_at, gift_of, gift_right, origin_at};
-    ghost use Rattle.lazy_world.specs.Origins.{origin_row, page_origin};
+    ghost use Rattle.lazy_world.specs.Origins.{AreNone, HasNoRuns, origin_row, page_origin};
     ghost use Rattle.lazy_world.specs.Origins.{any_nodes, any_steps, shown_right, slot_origin, with_rights};
     ghost use Rattle.lazy_world.specs.Clones.{change_nodes, change_steps};
     ghost use Rattle.lazy_world.specs.Worlds.{parts, right_transferred, transferred, seen};
@@ -329,33 +329,34 @@ impl PlacedWorld {
         }
     }
 
-    /// The page runs that give a place its pages by a transfer: at most one from each edge of a range or of
-    /// an item.
-    fn runs_of_pages(
+    /// Lists the page runs that give a place its pages by a transfer: at most one from each edge of a range or
+    /// of an item.
+    fn list_page_runs(
         &self,
         transfer: Transfer,
         spec: &Items,
         from: usize,
         to: usize,
-    ) -> ArrayVec<PageRun, MOST_PAGE_RUNS>
+        page_runs: &mut ArrayVec<PageRun, MOST_PAGE_RUNS>,
+    )
         requires from { from < count self.now.places }
         requires transfer { IsFor (parts self.now).size.contexts from to transfer }
         requires within { IsSpec (seen self.now).size.pages spec.now }
+        requires none { page_runs.old.items ≡ [] }
         ensures gives { (q : ℕ) → q < MOST_PAGES
             → given_or (rows self.now.places) (Page q) (rows self.now.places to (Page q))
-            (origin_at result.items q) ≡ transferred self.now transfer spec.now from to (Page q) }
+            (origin_at page_runs.new.items q) ≡ transferred self.now transfer spec.now from to (Page q) }
         ensures rights { (q : ℕ) → q < MOST_PAGES
             → shown_right (transferred self.now transfer spec.now from to (Page q))
             (reads transfer (mode spec.now (Page q)))
-            (gift_right (rights self.now.places) q (rights self.now.places to q) (gift_at result.items q))
-            ≡ right_transferred self.now transfer spec.now from to q }
-        ensures past { (q : ℕ) → MOST_PAGES ≤ q → gift_at result.items q ≡ None }
-        ensures given { All (IsPageRun (count self.now.places) to) result.items }
-        ensures few { length result.items ≤ 1
+            (gift_right (rights self.now.places) q (rights self.now.places to q)
+            (gift_at page_runs.new.items q)) ≡ right_transferred self.now transfer spec.now from to q }
+        ensures past { (q : ℕ) → MOST_PAGES ≤ q → gift_at page_runs.new.items q ≡ None }
+        ensures given { All (IsPageRun (count self.now.places) to) page_runs.new.items }
+        ensures few { length page_runs.new.items ≤ 1
             + 2 * (ranges MOST_PAGES (states_of (rows self.now.places from) (rights self.now.places from))
             + length spec.now) }
     {
-        let mut page_runs = ArrayVec::new();
         let mut modes = ModeRun::empty();
         let mut p: PageNumber = 0;
         'pages: while p < MOST_PAGES {
@@ -366,7 +367,6 @@ impl PlacedWorld {
             }
             p = stretch.to;
         }
-        page_runs
     }
 
     /// What is found in a slot of a place.
@@ -422,28 +422,29 @@ impl PlacedWorld {
         self.places.filled(from) | self.places.filled(to)
     }
 
-    /// The origin of each slot by a transfer. Mostly few slots are filled, and the others are passed over.
+    /// Tells the origin of each slot by a transfer. Mostly few slots are filled, and the others are passed over.
     pub(crate) fn slot_origins(
         &self,
         transfer: Transfer,
         spec: &Items,
         from: usize,
         to: usize,
-    ) -> [Option<Origin>; 64]
+        origins: &mut [Option<Origin>; 64],
+    )
         requires from { from < count self.now.places }
         requires to { to < count self.now.places }
         requires transfer { IsFor (parts self.now).size.contexts from to transfer }
-        ensures { (n : ℕ) → n < SLOTS → Gives (count self.now.places) (rows self.now.places) to (Slot n)
-            (transferred self.now transfer spec.now from to (Slot n)) (slot_origin result n) }
+        requires none { origins.old ≡ replicate 64 None }
+        ensures long { length origins.new ≡ 64 }
+        ensures gives { (n : ℕ) → n < SLOTS → Gives (count self.now.places) (rows self.now.places) to (Slot n)
+            (transferred self.now transfer spec.now from to (Slot n)) (slot_origin origins.new n) }
     {
-        let mut origins = [None; 64];
         let changed = self.changed_slots(spec, from, to);
         let mut next = 0;
         'slots: while let Some(n) = lowest_bit(changed, next) {
             origins[n as usize] = self.slot_origin(transfer, spec, from, to, n);
             next = n + 1;
         }
-        origins
     }
 
     /// The origin of the credential by a transfer.
@@ -463,65 +464,70 @@ impl PlacedWorld {
         transfer.origin(mode_of(spec, Key::Cred), found, from, to)
     }
 
-    /// Where the place `to` gets its pages and their rights by a transfer from what the place `from` has.
+    /// Tells where the place `to` gets its pages and their rights by a transfer from what the place `from` has.
     pub(crate) fn page_origins(
         &self,
         transfer: Transfer,
         spec: &Items,
         from: usize,
         to: usize,
-    ) -> PageOrigins
+        pages: &mut PageOrigins,
+    )
         requires from { from < count self.now.places }
         requires transfer { IsFor (parts self.now).size.contexts from to transfer }
+        requires none { HasNoRuns pages.old }
         requires within { IsSpec (seen self.now).size.pages spec.now }
         ensures gives { (q : ℕ) → q < MOST_PAGES
             → given_or (rows self.now.places) (Page q) (rows self.now.places to (Page q))
-            (page_origin result q) ≡ transferred self.now transfer spec.now from to (Page q) }
-        ensures past { (q : ℕ) → MOST_PAGES ≤ q → page_origin result q ≡ None }
-        ensures rights { with_rights (rows self.now.places) (rights self.now.places) to result
+            (page_origin pages.new q) ≡ transferred self.now transfer spec.now from to (Page q) }
+        ensures past { (q : ℕ) → MOST_PAGES ≤ q → page_origin pages.new q ≡ None }
+        ensures rights { with_rights (rows self.now.places) (rights self.now.places) to pages.new
             ≡ right_transferred self.now transfer spec.now from to }
-        ensures given { ArePagesGiven (count self.now.places) to result }
-        ensures nodes { any_nodes result ≤ change_nodes
+        ensures given { ArePagesGiven (count self.now.places) to pages.new }
+        ensures nodes { any_nodes pages.new ≤ change_nodes
             (ranges MOST_PAGES (states_of (rows self.now.places from) (rights self.now.places from))
             + length spec.now) }
-        ensures steps { any_steps result ≤ change_steps
+        ensures steps { any_steps pages.new ≤ change_steps
             (ranges MOST_PAGES (states_of (rows self.now.places from) (rights self.now.places from))
             + length spec.now) }
     {
-        PageOrigins::PageRuns(
-            self.runs_of_pages(transfer, spec, from, to),
-            transfer.reads(spec),
-        )
+        match pages {
+            PageOrigins::AllOf(_) => {}
+            PageOrigins::PageRuns(page_runs, reads) => {
+                self.list_page_runs(transfer, spec, from, to, page_runs);
+                transfer.list_reads(spec, reads);
+            }
+        }
     }
 
-    /// Where the place `to` gets its cells and rights by a transfer from what the place `from` has.
+    /// Tells where the place `to` gets its cells and rights by a transfer from what the place `from` has.
     pub(crate) fn origins(
         &self,
         transfer: Transfer,
         spec: &Items,
         from: usize,
         to: usize,
-    ) -> Origins
+        origins: &mut Origins,
+    )
         requires from { from < count self.now.places }
         requires to { to < count self.now.places }
         requires transfer { IsFor (parts self.now).size.contexts from to transfer }
+        requires none { AreNone origins.old }
         requires within { IsSpec (seen self.now).size.pages spec.now }
-        ensures row { origin_row (rows self.now.places) to result
+        ensures row { origin_row (rows self.now.places) to origins.new
             ≡ transferred self.now transfer spec.now from to }
-        ensures rights { with_rights (rows self.now.places) (rights self.now.places) to result.pages
+        ensures rights { with_rights (rows self.now.places) (rights self.now.places) to origins.new.pages
             ≡ right_transferred self.now transfer spec.now from to }
-        ensures given { AreGiven (count self.now.places) to result }
-        ensures nodes { any_nodes result.pages ≤ change_nodes
+        ensures given { AreGiven (count self.now.places) to origins.new }
+        ensures nodes { any_nodes origins.new.pages ≤ change_nodes
             (ranges MOST_PAGES (states_of (rows self.now.places from) (rights self.now.places from))
             + length spec.now) }
-        ensures steps { any_steps result.pages ≤ change_steps
+        ensures steps { any_steps origins.new.pages ≤ change_steps
             (ranges MOST_PAGES (states_of (rows self.now.places from) (rights self.now.places from))
             + length spec.now) }
     {
-        Origins {
-            pages: self.page_origins(transfer, spec, from, to),
-            slots: self.slot_origins(transfer, spec, from, to),
-            uid: self.uid_origin(transfer, spec, from, to),
-        }
+        self.page_origins(transfer, spec, from, to, &mut origins.pages);
+        self.slot_origins(transfer, spec, from, to, &mut origins.slots);
+        origins.uid = self.uid_origin(transfer, spec, from, to);
     }
 }

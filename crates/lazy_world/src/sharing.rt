@@ -13,6 +13,7 @@ ghost use Rattle.lwc_types.specs.declared.limits.TheConstants.{MOST_PAGES, MOST_
 ghost use Rattle.lazy_world.specs.Transfers.{moves};
 
 use crate::counts::Counts;
+use crate::pieces::Origins;
 use crate::ranges::names_slots;
 use crate::transfer::Transfer;
 use crate::world::PlacedWorld;
@@ -193,7 +194,8 @@ impl PlacedWorld {
     {
         let from = self.place(d);
         let to = self.place(c);
-        let origins = self.origins(transfer, spec, from, to);
+        let mut origins = Origins::none();
+        self.origins(transfer, spec, from, to, &mut origins);
         self.places.take(to, &origins);
     }
 
@@ -240,7 +242,8 @@ impl PlacedWorld {
         match self.groups.place(g) {
             Some(j) => {
                 let to = self.size.contexts as usize + j;
-                let origins = self.origins(Transfer::Move, spec, from, to);
+                let mut origins = Origins::none();
+                self.origins(Transfer::Move, spec, from, to, &mut origins);
                 self.places.take(to, &origins);
             }
             None => {}

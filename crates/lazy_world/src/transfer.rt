@@ -1,4 +1,4 @@
-ghost use Rattle.std.specs.Prelude.{◌≡◌, ℕ, IfNone, IfSome, Some, false, true};
+ghost use Rattle.std.specs.Prelude.{◌≡◌, ℕ, [], IfNone, IfSome, Some, false, true};
 ghost use Rattle.cow_space.specs.Changes.{have_page};
 ghost use Rattle.lwc_base.specs.Modes.{IsItem, mode, names};
 ghost use Rattle.lwc_types.specs.declared.key.Key.TheVariants.{Page};
@@ -50,18 +50,17 @@ fn read_range(item: &Item) -> Option<Range>
     }
 }
 
-/// The pages that items copy and that may only be read then.
-pub(crate) fn read_pages(spec: &Items) -> ArrayVec<Range, MOST_ITEMS>
-    ensures { (q : ℕ) → have_page result.items q ≡ is_read (mode spec.now (Page q)) }
+/// Lists the pages that items copy and that may only be read then.
+pub(crate) fn list_read_pages(spec: &Items, pages: &mut ArrayVec<Range, MOST_ITEMS>)
+    requires none { pages.old.items ≡ [] }
+    ensures { (q : ℕ) → have_page pages.new.items q ≡ is_read (mode spec.now (Page q)) }
 {
-    let mut pages = ArrayVec::new();
     for item in spec.items() {
         let Some(range) = read_range(item) else {
             continue;
         };
         pages.push(range);
     }
-    pages
 }
 
 /// A copy from another place; what is at the place already stays.
@@ -115,13 +114,14 @@ impl Found {
 }
 
 impl Transfer {
-    /// The pages that may only be read in the place that gets something.
-    pub fn reads(self, spec: &Items) -> ArrayVec<Range, MOST_ITEMS>
-        ensures { (q : ℕ) → have_page result.items q ≡ reads self (mode spec.now (Page q)) }
+    /// Lists the pages that may only be read in the place that gets something.
+    pub fn list_reads(self, spec: &Items, pages: &mut ArrayVec<Range, MOST_ITEMS>)
+        requires none { pages.old.items ≡ [] }
+        ensures { (q : ℕ) → have_page pages.new.items q ≡ reads self (mode spec.now (Page q)) }
     {
         match self {
-            Transfer::Mark(_) | Transfer::Move => ArrayVec::new(),
-            Transfer::Clone(_) | Transfer::Overlay(_) => read_pages(spec),
+            Transfer::Mark(_) | Transfer::Move => {}
+            Transfer::Clone(_) | Transfer::Overlay(_) => list_read_pages(spec, pages),
         }
     }
 

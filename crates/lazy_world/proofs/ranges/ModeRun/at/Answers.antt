@@ -1,4 +1,4 @@
-use Rattle.std.proofs.Common.{◌≡◌, ◌∙◌, ◌≤◌, Some, arith, false, get_or, inl, inr, refl, subst, sym}
+use Rattle.std.proofs.Common.{◌∙◌, ◌≤◌, Some, arith, false, get_or, inl, inr, refl, subst, sym}
 use Rattle.range_map.proofs.Alike.{edge_more}
 use Rattle.lwc_base.specs.declared.item.Item.{Item}
 use Rattle.lwc_base.specs.Modes.{IsSpec, mode}

@@ -19,15 +19,15 @@ returns-clause-row c =
     let w = c.args.self.now in
     let from = c.args.from in
     let items = c.args.spec.now in
-    let pages = c.clone_pages.result in
+    let pages = c.clone_pages.new.pages in
     let few = w.sound.sizes.size.pages.1 in
     let gives : (q : ℕ) → given_or (rows w.places) (Page q) (rows w.places c.args.to (Page q)) (page_origin pages q) ≡ transferred w (Clone c.args.made) items from c.args.to (Page q) = λ q. (λ e. given_or (rows w.places) (Page q) (c.requires.empty q e) (page_origin pages q)) ∙ c.clone_pages.ensures.gives c.args.made (rows w.places c.args.to) q in
-    origin-transferred (seen w) w.size.pages (count w.places) items (Clone c.args.made) (rows w.places) from c.args.to _ few (omega arith)
+    origin-transferred (seen w) w.size.pages (count w.places) items (Clone c.args.made) (rows w.places) from c.args.to _ few (omega (arith, c.slot_origins.ensures.long))
     c.requires.within (w.sound.past from) (w.sound.past c.args.to)
     (λ q low. gives q)
     (λ q high. gives q
     ∙ transferred-past (seen w) w.size.pages items c.requires.within (Clone c.args.made) (rows w.places from) (rows w.places c.args.to) (w.sound.past from) (w.sound.past c.args.to) (Page q) (omega (arith, few, high)))
-    c.slot_origins.ensures c.uid_origin.ensures
+    c.slot_origins.ensures.gives c.uid_origin-origins.ensures
 
 pub returns-clause-rights : goal.returns-clause-rights
 returns-clause-rights c = c.clone_pages.ensures.rights c.args.made c.args.to c.requires.empty
@@ -35,6 +35,6 @@ returns-clause-rights c = c.clone_pages.ensures.rights c.args.made c.args.to c.r
 pub returns-clause-given : goal.returns-clause-given
 returns-clause-given c = record {
   pages = c.clone_pages.ensures.given c.args.to c.requires.apart c.requires.to;
-  slots = λ n low. (c.slot_origins.ensures n low).can;
-  uid = c.uid_origin.ensures.can;
+  slots = λ n low. (c.slot_origins.ensures.gives n low).can;
+  uid = c.uid_origin-origins.ensures.can;
 }

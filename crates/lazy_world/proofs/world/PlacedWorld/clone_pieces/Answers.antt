@@ -17,26 +17,26 @@ use Rattle.lazy_world.proofs.FollowLemmas.{followed-few, followed-sound, followe
 use Rattle.lazy_world.proofs.ShareLemmas.{none-moved}
 use Rattle.lazy_world.proofs.world.PlacedWorld.clone_pieces.Goals as goal
 
-pub clone_origins-origins-requires-clause-apart : goal.clone_origins-origins-requires-clause-apart
+pub clone_origins-requires-clause-apart : goal.clone_origins-requires-clause-apart
 unfolding parts
-clone_origins-origins-requires-clause-apart c =
+clone_origins-requires-clause-apart c =
     other-place (parts c.args.self.now).contexts c.args.self.now.placed c.args.c c.args.made c.place-from.result c.place-to.result c.place-from.ensures.found c.place-to.ensures.found c.requires.apart
 
-pub clone_origins-origins-requires-clause-settled : goal.clone_origins-origins-requires-clause-settled
+pub clone_origins-requires-clause-settled : goal.clone_origins-requires-clause-settled
 unfolding rows parts
-clone_origins-origins-requires-clause-settled c k =
+clone_origins-requires-clause-settled c k =
     sym (ap (λ (x : Context). moves c.args.spec.now k x.cell) c.place-from.ensures.context) ∙ c.requires.settled k
 
-pub clone_origins-origins-requires-clause-empty : goal.clone_origins-origins-requires-clause-empty
+pub clone_origins-requires-clause-empty : goal.clone_origins-requires-clause-empty
 unfolding rows parts
-clone_origins-origins-requires-clause-empty c p =
+clone_origins-requires-clause-empty c p =
     sym (ap (λ (x : Context). x.cell (Page p)) c.place-to.ensures.context) ∙ c.requires.empty p
 
 pub take-requires-clause-few : goal.take-requires-clause-few
 unfolding seen parts world_of
 take-requires-clause-few c =
     let w = c.args.self.now in
-    let origins = c.clone_origins-origins.ensures in
+    let origins = c.clone_origins.ensures in
     subst (λ (n : ℕ). n ≤ MOST_RANGES)
     (followed-few (parts w) w.sound w.placed (Clone c.args.made) c.args.spec.now c.requires.within c.args.c c.args.made c.place-from.result c.place-to.result c.place-from.ensures.context c.place-to.ensures.found
     ∙ sym (λ e. ranges MOST_PAGES (states_of (origins.row e) (origins.rights e)))) c.requires.few
@@ -46,7 +46,7 @@ unfolding seen parts world_of
 invariant_of-self c =
     let w = c.args.self.now in
     let to = c.place-to.result in
-    let origins = c.clone_origins-origins.ensures in
+    let origins = c.clone_origins.ensures in
     record {
       placed = w.placed;
       placed_groups = w.placed_groups;
@@ -55,9 +55,9 @@ invariant_of-self c =
       sound = followed-sound (parts w) w.sound w.placed (Clone c.args.made) c.args.spec.now c.requires.within c.args.c c.args.made c.place-from.result to c.place-from.ensures.context c.place-to.ensures.found
           _ _ (c.take.ensures.rows ∙ ap (put_row (rows w.places) to) origins.row) (c.take.ensures.rights ∙ ap (put_rights (rights w.places) to) origins.rights)
           (none-moved (seen w) c.args.spec.now (context (seen w) c.args.c) c.args.made (λ p. c.requires.settled (Page p)))
-          (subst (HasOldTags (seen w).next) origins.row (origin-tags (seen w).next (rows w.places) to c.clone_origins-origins.result w.sound.tags))
+          (subst (HasOldTags (seen w).next) origins.row (origin-tags (seen w).next (rows w.places) to c.clone_origins.new.origins w.sound.tags))
           c.requires.fresh
-          (subst (λ row. HasOneHome (put_row (rows w.places) to row)) origins.row (origin-homes (rows w.places) to c.clone_origins-origins.result w.sound.homes));
+          (subst (λ row. HasOneHome (put_row (rows w.places) to row)) origins.row (origin-homes (rows w.places) to c.clone_origins.new.origins w.sound.homes));
     }
 
 pub returns-clause-world : goal.returns-clause-world
@@ -65,7 +65,7 @@ unfolding seen parts world_of
 returns-clause-world c =
     let w = c.args.self.now in
     let to = c.place-to.result in
-    let origins = c.clone_origins-origins.ensures in
+    let origins = c.clone_origins.ensures in
     followed-world (parts w) w.sound w.placed (Clone c.args.made) c.args.spec.now c.requires.within c.args.c c.args.made c.place-from.result to c.place-from.ensures.context c.place-to.ensures.found
     _ _ (c.take.ensures.rows ∙ ap (put_row (rows w.places) to) origins.row) (c.take.ensures.rights ∙ ap (put_rights (rights w.places) to) origins.rights)
 
@@ -74,10 +74,10 @@ unfolding seen parts rows rights
 returns-clause-store c =
     let w = c.args.self.now in
     let s = parts w in
-    let bounded = c.clone_origins-origins.ensures.bounded in
+    let bounded = c.clone_origins.ensures.bounded in
     let here = ranges-here s w.sound c.args.c c.place-from.result c.place-from.ensures.found in
     let empty : HasNoPages (s.rows c.place-to.result) = λ p. sym (ap (λ (x : Context). x.cell (Page p)) c.place-to.ensures.context) ∙ c.requires.empty p in
-    let whole : CopiesPages c.args.spec.now → HasOwnPages (context (seen w) c.args.c).cell → c.clone_origins-origins.result.pages ≡ AllOf c.place-from.result = λ copies own. bounded.whole copies (λ p. sym (ap (λ (x : Context). is_own (x.cell (Page p))) c.place-from.ensures.context) ∙ own p) in
+    let whole : CopiesPages c.args.spec.now → HasOwnPages (context (seen w) c.args.c).cell → c.clone_origins.new.origins.pages ≡ AllOf c.place-from.result = λ copies own. bounded.whole copies (λ p. sym (ap (λ (x : Context). is_own (x.cell (Page p))) c.place-from.ensures.context) ∙ own p) in
     record {
       frames = c.take.ensures.free_empty empty;
       pool = c.take.ensures.pool;
@@ -90,10 +90,10 @@ unfolding seen parts rows rights
 returns-clause-steps c =
     let w = c.args.self.now in
     let s = parts w in
-    let bounded = c.clone_origins-origins.ensures.bounded in
+    let bounded = c.clone_origins.ensures.bounded in
     let here = ranges-here s w.sound c.args.c c.place-from.result c.place-from.ensures.found in
     let empty : HasNoPages (s.rows c.place-to.result) = λ p. sym (ap (λ (x : Context). x.cell (Page p)) c.place-to.ensures.context) ∙ c.requires.empty p in
-    let whole : CopiesPages c.args.spec.now → HasOwnPages (context (seen w) c.args.c).cell → c.clone_origins-origins.result.pages ≡ AllOf c.place-from.result = λ copies own. bounded.whole copies (λ p. sym (ap (λ (x : Context). is_own (x.cell (Page p))) c.place-from.ensures.context) ∙ own p) in
+    let whole : CopiesPages c.args.spec.now → HasOwnPages (context (seen w) c.args.c).cell → c.clone_origins.new.origins.pages ≡ AllOf c.place-from.result = λ copies own. bounded.whole copies (λ p. sym (ap (λ (x : Context). is_own (x.cell (Page p))) c.place-from.ensures.context) ∙ own p) in
     record {
       all = omega (arith, c.take.ensures.cost empty, bounded.steps, here);
       whole = λ copies own. omega (arith, c.take.ensures.cost empty, ap (most_steps (rows w.places) (rights w.places)) (whole copies own) ∙ ap (min 1) (sym here));

@@ -21,12 +21,12 @@ use Rattle.lazy_world.proofs.CostLemmas.{fill-less}
 use Rattle.lazy_world.proofs.WorldLemmas.{change_group-missed, no_pages-new}
 use Rattle.lazy_world.proofs.world.PlacedWorld.fill_group.Goals as goal
 
-pub origins-origins-requires-clause-transfer : goal.origins-origins-requires-clause-transfer
+pub origins-requires-clause-transfer : goal.origins-requires-clause-transfer
 unfolding parts
-origins-origins-requires-clause-transfer c = λ same. absurd (let low = c.place-from.ensures.low in omega (arith, low, same))
+origins-requires-clause-transfer c = λ same. absurd (let low = c.place-from.ensures.low in omega (arith, low, same))
 
-pub origins-origins-requires-clause-to : goal.origins-origins-requires-clause-to
-origins-origins-requires-clause-to c = omega (arith, c.in-Some.ensures.within, c.args.self.now.sound.sizes.groups, c.args.self.now.count)
+pub origins-requires-clause-to : goal.origins-requires-clause-to
+origins-requires-clause-to c = omega (arith, c.in-Some.ensures.within, c.args.self.now.sound.sizes.groups, c.args.self.now.count)
 
 pub take-requires-clause-place : goal.take-requires-clause-place
 take-requires-clause-place c = omega (arith, c.in-Some.ensures.within, c.args.self.now.sound.sizes.groups, c.args.self.now.count)
@@ -35,7 +35,7 @@ pub take-requires-clause-few : goal.take-requires-clause-few
 unfolding seen parts
 take-requires-clause-few c =
     let w = c.args.self.now in
-    let origins = c.origins-origins.ensures in
+    let origins = c.origins.ensures in
     subst (λ (n : ℕ). n ≤ MOST_RANGES)
     (ap (λ (x : Context). ranges MOST_PAGES (states_of (transferred_row (seen w) Move c.args.spec.now x.cell no_row) (transferred_rights Move c.args.spec.now x.cell x.right all_write))) c.place-from.ensures.context
     ∙ sym (λ e. ranges MOST_PAGES (states_of (origins.row e) (origins.rights e)))) c.requires.few
@@ -54,12 +54,12 @@ invariant_of-self c =
       placed_groups = w.placed_groups;
       count = c.take.ensures.count ∙ w.count;
       frames = c.take.ensures.frames ∙ w.frames;
-      sound = subst (λ rows. IsSound (record s { rows = rows; rights = rights c.take.new.self })) (sym (c.take.ensures.rows ∙ ap (put_row (rows w.places) to) c.origins-origins.ensures.row))
+      sound = subst (λ rows. IsSound (record s { rows = rows; rights = rights c.take.new.self })) (sym (c.take.ensures.rows ∙ ap (put_row (rows w.places) to) c.origins.ensures.row))
           (filled-sound s w.sound w.placed w.placed_groups c.args.g c.in-Some.j (sym c.place.ensures.place ∙ c.in-Some.is) c.args.spec.now c.args.c c.place-from.result c.place-from.ensures.context
           (rights c.take.new.self) (others_kept w to _ _ c.take.ensures.rights) c.requires.empty
           (transferred-within (seen w) s.size.pages c.args.spec.now c.requires.within Move (rows w.places c.place-from.result) (rows w.places to) (w.sound.past c.place-from.result) (w.sound.past to))
-          (subst (HasOldTags (seen w).next) c.origins-origins.ensures.row (origin-tags (seen w).next (rows w.places) to c.origins-origins.result w.sound.tags))
-          (subst (λ row. HasOneHome (put_row (rows w.places) to row)) c.origins-origins.ensures.row (origin-homes (rows w.places) to c.origins-origins.result w.sound.homes)));
+          (subst (HasOldTags (seen w).next) c.origins.ensures.row (origin-tags (seen w).next (rows w.places) to c.origins.new.origins w.sound.tags))
+          (subst (λ row. HasOneHome (put_row (rows w.places) to row)) c.origins.ensures.row (origin-homes (rows w.places) to c.origins.new.origins w.sound.homes)));
     }
 
 pub returns-in-Some-clause-world : goal.returns-in-Some-clause-world
@@ -68,7 +68,7 @@ returns-in-Some-clause-world c =
     let w = c.args.self.now in
     let s = parts w in
     let to = w.size.contexts + c.in-Some.j in
-    ap (λ rows. world_of (record s { rows = rows; rights = rights c.take.new.self })) (c.take.ensures.rows ∙ ap (put_row (rows w.places) to) c.origins-origins.ensures.row)
+    ap (λ rows. world_of (record s { rows = rows; rights = rights c.take.new.self })) (c.take.ensures.rows ∙ ap (put_row (rows w.places) to) c.origins.ensures.row)
     ∙ filled-world s w.sound w.placed w.placed_groups c.args.g c.in-Some.j (sym c.place.ensures.place ∙ c.in-Some.is) c.args.spec.now c.args.c c.place-from.result c.place-from.ensures.context
     (rights c.take.new.self) (others_kept w to _ _ c.take.ensures.rights)
 
@@ -82,7 +82,7 @@ returns-in-Some-clause-store c =
     let w = c.args.self.now in
     let s = parts w in
     let here = ranges-here s w.sound c.args.c c.place-from.result c.place-from.ensures.found in
-    let less = fill-less (rows w.places) (rights w.places) c.origins-origins.result.pages (pieces (seen w) c.args.c c.args.spec.now) (omega (arith, c.origins-origins.ensures.steps, here)) in
+    let less = fill-less (rows w.places) (rights w.places) c.origins.new.origins.pages (pieces (seen w) c.args.c c.args.spec.now) (omega (arith, c.origins.ensures.steps, here)) in
     let empty = no_pages-new s w.sound.own c.args.g c.in-Some.j (sym c.place.ensures.place ∙ c.in-Some.is) c.requires.empty in
     record { frames = c.take.ensures.free; pool = c.take.ensures.pool; nodes = omega (arith, c.take.ensures.nodes empty, less.0) }
 
@@ -92,7 +92,7 @@ returns-in-Some-clause-steps c =
     let w = c.args.self.now in
     let s = parts w in
     let here = ranges-here s w.sound c.args.c c.place-from.result c.place-from.ensures.found in
-    let less = fill-less (rows w.places) (rights w.places) c.origins-origins.result.pages (pieces (seen w) c.args.c c.args.spec.now) (omega (arith, c.origins-origins.ensures.steps, here)) in
+    let less = fill-less (rows w.places) (rights w.places) c.origins.new.origins.pages (pieces (seen w) c.args.c c.args.spec.now) (omega (arith, c.origins.ensures.steps, here)) in
     let empty = no_pages-new s w.sound.own c.args.g c.in-Some.j (sym c.place.ensures.place ∙ c.in-Some.is) c.requires.empty in
     omega (arith, c.take.ensures.cost empty, less.1)
 

@@ -1,4 +1,4 @@
-use Rattle.std.proofs.Common.{◌∙◌, ℕ, ◌<◌, inl, inr, arith, length-set, refl, subst, sym, Option}
+use Rattle.std.proofs.Common.{◌∙◌, ℕ, ◌<◌, ap, inl, inr, arith, length, length-set, subst, sym, List, Option}
 use Rattle.std.proofs.lemmas.Bool.{cases_lt}
 use Rattle.lwc_types.specs.declared.key.Key.TheVariants.{Slot}
 use Rattle.cow_space.specs.declared.page_runs.Origin.{Origin}
@@ -10,7 +10,12 @@ use Rattle.lazy_world.proofs.PastLemmas.{no_origin, slot-later, slot-more}
 use Rattle.lazy_world.proofs.world.PlacedWorld.slot_origins.Goals as goal
 
 pub slots-init : goal.slots-init
-slots-init c = record { below = omega arith; long = refl; each = λ m below. absurd (omega (arith, below)); later = λ m from. no_origin 64 m }
+slots-init c = record {
+  below = omega arith;
+  long = ap length c.requires.none;
+  each = λ m below. absurd (omega (arith, below));
+  later = λ m from. ap (λ (xs : List (Option Origin)). slot_origin xs m) c.requires.none ∙ no_origin 64 m;
+}
 
 pub slots-preserved : goal.slots-preserved
 slots-preserved c =
@@ -32,8 +37,11 @@ slots-preserved c =
       later = λ m past. slot-later c.slots.origins n m c.slot_origin.result past ∙ c.slots.invariant.later m (omega (arith, past, lowest.after));
     }
 
-pub returns : goal.returns
-returns c = λ m low.
+pub returns-clause-long : goal.returns-clause-long
+returns-clause-long c = c.slots.invariant.long
+
+pub returns-clause-gives : goal.returns-clause-gives
+returns-clause-gives c = λ m low.
     let w = c.args.self.now in
     let gives : ℕ → Option Origin → Type 0 = λ k. Gives (count w.places) (rows w.places) c.args.to (Slot k)
     (transferred_row (seen w) c.args.transfer c.args.spec.now (rows w.places c.args.from) (rows w.places c.args.to) (Slot k)) in

@@ -17,14 +17,14 @@ use Rattle.lazy_world.specs.Origins.{gift_at}
 use Rattle.lazy_world.specs.Worlds.{parts}
 use Rattle.range_map.proofs.Built.{or_none}
 use Rattle.lazy_world.proofs.CloneOrigins.{segment_given, segment_pushed, page_run_of}
-use Rattle.lazy_world.proofs.world.PlacedWorld.clone_runs.Goals as goal
+use Rattle.lazy_world.proofs.world.PlacedWorld.list_clone_runs.Goals as goal
 
 pub loop-segment-init : goal.loop-segment-init
 unfolding state_at
 loop-segment-init c = record {
-  gifts = λ q. c.item_runs-page_runs.ensures.gifts q ∙ sym (or_none (item_gift c.args.from (mode c.args.spec.now (Page q))));
-  few = omega (arith, c.item_runs-page_runs.ensures.few);
-  given = λ to apart low. c.item_runs-page_runs.ensures.given (count c.args.self.now.places) to c.requires.from apart;
+  gifts = λ q. c.list_item_runs.ensures.gifts q ∙ sym (or_none (item_gift c.args.from (mode c.args.spec.now (Page q))));
+  few = omega (arith, c.list_item_runs.ensures.few);
+  given = λ to apart low. c.list_item_runs.ensures.given (count c.args.self.now.places) to c.requires.from apart;
 }
 
 pub push-requires : goal.push-requires

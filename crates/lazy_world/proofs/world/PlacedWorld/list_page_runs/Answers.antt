@@ -13,7 +13,7 @@ use Rattle.lazy_world.specs.Worlds.{transferred}
 use Rattle.lazy_world.proofs.FitLemmas.{fits}
 use Rattle.lazy_world.proofs.OriginLemmas.{HasGiven, given_kept, given_more, none_given}
 use Rattle.lazy_world.proofs.TurnLemmas.{few-turns, more-turns, most-turns, no-turns}
-use Rattle.lazy_world.proofs.world.PlacedWorld.runs_of_pages.Goals as goal
+use Rattle.lazy_world.proofs.world.PlacedWorld.list_page_runs.Goals as goal
 
 pub pages-init : goal.pages-init
 pages-init c =
@@ -21,9 +21,9 @@ pages-init c =
     record {
       inside = omega arith;
       modes = c.empty-modes.ensures c.args.spec.now;
-      has = subst (HasGiven (count w.places) c.args.to (fits w c.args.transfer c.args.spec.now c.args.from c.args.to) 0) (sym c.new-page_runs.ensures) (none_given (count w.places) c.args.to (fits w c.args.transfer c.args.spec.now c.args.from c.args.to));
-      few = λ _. omega (arith, ap length c.new-page_runs.ensures, no-turns (states_of (rows w.places c.args.from) (rights w.places c.args.from)) c.args.spec.now);
-      most = omega (arith, ap length c.new-page_runs.ensures);
+      has = subst (HasGiven (count w.places) c.args.to (fits w c.args.transfer c.args.spec.now c.args.from c.args.to) 0) (sym c.requires.none) (none_given (count w.places) c.args.to (fits w c.args.transfer c.args.spec.now c.args.from c.args.to));
+      few = λ _. omega (arith, ap length c.requires.none, no-turns (states_of (rows w.places c.args.from) (rights w.places c.args.from)) c.args.spec.now);
+      most = omega (arith, ap length c.requires.none);
     }
 
 pub push-requires : goal.push-requires

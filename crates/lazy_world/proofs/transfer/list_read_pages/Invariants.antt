@@ -3,7 +3,7 @@ use Rattle.lwc_base.specs.Modes.{mode}
 use Rattle.lwc_types.specs.declared.key.Key.TheVariants.{Page}
 use Rattle.cow_space.specs.Changes.{have_page}
 use Rattle.lazy_world.specs.Transfers.{is_read}
-use Rattle.lazy_world.proofs.transfer.read_pages.Given as goal
+use Rattle.lazy_world.proofs.transfer.list_read_pages.Given as goal
 
 abbrev pub invariant-loop-item : goal.invariant-loop-item
 invariant-loop-item l = record {

@@ -13,14 +13,14 @@ use Rattle.lazy_world.specs.Clones.{item_gift}
 use Rattle.lazy_world.specs.Transfers.{CanGet}
 use Rattle.lazy_world.specs.Origins.{gift_at}
 use Rattle.lazy_world.proofs.CloneOrigins.{item_given, item_passed, item_pushed}
-use Rattle.lazy_world.proofs.cloning.item_runs.Goals as goal
+use Rattle.lazy_world.proofs.cloning.list_item_runs.Goals as goal
 
 pub loop-item-init : goal.loop-item-init
 unfolding mode
 loop-item-init c = record {
-  gifts = λ q. ap (λ (xs : List PageRun). gift_at xs q) c.new-page_runs.ensures;
-  few = omega (arith, ap length c.new-page_runs.ensures);
-  given = λ count to inside apart. subst (All (IsPageRun count to)) (sym c.new-page_runs.ensures) (All-nil (IsPageRun count to));
+  gifts = λ q. ap (λ (xs : List PageRun). gift_at xs q) c.requires.none;
+  few = omega (arith, ap length c.requires.none);
+  given = λ count to inside apart. subst (All (IsPageRun count to)) (sym c.requires.none) (All-nil (IsPageRun count to));
 }
 
 pub push-requires : goal.push-requires

@@ -7,7 +7,7 @@ use Rattle.lazy_world.specs.Seen.{count, rights, rows}
 use Rattle.lazy_world.proofs.FitLemmas.{fits}
 use Rattle.lazy_world.proofs.OriginLemmas.{HasGiven}
 use Rattle.lazy_world.specs.Transfers.{IsModeRun}
-use Rattle.lazy_world.proofs.world.PlacedWorld.runs_of_pages.Given as goal
+use Rattle.lazy_world.proofs.world.PlacedWorld.list_page_runs.Given as goal
 
 abbrev pub invariant-pages : goal.invariant-pages
 invariant-pages l = record {

@@ -8,13 +8,13 @@ use Rattle.lwc_types.specs.declared.range.Range.{Range}
 use Rattle.cow_space.specs.Changes.{have_page}
 use Rattle.lazy_world.specs.Transfers.{is_read}
 use Rattle.lazy_world.proofs.CloneOrigins.{read_passed, read_pushed}
-use Rattle.lazy_world.proofs.transfer.read_pages.Goals as goal
+use Rattle.lazy_world.proofs.transfer.list_read_pages.Goals as goal
 
 pub loop-item-init : goal.loop-item-init
 unfolding mode
 loop-item-init c = record {
-  reads = λ q. ap (λ (xs : List Range). have_page xs q) c.new-pages.ensures;
-  few = omega (arith, ap length c.new-pages.ensures);
+  reads = λ q. ap (λ (xs : List Range). have_page xs q) c.requires.none;
+  few = omega (arith, ap length c.requires.none);
 }
 
 pub push-requires : goal.push-requires

@@ -9,7 +9,7 @@ use Rattle.lazy_world.specs.Clones.{item_gift, state_gift}
 use Rattle.lazy_world.specs.Seen.{count}
 use Rattle.lazy_world.specs.Origins.{gift_at}
 use Rattle.lazy_world.specs.Worlds.{parts}
-use Rattle.lazy_world.proofs.world.PlacedWorld.clone_runs.Given as goal
+use Rattle.lazy_world.proofs.world.PlacedWorld.list_clone_runs.Given as goal
 
 abbrev pub invariant-loop-segment : goal.invariant-loop-segment
 invariant-loop-segment l = record {

@@ -5,7 +5,7 @@ use Rattle.lwc_types.specs.declared.key.Key.TheVariants.{Page}
 use Rattle.cow_space.specs.Changes.{IsPageRun}
 use Rattle.lazy_world.specs.Clones.{item_gift}
 use Rattle.lazy_world.specs.Origins.{gift_at}
-use Rattle.lazy_world.proofs.cloning.item_runs.Given as goal
+use Rattle.lazy_world.proofs.cloning.list_item_runs.Given as goal
 
 abbrev pub invariant-loop-item : goal.invariant-loop-item
 invariant-loop-item l = record {
