@@ -70,7 +70,7 @@ use Rattle.lwcrun_core.specs.Headlines.{AreRequestsIn, Headline, IsFitting, IsLi
 use Rattle.lwcrun_inputs.specs.Ends.{End, Outside, Ended, IsUnwritten, NothingFailed, WriteFailed}
 use Rattle.lwcrun_inputs.specs.Ends as ends
 use Rattle.lwc_text.specs.Report.{report_of_schedule, stream_text}
-use Rattle.lwcrun_core.specs.Works.{AnyImage, BoundedRequests, FileKind, FittingImage, IsText, Named, Parts, Requests, Schedule, ScriptFile, Source, VaultFile, Work, inputs_from, inputs_of, plan_by, plan_of, read_by, read_file, read_files, requests_named, row_of, scheduled}
+use Rattle.lwcrun_core.specs.Works.{AnyImage, BoundedRequests, FileKind, FittingImage, IsText, Named, Parts, Requests, Schedule, ScriptFile, Source, VaultFile, Work, inputs_from, inputs_of, plan_by, plan_of, read_by, read_file, read_files, requests_named, task_of, scheduled}
 use Rattle.lwcrun_core.specs.Works as works
 use Rattle.lwcrun_inputs.specs.Inputs.{bounded, bounded_requests_of, fitted, fitting_image_of, image_of, or_rejected, requests_of, schedule_of, serve_steps, source_of, then_tested, worker_count}
 use Rattle.lwcrun_core.specs.Beside.{fitted_beside, fitting_vault_for, script_of, vault_for}
@@ -174,7 +174,7 @@ reads_files files ((kind, name) ∷ named) settings work parts q h =
 
 reads_names : (files : FileContents) (command : Command) (q : List ℕ) → Reads files (plan_of command) q → Names command q
 unfolding plan_by
-reads_names files command q h = reads_files files (row_of command).files (row_of command).settings ((row_of command).work (row_of command).settings) _ q h
+reads_names files command q h = reads_files files (task_of command).files (task_of command).settings ((task_of command).work (task_of command).settings) _ q h
 
 are_known : (files : FileContents) (command : Command) (bytes : List ℕ → List ℕ) → AreContents files command bytes → AreKnown files (plan_of command) bytes
 are_known files command bytes h q reads = h q (reads_names files command q reads)

@@ -6,7 +6,7 @@ use Rattle.lwcrun_inputs.specs.declared.status.ExitStatus.{ExitStatus}
 use Rattle.lwcrun_inputs.specs.declared.status.ExitStatus.TheVariants as statuses
 use Rattle.lwcrun_inputs.specs.Ends.{End, Outside, Ended, FetchFailed, IsUnwritten, WriteFailed}
 use Rattle.lwcrun_inputs.specs.Ends as ends
-use Rattle.lwcrun_core.specs.Works.{IsText, Named, Work, plan_of, row_of}
+use Rattle.lwcrun_core.specs.Works.{IsText, Named, Work, plan_of, task_of}
 use Rattle.lwcrun_line.specs.Lines.{Command, IsStream}
 use Rattle.lwcrun_inputs.specs.Plans.{AreFetchesOf, FileContents, outcome}
 use Rattle.lwcrun_inputs.specs.Reading.{Fetched}
@@ -43,7 +43,7 @@ IsNamed (file ∷ files) q = (q ≡ file.1) ⊎ IsNamed files q
 
 -- the files that a command names
 abbrev pub Names : Command → List ℕ → Type 0
-Names command q = IsNamed (row_of command).files q
+Names command q = IsNamed (task_of command).files q
 
 -- a call fetched what its command's plan comes to, and nothing where the line is not accepted
 abbrev pub FetchesPlan : Option Command → FilesView → FilesView → Type 0

@@ -84,7 +84,7 @@ pub record Parts : Type 0 where
   pub requests : List (List ℕ)
   pub script : List debug.Command
 
--- an image of nothing
+-- an image of nothing, which no task reads a schedule by: each reads an image first
 abbrev pub blank : Image
 blank = record { form = One; text = []; uid = 0; pages = []; files = []; slots = []; entries = [] }
 
@@ -143,51 +143,51 @@ abbrev pub inputs_from : Settings → Parts → Inputs
 inputs_from settings parts =
     record { image = parts.image; vault = parts.vault; requests = parts.requests; settings = settings }
 
--- a command's row: the files that it reads in order, the settings that these are tested with, and what is done with
+-- a command's task: the files that it reads in order, the settings that these are tested with, and what is done with
 -- them
-pub record Row : Type 0 where
+pub record Task : Type 0 where
   pub files : Named
   pub settings : Settings
   pub work : Settings → Parts → Work
 
--- a row of these
-abbrev pub new_row : Named → Settings → (Settings → Parts → Work) → Row
-new_row files settings work = record { files = files; settings = settings; work = work }
+-- a task of these
+abbrev pub new_task : Named → Settings → (Settings → Parts → Work) → Task
+new_task files settings work = record { files = files; settings = settings; work = work }
 
 -- the steps of a schedule, plain or under traps
-abbrev pub replay_row : (Inputs → List ℕ → Work) → List ℕ → List ℕ → Option (List ℕ) → Settings → Row
-replay_row work image schedule requests settings =
-    new_row ((FittingImage, image) ∷ (Schedule MOST_STEPS, schedule) ∷ requests_named requests) settings
+abbrev pub replay_task : (Inputs → List ℕ → Work) → List ℕ → List ℕ → Option (List ℕ) → Settings → Task
+replay_task work image schedule requests settings =
+    new_task ((FittingImage, image) ∷ (Schedule MOST_STEPS, schedule) ∷ requests_named requests) settings
     (λ s p. work (inputs_from s p) p.steps)
 
 -- a serve or a stream
-abbrev pub server_row : (Inputs → Work) → List ℕ → List ℕ → Settings → Row
-server_row work image requests settings =
-    new_row ((FittingImage, image) ∷ (BoundedRequests, requests) ∷ []) settings (λ s p. work (inputs_from s p))
+abbrev pub server_task : (Inputs → Work) → List ℕ → List ℕ → Settings → Task
+server_task work image requests settings =
+    new_task ((FittingImage, image) ∷ (BoundedRequests, requests) ∷ []) settings (λ s p. work (inputs_from s p))
 
 -- the table of what commands read and do
-abbrev pub row_of : Command → Row
-row_of (commands.Replay image schedule requests settings) = replay_row Replaying image schedule requests settings
-row_of (commands.Run image settings) =
-    new_row ((FittingImage, image) ∷ []) settings (λ s p. Running (inputs_from s p))
-row_of (commands.Serve image requests settings) = server_row Running image requests settings
-row_of (commands.Asm source) = new_row ((Source, source) ∷ []) default_settings (λ s p. Spelling p.image)
-row_of (commands.Dis image) = new_row ((AnyImage, image) ∷ []) default_settings (λ s p. Disassembling p.image)
-row_of (commands.Gen number) = new_row [] default_settings (λ s p. Generating number)
-row_of (commands.Lift image) = new_row ((AnyImage, image) ∷ []) default_settings (λ s p. Spelling (lifted p.image))
-row_of (commands.Monitor image schedule settings) = replay_row Monitoring image schedule None settings
-row_of (commands.Vault image vault schedule settings) =
-    new_row ((AnyImage, image) ∷ (VaultFile, vault) ∷ (Schedule MOST_STEPS, schedule) ∷ []) settings
+abbrev pub task_of : Command → Task
+task_of (commands.Replay image schedule requests settings) = replay_task Replaying image schedule requests settings
+task_of (commands.Run image settings) =
+    new_task ((FittingImage, image) ∷ []) settings (λ s p. Running (inputs_from s p))
+task_of (commands.Serve image requests settings) = server_task Running image requests settings
+task_of (commands.Asm source) = new_task ((Source, source) ∷ []) default_settings (λ s p. Spelling p.image)
+task_of (commands.Dis image) = new_task ((AnyImage, image) ∷ []) default_settings (λ s p. Disassembling p.image)
+task_of (commands.Gen number) = new_task [] default_settings (λ s p. Generating number)
+task_of (commands.Lift image) = new_task ((AnyImage, image) ∷ []) default_settings (λ s p. Spelling (lifted p.image))
+task_of (commands.Monitor image schedule settings) = replay_task Monitoring image schedule None settings
+task_of (commands.Vault image vault schedule settings) =
+    new_task ((AnyImage, image) ∷ (VaultFile, vault) ∷ (Schedule MOST_STEPS, schedule) ∷ []) settings
     (λ s p. Replaying (inputs_from s p) p.steps)
-row_of (commands.Debug image schedule script settings) =
-    new_row ((FittingImage, image) ∷ (Schedule MOST_DEBUGGED_STEPS, schedule) ∷ (ScriptFile, script) ∷ []) settings
+task_of (commands.Debug image schedule script settings) =
+    new_task ((FittingImage, image) ∷ (Schedule MOST_DEBUGGED_STEPS, schedule) ∷ (ScriptFile, script) ∷ []) settings
     (λ s p. Debugging (inputs_from s p) p.steps p.script)
-row_of (commands.Stream image requests settings) = server_row Streaming image requests settings
+task_of (commands.Stream image requests settings) = server_task Streaming image requests settings
 
--- what is done by a row
-unfoldable pub plan_by : Row → Plan Rejection Work
-plan_by row = read_files row.files row.settings (row.work row.settings) nothing_read
+-- what is done by a task
+unfoldable pub plan_by : Task → Plan Rejection Work
+plan_by task = read_files task.files task.settings (task.work task.settings) nothing_read
 
 -- what a command does
 abbrev pub plan_of : Command → Plan Rejection Work
-plan_of command = plan_by (row_of command)
+plan_of command = plan_by (task_of command)

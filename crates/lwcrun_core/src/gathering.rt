@@ -8,7 +8,7 @@ ghost use Rattle.lwc_types.specs.declared.limits.TheConstants.{MOST_STEPS};
 ghost use Rattle.lwc_vault.specs.Secrets.{beside};
 ghost use Rattle.lwcrun_core.specs.Works as works;
 ghost use Rattle.lwcrun_core.specs.Works.{Parts, Work, inputs_of, plan_by, plan_of, read_files};
-ghost use Rattle.lwcrun_core.specs.Works.{replay_row, requests_named, scheduled, server_row};
+ghost use Rattle.lwcrun_core.specs.Works.{replay_task, requests_named, scheduled, server_task};
 ghost use Rattle.lwcrun_line.specs.Lines as commands;
 ghost use Rattle.lwcrun_line.specs.Lines.{AreReplaySettings, AreRunSettings, AreServeSettings};
 ghost use Rattle.lwcrun_inputs.specs.Inputs.{serve_steps};
@@ -41,10 +41,10 @@ pub fn replay_files<'a, F: Files>(
 ) -> Result<(Image, Schedule, Requests), Ending<'a>>
     requires settings { AreReplaySettings requests settings.now }
     ensures gathers { (work : Inputs → List ℕ → Work) → Gathers (F.seen files.old) (F.seen files.new)
-        (plan_by (replay_row work image.now schedule.now (option_map (λ s. s.now) requests.entry) settings.now))
+        (plan_by (replay_task work image.now schedule.now (option_map (λ s. s.now) requests.entry) settings.now))
         (found (λ read. work (inputs_of read.0 read.2 settings.now) read.1) result) }
     ensures fetches { (work : Inputs → List ℕ → Work) → Fetched (AreFetchesOf (F.seen files.old).contents
-        (plan_by (replay_row work image.now schedule.now (option_map (λ s. s.now) requests.entry) settings.now)))
+        (plan_by (replay_task work image.now schedule.now (option_map (λ s. s.now) requests.entry) settings.now)))
         (F.seen files.old).fetches (F.seen files.new).fetches }
     ensures image { IfOk result (λ read. IsImage read.0) }
     ensures fits { IfOk result (λ read. length read.0.pages ≤ settings.now.frames) }
@@ -93,11 +93,11 @@ pub fn server_files<'a, F: Files>(
 ) -> Result<(Image, Requests), Ending<'a>>
     requires settings { AreServeSettings settings.now }
     ensures gathers { (work : Inputs → Work) → Gathers (F.seen files.old) (F.seen files.new)
-        (plan_by (server_row work image.now requests.now settings.now))
+        (plan_by (server_task work image.now requests.now settings.now))
         (found (λ read. work (inputs_of read.0 read.1 settings.now)) result) }
     ensures fetches { (work : Inputs → Work) → Fetched
         (AreFetchesOf (F.seen files.old).contents
-        (plan_by (server_row work image.now requests.now settings.now)))
+        (plan_by (server_task work image.now requests.now settings.now)))
         (F.seen files.old).fetches (F.seen files.new).fetches }
     ensures image { IfOk result (λ read. IsImage read.0) }
     ensures fits { IfOk result (λ read. length read.0.pages ≤ settings.now.frames) }

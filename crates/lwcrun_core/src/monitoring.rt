@@ -1,6 +1,6 @@
 ghost use Rattle.std.specs.Prelude.{None};
 ghost use Rattle.lwcrun_inputs.specs.Ends.{Ended};
-ghost use Rattle.lwcrun_core.specs.Works.{IsText, plan_by, replay_row};
+ghost use Rattle.lwcrun_core.specs.Works.{IsText, plan_by, replay_task};
 ghost use Rattle.lwcrun_core.specs.Works as works;
 ghost use Rattle.lwcrun_line.specs.Lines.{AreRunSettings};
 ghost use Rattle.lwcrun_inputs.specs.Plans.{AreFetchesOf};
@@ -29,9 +29,9 @@ pub fn monitor<'a, F: Files, O: Sink>(
     requires settings { AreRunSettings settings.now }
     ensures ended { Ended IsText
         (outside (F.seen files.old) (F.seen files.new) (O.seen out.old) (O.seen out.new))
-        (plan_by (replay_row works.Monitoring image.now schedule.now None settings.now)) (end_of result) }
+        (plan_by (replay_task works.Monitoring image.now schedule.now None settings.now)) (end_of result) }
     ensures fetches { Fetched (AreFetchesOf (F.seen files.old).contents
-        (plan_by (replay_row works.Monitoring image.now schedule.now None settings.now)))
+        (plan_by (replay_task works.Monitoring image.now schedule.now None settings.now)))
         (F.seen files.old).fetches (F.seen files.new).fetches }
 {
     match replay_files(alloc, files, image, schedule, None, settings) {

@@ -4,7 +4,7 @@ ghost use Rattle.lwc_types.specs.declared.limits.TheConstants.{MOST_STEPS};
 ghost use Rattle.kernel_core.specs.Kernel.{CanOpen, opened};
 ghost use Rattle.kernel_core.specs.Start.{thread_count, threads_for};
 ghost use Rattle.lwcrun_inputs.specs.Ends.{Ended};
-ghost use Rattle.lwcrun_core.specs.Works.{IsText, inputs_of, plan_by, replay_row};
+ghost use Rattle.lwcrun_core.specs.Works.{IsText, inputs_of, plan_by, replay_task};
 ghost use Rattle.lwcrun_core.specs.Works as works;
 ghost use Rattle.lwc_text.specs.Report.{report_of_schedule};
 ghost use Rattle.lwcrun_line.specs.Lines.{AreReplaySettings};
@@ -37,10 +37,10 @@ pub fn replay<'a, F: Files, O: Sink>(
     requires settings { AreReplaySettings requests settings.now }
     ensures ended { Ended IsText
         (outside (F.seen files.old) (F.seen files.new) (O.seen out.old) (O.seen out.new))
-        (plan_by (replay_row works.Replaying image.now schedule.now (option_map (λ s. s.now) requests.entry)
+        (plan_by (replay_task works.Replaying image.now schedule.now (option_map (λ s. s.now) requests.entry)
         settings.now)) (end_of result) }
     ensures fetches { Fetched (AreFetchesOf (F.seen files.old).contents
-        (plan_by (replay_row works.Replaying image.now schedule.now (option_map (λ s. s.now) requests.entry)
+        (plan_by (replay_task works.Replaying image.now schedule.now (option_map (λ s. s.now) requests.entry)
         settings.now)))
         (F.seen files.old).fetches (F.seen files.new).fetches }
 {

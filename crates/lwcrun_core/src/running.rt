@@ -8,7 +8,7 @@ ghost use Rattle.kernel_core.specs.Settings.{IsSettings};
 ghost use Rattle.kernel_core.specs.Start.{start};
 ghost use Rattle.lwcrun_inputs.specs.Ends.{Ended};
 ghost use Rattle.lwc_io.specs.Outside.{FilesView};
-ghost use Rattle.lwcrun_core.specs.Works.{IsText, inputs_of, plan_by, plan_of, server_row};
+ghost use Rattle.lwcrun_core.specs.Works.{IsText, inputs_of, plan_by, plan_of, server_task};
 ghost use Rattle.lwcrun_line.specs.Lines as commands;
 ghost use Rattle.lwcrun_core.specs.Works as works;
 ghost use Rattle.lwcrun_line.specs.Lines.{AreRunSettings, AreServeSettings};
@@ -79,10 +79,10 @@ pub fn serve<'a, R: Threads + Wait + Sync, F: Files, O: Sink, G: Gate>(
     requires settings { AreServeSettings settings.now }
     ensures ended { Ended IsText
         (outside (F.seen files.old) (F.seen files.new) (O.seen out.old) (O.seen out.new))
-        (plan_by (server_row works.Running image.now requests.now settings.now)) (end_of result) }
+        (plan_by (server_task works.Running image.now requests.now settings.now)) (end_of result) }
     ensures fetches { Fetched
         (AreFetchesOf (F.seen files.old).contents
-        (plan_by (server_row works.Running image.now requests.now settings.now)))
+        (plan_by (server_task works.Running image.now requests.now settings.now)))
         (F.seen files.old).fetches (F.seen files.new).fetches }
 {
     match server_files(alloc, files, image, requests, settings) {

@@ -11,7 +11,7 @@ ghost use Rattle.lwc_stream.specs.Replies.{IsWritten};
 ghost use Rattle.lwc_text.specs.Report.{replies_text};
 ghost use Rattle.lwcrun_core.specs.StreamEnds.{StreamEnded};
 ghost use Rattle.lwcrun_core.specs.Works as works;
-ghost use Rattle.lwcrun_core.specs.Works.{inputs_of, plan_by, server_row};
+ghost use Rattle.lwcrun_core.specs.Works.{inputs_of, plan_by, server_task};
 ghost use Rattle.lwcrun_line.specs.Lines.{AreServeSettings};
 ghost use Rattle.lwcrun_inputs.specs.Plans as plans;
 ghost use Rattle.lwcrun_inputs.specs.Plans.{AreFetchesOf};
@@ -49,10 +49,10 @@ pub fn stream<'a, R: Threads + Wait + Sync, F: Files, O: Sink, G: Gate>(
     requires settings { AreServeSettings settings.now }
     ensures ended { StreamEnded
         (outside (F.seen files.old) (F.seen files.new) (O.seen out.old) (O.seen out.new))
-        (plan_by (server_row works.Streaming image.now requests.now settings.now)) (end_of result) }
+        (plan_by (server_task works.Streaming image.now requests.now settings.now)) (end_of result) }
     ensures fetches { Fetched
         (AreFetchesOf (F.seen files.old).contents
-        (plan_by (server_row works.Streaming image.now requests.now settings.now)))
+        (plan_by (server_task works.Streaming image.now requests.now settings.now)))
         (F.seen files.old).fetches (F.seen files.new).fetches }
 {
     match server_files(alloc, files, image, requests, settings) {

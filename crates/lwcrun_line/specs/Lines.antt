@@ -107,7 +107,7 @@ places_in (Some first) (Some second) None = 2
 places_in (Some first) None None = 1
 places_in first second third = 0
 
--- the command of a mode with these words behind it
+-- the command of a mode with these words behind it; a row says how many there are, and the others are not used
 abbrev pub command_with : Mode → List ℕ → List ℕ → List ℕ → Settings → ℕ → Command
 command_with modes.Replay first second third settings number = Replay first second None settings
 command_with modes.ReplayServe first second third settings number = Replay first second (Some third) settings

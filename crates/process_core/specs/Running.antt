@@ -65,21 +65,22 @@ pub record MakesTurn (process : Lock Opened) (old new : Carried) : Type 0 where
   pub later : has_ended old.last.status ≡ false → old.held.noted < length new.held.seen
   pub noted : old.held.noted ≤ new.held.noted
 
--- a thread that a turn left like this stays inside: the turn is counted, the stay may have more, and the turn has
--- neither ended the thread nor finished a request
+-- a thread stays inside after a turn that left it like this: the turn is counted, the stay may have more, and the turn
+-- has neither ended the thread nor finished a request
 pub record StaysInside (old new : Staying) (last : Turn) : Type 0 where
   pub counted : new.made ≡ old.made + 1
   pub few : new.made < old.turns
   pub going : has_ended last.status ≡ false
   pub unfinished : last.finished ≡ None
 
--- a stay after a turn that left the thread like this: its proposals are what they were
+-- a stay after a turn that left the thread like this: its proposals are what they were, and the thread is outside, with
+-- no turn made of the next stay, or it stays inside
 pub record NotesTurn (old new : Staying) (last : Turn) : Type 0 where
   pub kept : new ≡ record old { made = new.made }
   pub inside : 0 < new.made → StaysInside old new last
 
--- turns of a pass, one after another, none where its last one had ended its thread, with what counts them before and
--- after
+-- a pass and what counts its turns, before and after turns that were made one after another: none, or such turns and
+-- one more of a thread that had not ended
 pub data Carries {T : Type 0} (counts : T → Turn → T → Type 0) (process : Lock Opened) (p : Carried) (x : T) :
     Carried → T → Type 0 where
   Still : Carries counts process p x p x

@@ -68,8 +68,9 @@ pub struct Carrier<W: World, T: CountsTurns> {
 
 /// Carries a thread to its end. For each turn it first advances the thread's registers, outside the lock, unless the
 /// thread is alone; then it comes to the gate; then it makes the turn with that advance as its proposal, and counts it.
-/// Where the gate does not wait, a few turns whose advances rest on the text alone are made in one stay inside the
-/// lock, up to one that finishes a request. It may wait, and takes no memory.
+/// Where the gate does not wait, up to 32 turns are made in one stay inside the lock, and none behind one that finishes
+/// a request: those proposed before, and then others while the thread is alone or a load, a store or the halt seems
+/// near. It may wait, and takes no memory.
 pub fn carry<R: Wait, W: World, G: Gate, T: CountsTurns>(
     rt: &R,
     process: &Process<W>,

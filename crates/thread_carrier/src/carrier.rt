@@ -15,8 +15,7 @@ pub type Carrier<W> = process_core::Carrier<W, u64>;
 
 /// Carries a thread to its end. For each turn it first advances the thread's registers, outside the lock, unless the
 /// thread is alone; then it comes to the gate; then it makes the turn with that advance as its proposal. Where the gate
-/// does not wait, a few turns whose advances rest on the text alone are made in one stay inside the lock. It may wait,
-/// and takes no memory.
+/// does not wait, up to 32 turns are made in one stay inside the lock. It may wait, and takes no memory.
 pub fn carry<R: Wait, W: World, G: Gate>(
     rt: &R,
     process: &Process<W>,
