@@ -20,7 +20,7 @@ LIBRARIES = os.path.join(HOME, "out", "rlib")
 # The state of the checkout when the launcher built the program.
 BUILT = os.path.join(LIBRARIES, "built")
 # How everything looked when the launcher last went through all folders and found the program made of what was there.
-SEEN = os.path.join(LIBRARIES, "seen")
+SEEN = os.path.join(HOME, "out", "seen")
 
 # How a file looks: its name, when it was written and changed last, and its size.
 Look = tuple[str, int, int, int]
