@@ -55,9 +55,11 @@ def item(kind: int, mode: int, start: int, end: int) -> str:
     return struct.pack("<IIII", kind, mode, start, end).hex()
 
 
-def among(ranges: int, body: str) -> str:
-    """A source that goes on doing this without end, in a context of so many ranges of one page."""
-    pages = [f".page 0 {item(0, 2, 400, 401)}\n", *(f".page {2 * page} -\n" for page in range(1, ranges))]
+def among(ranges: int, body: str, items: int = 1) -> str:
+    """A source that goes on doing this without end, in a context of so many ranges of one page, of which the first has
+    so many items that each leave a page out."""
+    left_out = "".join(item(0, 2, page, page + 1) for page in range(400, 400 + 2 * items, 2))
+    pages = [f".page 0 {left_out}\n", *(f".page {2 * page} -\n" for page in range(1, ranges))]
     return f".entry 0\nloop: {body}JMP loop\n" + "".join(pages)
 
 
@@ -148,6 +150,8 @@ class Kinds:
             yield kind, self.step(self.image("among", among(63, body)), DEAR)
         alone = among(1, AMONG_63["a create or close with an item among 63 ranges"])
         yield "a create or close with an item", self.step(self.image("item", alone), DEAR)
+        with_32 = among(63, "LI r1, 0\nLI r2, 32\nSYS 16\nMOV r1, r0\nSYS 2\n", items=32)
+        yield "a create or close with 32 items among 63 ranges", self.step(self.image("items", with_32), DEAR)
         # One range of many pages: a walk from page to page is dear here.
         many = "".join(f".page {page} -\n" for page in range(1, 1024))
         mapping = among(1, AMONG_63["a map of one page among 63 ranges"]) + many
