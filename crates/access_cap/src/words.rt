@@ -7,12 +7,12 @@ ghost use Rattle.lwc_types.specs.declared.key.Key.{Key};
 use lwc_base::{Item, Kind};
 
 /// The word of the 64 numbers from 64 i on: a bit for each that is below `end`.
-pub fn low_word(end: u32, i: usize) -> u64
-    requires { i < 256 }
-    ensures word { result ≡ spec.full_word end i }
-    ensures has { (b : ℕ) → b < 64 → has_bit result b ≡ nat_lt (64 * i + b) end }
+pub fn low_word(end: u32, index: usize) -> u64
+    requires { index < 256 }
+    ensures word { result ≡ spec.full_word end index }
+    ensures has { (b : ℕ) → b < 64 → has_bit result b ≡ nat_lt (64 * index + b) end }
 {
-    let count = end.saturating_sub(64 * i as u32).min(64);
+    let count = end.saturating_sub(64 * index as u32).min(64);
     if count == 64 {
         u64::MAX
     } else {
@@ -21,27 +21,27 @@ pub fn low_word(end: u32, i: usize) -> u64
 }
 
 /// The word of the 64 keys of a kind from number 64 i on: a bit for each that an item names.
-fn item_word(item: &Item, kind: Kind, i: usize) -> u64
-    requires { i < 256 }
-    ensures { (k : Key) (b : ℕ) → kind_of k ≡ kind → number_of k ≡ 64 * i + b → b < 64 →
+fn item_word(item: &Item, kind: Kind, index: usize) -> u64
+    requires { index < 256 }
+    ensures { (k : Key) (b : ℕ) → kind_of k ≡ kind → number_of k ≡ 64 * index + b → b < 64 →
         has_bit result b ≡ names item.now k }
 {
     if item.kind == kind {
-        low_word(item.to, i) & !low_word(item.from, i)
+        low_word(item.to, index) & !low_word(item.from, index)
     } else {
         0
     }
 }
 
 /// The word of the 64 keys of a kind from number 64 i on: a bit for each that items name.
-pub fn named_word(items: &[Item], kind: Kind, i: usize) -> u64
-    requires { i < 256 }
-    ensures { (k : Key) (b : ℕ) → kind_of k ≡ kind → number_of k ≡ 64 * i + b → b < 64 →
+pub fn named_word(items: &[Item], kind: Kind, index: usize) -> u64
+    requires { index < 256 }
+    ensures { (k : Key) (b : ℕ) → kind_of k ≡ kind → number_of k ≡ 64 * index + b → b < 64 →
         has_bit result b ≡ is_named items.now k }
 {
     let mut word = 0;
     for item in items {
-        word |= item_word(item, kind, i);
+        word |= item_word(item, kind, index);
     }
     word
 }

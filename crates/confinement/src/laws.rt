@@ -198,7 +198,8 @@ pub fn a_closed_context_keeps_to_its_fence()
 pub fn a_context_without_descriptors_is_closed()
     ensures { (inputs : Inputs) (before since : List ℕ) (t : ℕ) (c : Name) → CanOpen inputs →
         (made : Makes (run (start inputs) before) t c) →
-        ((n : ℕ) → n < SLOTS → mode_or_copy (items_of (world_of (run (start inputs) before)) made.thread.context
+        ((n : ℕ) → n < SLOTS
+        → mode_or_copy (items_of (world_of (run (start inputs) before)) made.thread.context
         (regs_at (run (start inputs) before) made.thread)) (Slot n) ≡ Unmap) →
         IsUntouched (step (run (start inputs) before) t) since c →
         IsClosed (world_of (run (step (run (start inputs) before) t) since)) c }

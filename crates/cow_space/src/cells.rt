@@ -66,93 +66,96 @@ impl PageCells {
     }
 
     /// The kind of a page of a place; `None` where it is absent.
-    pub fn kind(&self, i: usize, p: PageNumber) -> Option<SegmentKind>
-        requires { i < length (cells self.now) }
-        ensures { result ≡ kinds_of (place_of (cells self.now) i) p }
+    pub fn kind(&self, place: usize, page: PageNumber) -> Option<SegmentKind>
+        requires { place < length (cells self.now) }
+        ensures { result ≡ kinds_of (place_of (cells self.now) place) page }
     {
-        self.kinds[i].kind_at(p)
+        self.kinds[place].kind_at(page)
     }
 
     /// The right of a page of a place; `Write` where it is absent.
-    pub fn right(&self, i: usize, p: PageNumber) -> Right
-        requires { i < length (cells self.now) }
-        ensures { result ≡ rights_of (rights self.now) i p }
+    pub fn right(&self, place: usize, page: PageNumber) -> Right
+        requires { place < length (cells self.now) }
+        ensures { result ≡ rights_of (rights self.now) place page }
     {
-        self.kinds[i].right_at(p).unwrap_or(Right::Write)
+        self.kinds[place].right_at(page).unwrap_or(Right::Write)
     }
 
     /// The kind and the right of a page of a place; `None` where it is absent.
     #[inline(always)]
-    pub fn state(&self, i: usize, p: PageNumber) -> Option<PageState>
-        requires { i < length (cells self.now) }
-        ensures { result ≡ states_of (place_of (cells self.now) i) (rights_of (rights self.now) i) p }
+    pub fn state(&self, place: usize, page: PageNumber) -> Option<PageState>
+        requires { place < length (cells self.now) }
+        ensures { result
+            ≡ states_of (place_of (cells self.now) place) (rights_of (rights self.now) place) page }
     {
-        self.kinds[i].state_at(p)
+        self.kinds[place].state_at(page)
     }
 
     /// The kind and the right of a page of a place, and the first page after it that has others, or the end of
     /// all pages. There are at most 64 ranges, so that a walk from run to run is short.
-    pub fn run_at(&self, i: usize, p: PageNumber) -> (Option<PageState>, PageNumber)
-        requires place { i < length (cells self.now) }
-        requires page { p < MOST_PAGES }
+    pub fn run_at(&self, place: usize, page: PageNumber) -> (Option<PageState>, PageNumber)
+        requires place { place < length (cells self.now) }
+        requires page { page < MOST_PAGES }
         ensures state { result.0
-            ≡ states_of (place_of (cells self.now) i) (rights_of (rights self.now) i) p }
-        ensures past { p < result.1 }
+            ≡ states_of (place_of (cells self.now) place) (rights_of (rights self.now) place) page }
+        ensures past { page < result.1 }
         ensures within { result.1 ≤ MOST_PAGES }
-        ensures alike { (q : ℕ) → p ≤ q → q < result.1
-            → states_of (place_of (cells self.now) i) (rights_of (rights self.now) i) q
-            ≡ states_of (place_of (cells self.now) i) (rights_of (rights self.now) i) p }
+        ensures alike { (q : ℕ) → page ≤ q → q < result.1
+            → states_of (place_of (cells self.now) place) (rights_of (rights self.now) place) q
+            ≡ states_of (place_of (cells self.now) place) (rights_of (rights self.now) place) page }
         ensures other { result.1 < MOST_PAGES
-            → states_of (place_of (cells self.now) i) (rights_of (rights self.now) i) result.1
-            ≢ states_of (place_of (cells self.now) i) (rights_of (rights self.now) i) p }
+            → states_of (place_of (cells self.now) place) (rights_of (rights self.now) place) result.1
+            ≢ states_of (place_of (cells self.now) place) (rights_of (rights self.now) place) page }
         ensures few { ranges MOST_PAGES
-            (states_of (place_of (cells self.now) i) (rights_of (rights self.now) i)) ≤ MOST_RANGES }
+            (states_of (place_of (cells self.now) place) (rights_of (rights self.now) place)) ≤ MOST_RANGES }
     {
-        self.kinds[i].run_at(p)
+        self.kinds[place].run_at(page)
     }
 
     /// The number of ranges of a place.
-    pub fn count(&self, i: usize) -> u32
-        requires { i < length (cells self.now) }
+    pub fn count(&self, place: usize) -> u32
+        requires { place < length (cells self.now) }
         ensures ranges { result
-            ≡ ranges MOST_PAGES (states_of (place_of (cells self.now) i) (rights_of (rights self.now) i)) }
+            ≡ ranges MOST_PAGES
+            (states_of (place_of (cells self.now) place) (rights_of (rights self.now) place)) }
         ensures few { result ≤ MOST_RANGES }
     {
-        self.kinds[i].count()
+        self.kinds[place].count()
     }
 
     /// The segments of a place, one for each range.
-    pub fn segments(&self, i: usize) -> &[Segment]
-        requires { i < length (cells self.now) }
+    pub fn segments(&self, place: usize) -> &[Segment]
+        requires { place < length (cells self.now) }
         ensures states { state_at result.now
-            ≡ states_of (place_of (cells self.now) i) (rights_of (rights self.now) i) }
+            ≡ states_of (place_of (cells self.now) place) (rights_of (rights self.now) place) }
         ensures count { length result.now
-            ≡ ranges MOST_PAGES (states_of (place_of (cells self.now) i) (rights_of (rights self.now) i)) }
+            ≡ ranges MOST_PAGES
+            (states_of (place_of (cells self.now) place) (rights_of (rights self.now) place)) }
         ensures few { length result.now ≤ MOST_RANGES }
         ensures each { All IsSegment result.now }
         ensures canonical { IsCanonical result.now }
     {
-        self.kinds[i].segments()
+        self.kinds[place].segments()
     }
 
     /// The bytes of a page that is the place's own. A page that is absent, common or zeros has none.
-    pub fn bytes(&self, i: usize, p: PageNumber) -> Option<&[u8]>
-        requires place { i < length (cells self.now) }
-        requires page { p < MOST_PAGES }
-        ensures value { option_copied result ≡ data_of (own_values (place_of (cells self.now) i) p) }
+    pub fn bytes(&self, place: usize, page: PageNumber) -> Option<&[u8]>
+        requires place { place < length (cells self.now) }
+        requires page { page < MOST_PAGES }
+        ensures value { option_copied result ≡ data_of (own_values (place_of (cells self.now) place) page) }
         ensures whole { IfSome result (λ bytes. length bytes.now ≡ PAGE_BYTES) }
     {
-        self.rows.bytes(i, p)
+        self.rows.bytes(place, page)
     }
 
     /// Whether a page that is the place's own parts when it is written: it is zeros, or its tag is at another
     /// page too.
-    pub fn is_parting(&self, i: usize, p: PageNumber) -> bool
-        requires place { i < length (cells self.now) }
-        requires own { IsOwnPage (place_of (cells self.now) i p) }
-        ensures { result ≡ is_parting (cells self.now) i p }
+    pub fn is_parting(&self, place: usize, page: PageNumber) -> bool
+        requires place { place < length (cells self.now) }
+        requires own { IsOwnPage (place_of (cells self.now) place page) }
+        ensures { result ≡ is_parting (cells self.now) place page }
     {
-        self.rows.parts(i, p)
+        self.rows.parts(place, page)
     }
 
     /// How many frames are in use: one for each different tag.

@@ -48,51 +48,52 @@ impl Rows {
     }
 
     /// Takes the pages of a range from a row. No frame is written.
-    pub fn clear(&mut self, i: usize, range: Range)
-        requires row { i < length (maps self.old) }
+    pub fn clear(&mut self, place: usize, range: Range)
+        requires row { place < length (maps self.old) }
         requires order { range.from ≤ range.to }
         requires inside { range.to ≤ PAGES }
         ensures maps { maps self.new
-            ≡ slice_set (maps self.old) i
-            (put_range (row_of (maps self.old) i) range.from range.to no_pages) }
+            ≡ slice_set (maps self.old) place
+            (put_range (row_of (maps self.old) place) range.from range.to no_pages) }
         ensures frames { frames_of self.new ≡ frames_of self.old }
         ensures pool { pool self.new ≡ pool self.old }
         ensures free { free_frames self.old ≤ free_frames self.new }
-        ensures others { (j : ℕ) → j ≢ i → HasNoTree self.old j → HasNoTree self.new j }
-        ensures own { (HasNoTree self.new i) ⊎ (HasOwnRoot self.new i) }
-        ensures all { range.from ≡ 0 → range.to ≡ PAGES → HasNoTree self.new i }
+        ensures others { (j : ℕ) → j ≢ place → HasNoTree self.old j → HasNoTree self.new j }
+        ensures own { (HasNoTree self.new place) ⊎ (HasOwnRoot self.new place) }
+        ensures all { range.from ≡ 0 → range.to ≡ PAGES → HasNoTree self.new place }
         ensures nodes { free_nodes self.old ≤ free_nodes self.new + 5 }
-        ensures nodes_own { HasOwnRoot self.old i → free_nodes self.old ≤ free_nodes self.new + 4 }
-        ensures given_up { HasNoTree self.new i → free_nodes self.old ≤ free_nodes self.new }
+        ensures nodes_own { HasOwnRoot self.old place → free_nodes self.old ≤ free_nodes self.new + 4 }
+        ensures given_up { HasNoTree self.new place → free_nodes self.old ≤ free_nodes self.new }
         ensures cost { node_steps self.new ≤ node_steps self.old + 766 }
-        ensures opened { IsOpen self.old i range.from → range.from < range.to → IsOpen self.new i range.to }
-        ensures nodes_open { IsOpen self.old i range.from → range.from < range.to
-            → free_nodes self.old + edge_short self.new i range.to
-            ≤ free_nodes self.new + edge_short self.old i range.from + 2 }
-        ensures cost_open { IsOpen self.old i range.from
+        ensures opened { IsOpen self.old place range.from → range.from < range.to
+            → IsOpen self.new place range.to }
+        ensures nodes_open { IsOpen self.old place range.from → range.from < range.to
+            → free_nodes self.old + edge_short self.new place range.to
+            ≤ free_nodes self.new + edge_short self.old place range.from + 2 }
+        ensures cost_open { IsOpen self.old place range.from
             → node_steps self.new + entries_passed range.from
             ≤ node_steps self.old + entries_passed range.to + 36 }
         ensures cost_all { range.from ≡ 0 → range.to ≡ PAGES
             → node_steps self.new ≤ node_steps self.old + TREE_NODES }
-        ensures cost_none { HasNoTree self.old i → node_steps self.new ≡ node_steps self.old }
+        ensures cost_none { HasNoTree self.old place → node_steps self.new ≡ node_steps self.old }
     {
-        self.trees[i].clear_range(&mut self.store, range);
+        self.trees[place].clear_range(&mut self.store, range);
     }
 
     /// Takes all pages from a row, and gives back all that no other row holds.
-    pub fn drop_row(&mut self, i: usize)
-        requires row { i < length (maps self.old) }
-        ensures maps { maps self.new ≡ slice_set (maps self.old) i no_pages }
+    pub fn drop_row(&mut self, place: usize)
+        requires row { place < length (maps self.old) }
+        ensures maps { maps self.new ≡ slice_set (maps self.old) place no_pages }
         ensures frames { frames_of self.new ≡ frames_of self.old }
         ensures pool { pool self.new ≡ pool self.old }
         ensures free { free_frames self.old ≤ free_frames self.new }
-        ensures others { (j : ℕ) → j ≢ i → HasNoTree self.old j → HasNoTree self.new j }
+        ensures others { (j : ℕ) → j ≢ place → HasNoTree self.old j → HasNoTree self.new j }
         ensures nodes { free_nodes self.old ≤ free_nodes self.new }
-        ensures empty { HasNoTree self.new i }
+        ensures empty { HasNoTree self.new place }
         ensures cost { node_steps self.new ≤ node_steps self.old + TREE_NODES }
-        ensures cost_empty { HasNoTree self.old i → node_steps self.new ≡ node_steps self.old }
+        ensures cost_empty { HasNoTree self.old place → node_steps self.new ≡ node_steps self.old }
     {
-        self.clear(i, ALL_PAGES);
+        self.clear(place, ALL_PAGES);
     }
 
     /// Makes all pages of a row those of another, by one hold of its root. The row's own pages are given up

@@ -23,68 +23,68 @@ use range_map::{PageState, RangeMap, Segment, SegmentKind, sooner_edge};
 
 /// The first page run that has a page. It looks at each.
 #[inline(never)]
-fn page_run_at(page_runs: &[PageRun], p: PageNumber) -> Option<&PageRun>
-    ensures { option_copied result ≡ spec.page_run_at page_runs.now p }
+fn page_run_at(page_runs: &[PageRun], page: PageNumber) -> Option<&PageRun>
+    ensures { option_copied result ≡ spec.page_run_at page_runs.now page }
 {
-    page_runs.iter().find(|page_run| page_run.range.from <= p && p < page_run.range.to)
+    page_runs.iter().find(|page_run| page_run.range.from <= page && page < page_run.range.to)
 }
 
 /// Where the first page run after a page begins or ends, or the end of all pages. It looks at each.
 #[inline(never)]
-fn page_run_edge(page_runs: &[PageRun], p: PageNumber) -> PageNumber
-    requires { p < MOST_PAGES }
-    ensures past { p < result }
+fn page_run_edge(page_runs: &[PageRun], page: PageNumber) -> PageNumber
+    requires { page < MOST_PAGES }
+    ensures past { page < result }
     ensures within { result ≤ MOST_PAGES }
-    ensures alike { (q : ℕ) → p ≤ q → q < result
-        → spec.page_run_at page_runs.now q ≡ spec.page_run_at page_runs.now p }
+    ensures alike { (q : ℕ) → page ≤ q → q < result
+        → spec.page_run_at page_runs.now q ≡ spec.page_run_at page_runs.now page }
     ensures edge { result < MOST_PAGES → is_edge page_runs.now result ≡ true }
 {
     let mut edge = MOST_PAGES;
     for page_run in page_runs {
-        edge = sooner_edge(page_run.range.from, page_run.range.to, p, edge);
+        edge = sooner_edge(page_run.range.from, page_run.range.to, page, edge);
     }
     edge
 }
 
 /// How many page runs that rise end at a page or before it, by halving.
 #[inline(never)]
-fn ended_by_halving(page_runs: &[PageRun], p: PageNumber) -> usize
+fn ended_by_halving(page_runs: &[PageRun], page: PageNumber) -> usize
     requires { Rise page_runs.now }
-    ensures before { (k : ℕ) (d : PageRun) → k < result → (slice_index_or page_runs.now k d).range.to ≤ p }
+    ensures before { (k : ℕ) (d : PageRun) → k < result → (slice_index_or page_runs.now k d).range.to ≤ page }
     ensures after { (d : PageRun) → result < length page_runs.now
-        → p < (slice_index_or page_runs.now result d).range.to }
+        → page < (slice_index_or page_runs.now result d).range.to }
 {
     page_runs.partition_point(
         |page_run: &PageRun| -> bool
-            ensures { result ≡ nat_le page_run.now.range.to p }
-        { page_run.range.to <= p },
+            ensures { result ≡ nat_le page_run.now.range.to page }
+        { page_run.range.to <= page },
     )
 }
 
 /// Whether this many page runs that rise are there, and end at a page or before it.
 #[inline(always)]
-fn have_ended(page_runs: &[PageRun], count: usize, p: PageNumber) -> bool
+fn have_ended(page_runs: &[PageRun], count: usize, page: PageNumber) -> bool
     requires { Rise page_runs.now }
     ensures { result ≡ true → (k : ℕ) (d : PageRun) → k < count
-        → (slice_index_or page_runs.now k d).range.to ≤ p }
+        → (slice_index_or page_runs.now k d).range.to ≤ page }
 {
-    count == 0 || (count <= page_runs.len() && page_runs[count - 1].range.to <= p)
+    count == 0 || (count <= page_runs.len() && page_runs[count - 1].range.to <= page)
 }
 
 /// How many page runs that rise end at a page or before it. If at least `near` of them do, those past them are
 /// looked at one by one: a walk from page run to page run knows how many it has passed.
 #[inline(always)]
-fn ended_by(page_runs: &[PageRun], near: usize, p: PageNumber) -> usize
+fn ended_by(page_runs: &[PageRun], near: usize, page: PageNumber) -> usize
     requires { Rise page_runs.now }
-    ensures before { (k : ℕ) (d : PageRun) → k < result → (slice_index_or page_runs.now k d).range.to ≤ p }
+    ensures before { (k : ℕ) (d : PageRun) → k < result → (slice_index_or page_runs.now k d).range.to ≤ page }
     ensures after { (d : PageRun) → result < length page_runs.now
-        → p < (slice_index_or page_runs.now result d).range.to }
+        → page < (slice_index_or page_runs.now result d).range.to }
 {
-    if !have_ended(page_runs, near, p) {
-        return ended_by_halving(page_runs, p);
+    if !have_ended(page_runs, near, page) {
+        return ended_by_halving(page_runs, page);
     }
     let mut count = near;
-    'ended: while count < page_runs.len() && page_runs[count].range.to <= p {
+    'ended: while count < page_runs.len() && page_runs[count].range.to <= page {
         count += 1;
     }
     count
@@ -96,20 +96,20 @@ fn ended_by(page_runs: &[PageRun], near: usize, p: PageNumber) -> usize
 fn rising_run(
     page_runs: &[PageRun],
     near: usize,
-    p: PageNumber,
+    page: PageNumber,
 ) -> (Option<PageRun>, PageNumber, usize)
     requires rise { Rise page_runs.now }
-    requires page { p < MOST_PAGES }
-    ensures run { result.0 ≡ spec.page_run_at page_runs.now p }
-    ensures past { p < result.1 }
+    requires page { page < MOST_PAGES }
+    ensures run { result.0 ≡ spec.page_run_at page_runs.now page }
+    ensures past { page < result.1 }
     ensures within { result.1 ≤ MOST_PAGES }
-    ensures alike { (q : ℕ) → p ≤ q → q < result.1
-        → spec.page_run_at page_runs.now q ≡ spec.page_run_at page_runs.now p }
+    ensures alike { (q : ℕ) → page ≤ q → q < result.1
+        → spec.page_run_at page_runs.now q ≡ spec.page_run_at page_runs.now page }
     ensures edge { result.1 < MOST_PAGES → is_edge page_runs.now result.1 ≡ true }
 {
-    let ended = ended_by(page_runs, near, p);
+    let ended = ended_by(page_runs, near, page);
     match page_runs.get(ended) {
-        Some(page_run) if p < page_run.range.from => (
+        Some(page_run) if page < page_run.range.from => (
             None,
             page_run.range.from.min(MOST_PAGES),
             ended,
@@ -126,38 +126,40 @@ fn run_from(
     page_runs: &[PageRun],
     rise: bool,
     near: usize,
-    p: PageNumber,
+    page: PageNumber,
 ) -> (Option<PageRun>, PageNumber, usize)
     requires rise { rise ≡ true → Rise page_runs.now }
-    requires page { p < MOST_PAGES }
-    ensures run { result.0 ≡ spec.page_run_at page_runs.now p }
-    ensures past { p < result.1 }
+    requires page { page < MOST_PAGES }
+    ensures run { result.0 ≡ spec.page_run_at page_runs.now page }
+    ensures past { page < result.1 }
     ensures within { result.1 ≤ MOST_PAGES }
-    ensures alike { (q : ℕ) → p ≤ q → q < result.1
-        → spec.page_run_at page_runs.now q ≡ spec.page_run_at page_runs.now p }
+    ensures alike { (q : ℕ) → page ≤ q → q < result.1
+        → spec.page_run_at page_runs.now q ≡ spec.page_run_at page_runs.now page }
     ensures edge { result.1 < MOST_PAGES → is_edge page_runs.now result.1 ≡ true }
 {
     if rise {
-        rising_run(page_runs, near, p)
+        rising_run(page_runs, near, page)
     } else {
         (
-            page_run_at(page_runs, p).copied(),
-            page_run_edge(page_runs, p),
+            page_run_at(page_runs, page).copied(),
+            page_run_edge(page_runs, page),
             near,
         )
     }
 }
 
 /// Whether a page run begins where it ends or before, and ends where the next one begins or before.
-fn rises_at(page_runs: &[PageRun], k: usize) -> bool
-    requires { k < length page_runs.now }
-    ensures order { result ≡ true → (d : PageRun) → (slice_index_or page_runs.now k d).range.from
-        ≤ (slice_index_or page_runs.now k d).range.to }
-    ensures next { result ≡ true → (d : PageRun) → k + 1 < length page_runs.now
-        → (slice_index_or page_runs.now k d).range.to ≤ (slice_index_or page_runs.now (k + 1) d).range.from }
+fn rises_at(page_runs: &[PageRun], index: usize) -> bool
+    requires { index < length page_runs.now }
+    ensures order { result ≡ true → (d : PageRun) → (slice_index_or page_runs.now index d).range.from
+        ≤ (slice_index_or page_runs.now index d).range.to }
+    ensures next { result ≡ true → (d : PageRun) → index + 1 < length page_runs.now
+        → (slice_index_or page_runs.now index d).range.to
+        ≤ (slice_index_or page_runs.now (index + 1) d).range.from }
 {
-    let range = page_runs[k].range;
-    range.from <= range.to && (k + 1 == page_runs.len() || range.to <= page_runs[k + 1].range.from)
+    let range = page_runs[index].range;
+    range.from <= range.to
+        && (index + 1 == page_runs.len() || range.to <= page_runs[index + 1].range.from)
 }
 
 /// How many page runs come before the last ones that rise.
@@ -213,41 +215,43 @@ pub(crate) fn found_run(
     page_runs: &[PageRun],
     rising: Rising,
     near: Near,
-    p: PageNumber,
+    page: PageNumber,
 ) -> (Option<PageRun>, PageNumber, Near)
     requires rising { IsSplit rising page_runs.now }
-    requires page { p < MOST_PAGES }
-    ensures run { result.0 ≡ spec.page_run_at page_runs.now p }
-    ensures past { p < result.1 }
+    requires page { page < MOST_PAGES }
+    ensures run { result.0 ≡ spec.page_run_at page_runs.now page }
+    ensures past { page < result.1 }
     ensures within { result.1 ≤ MOST_PAGES }
-    ensures alike { (q : ℕ) → p ≤ q → q < result.1
-        → spec.page_run_at page_runs.now q ≡ spec.page_run_at page_runs.now p }
+    ensures alike { (q : ℕ) → page ≤ q → q < result.1
+        → spec.page_run_at page_runs.now q ≡ spec.page_run_at page_runs.now page }
     ensures edge { result.1 < MOST_PAGES → is_edge page_runs.now result.1 ≡ true }
 {
-    let (run, edge, first) = run_from(&page_runs[..rising.from], rising.first, near.first, p);
-    let (other, other_edge, last) = rising_run(&page_runs[rising.from..], near.last, p);
+    let (run, edge, first) = run_from(&page_runs[..rising.from], rising.first, near.first, page);
+    let (other, other_edge, last) = rising_run(&page_runs[rising.from..], near.last, page);
     (run.or(other), edge.min(other_edge), Near { first, last })
 }
 
 /// Whether ranges have a page.
-fn have_page(ranges: &[Range], p: PageNumber) -> bool
-    ensures { result ≡ spec.have_page ranges.now p }
+fn have_page(ranges: &[Range], page: PageNumber) -> bool
+    ensures { result ≡ spec.have_page ranges.now page }
 {
-    ranges.iter().any(|range| range.from <= p && p < range.to)
+    ranges
+        .iter()
+        .any(|range| range.from <= page && page < range.to)
 }
 
 /// A later page, at most the edge, up to which ranges have all of the pages or none.
-fn range_edge(ranges: &[Range], p: PageNumber, edge: PageNumber) -> PageNumber
-    requires { p < edge }
-    ensures past { p < result }
+fn range_edge(ranges: &[Range], page: PageNumber, edge: PageNumber) -> PageNumber
+    requires { page < edge }
+    ensures past { page < result }
     ensures within { result ≤ edge }
-    ensures alike { (q : ℕ) → p ≤ q → q < result
-        → spec.have_page ranges.now q ≡ spec.have_page ranges.now p }
+    ensures alike { (q : ℕ) → page ≤ q → q < result
+        → spec.have_page ranges.now q ≡ spec.have_page ranges.now page }
     ensures edge { result < edge → spec.is_range_edge ranges.now result ≡ true }
 {
     let mut next = edge;
     for range in ranges {
-        next = sooner_edge(range.from, range.to, p, next);
+        next = sooner_edge(range.from, range.to, page, next);
     }
     next
 }
@@ -281,30 +285,31 @@ fn right_given(right: Option<Right>, read: bool) -> Option<Right>
 /// as one page run: of their own place where none has them. The later page is where a page run or a range
 /// begins or ends. Answers too where the next search begins.
 pub(crate) fn stretch_at(
-    i: usize,
+    place: usize,
     page_runs: &[PageRun],
     rising: Rising,
     near: Near,
     reads: &[Range],
-    p: PageNumber,
+    page: PageNumber,
 ) -> (PageRun, Near)
     requires rising { IsSplit rising page_runs.now }
-    requires page { p < MOST_PAGES }
-    ensures from { result.0.range.from ≡ p }
-    ensures past { p < result.0.range.to }
+    requires page { page < MOST_PAGES }
+    ensures from { result.0.range.from ≡ page }
+    ensures past { page < result.0.range.to }
     ensures within { result.0.range.to ≤ MOST_PAGES }
-    ensures origin { (count : ℕ) → i < count → All (IsPageRun count i) page_runs.now
+    ensures origin { (count : ℕ) → place < count → All (IsPageRun count place) page_runs.now
         → (j : ℕ) → result.0.origin ≡ CopyOf j → j < count }
-    ensures states { (cells : List Place) (rights : List (ℕ → Right)) (q : ℕ) → p ≤ q → q < result.0.range.to
-        → changed_states cells rights i page_runs.now reads.now q ≡ given_states cells rights result.0 q }
+    ensures states { (cells : List Place) (rights : List (ℕ → Right)) (q : ℕ) → page ≤ q
+        → q < result.0.range.to
+        → changed_states cells rights place page_runs.now reads.now q ≡ given_states cells rights result.0 q }
     ensures edge { result.0.range.to < MOST_PAGES
         → (is_edge page_runs.now result.0.range.to ≡ true)
         ⊎ (spec.is_range_edge reads.now result.0.range.to ≡ true) }
 {
-    let (found, edge, next) = found_run(page_runs, rising, near, p);
-    let to = range_edge(reads, p, edge);
-    let range = Range { from: p, to };
-    let read = have_page(reads, p);
+    let (found, edge, next) = found_run(page_runs, rising, near, page);
+    let to = range_edge(reads, page, edge);
+    let range = Range { from: page, to };
+    let read = have_page(reads, page);
     let stretch = match found {
         Some(page_run) => PageRun {
             range,
@@ -313,7 +318,7 @@ pub(crate) fn stretch_at(
         },
         None => PageRun {
             range,
-            origin: Origin::CopyOf(i),
+            origin: Origin::CopyOf(place),
             right: right_given(None, read),
         },
     };
@@ -403,14 +408,19 @@ impl PageCells {
     }
 
     /// The kinds and the rights of a place after page runs, and ranges that may only be read.
-    pub(crate) fn kinds_after(&self, i: usize, page_runs: &[PageRun], reads: &[Range]) -> RangeMap
-        requires place { i < length (cells self.now) }
-        requires page_runs { All (IsPageRun (length (cells self.now)) i) page_runs.now }
+    pub(crate) fn kinds_after(
+        &self,
+        place: usize,
+        page_runs: &[PageRun],
+        reads: &[Range],
+    ) -> RangeMap
+        requires place { place < length (cells self.now) }
+        requires page_runs { All (IsPageRun (length (cells self.now)) place) page_runs.now }
         requires ranges { ranges MOST_PAGES
-            (changed_states (cells self.now) (rights self.now) i page_runs.now reads.now) ≤ MOST_RANGES }
+            (changed_states (cells self.now) (rights self.now) place page_runs.now reads.now) ≤ MOST_RANGES }
         ensures states { (p : ℕ) → p < MOST_PAGES
             → state_at result p
-            ≡ changed_states (cells self.now) (rights self.now) i page_runs.now reads.now p }
+            ≡ changed_states (cells self.now) (rights self.now) place page_runs.now reads.now p }
         ensures past { (p : ℕ) → MOST_PAGES ≤ p → state_at result p ≡ None }
     {
         let rising = rising_parts(page_runs);
@@ -418,7 +428,7 @@ impl PageCells {
         let mut kinds = RangeMap::empty();
         let mut p: PageNumber = 0;
         'stretches: while p < MOST_PAGES {
-            let (stretch, next) = stretch_at(i, page_runs, rising, near, reads, p);
+            let (stretch, next) = stretch_at(place, page_runs, rising, near, reads, p);
             self.append_given(&mut kinds, &stretch);
             near = next;
             p = stretch.range.to;

@@ -32,11 +32,11 @@ pub(crate) fn begun(before: Option<PageState>, state: Option<PageState>) -> u32
 
 /// The state of the page before `start`, where that of the page before `p` is known and the pages from `p` up
 /// to `start` are absent.
-fn last_before(last: Option<PageState>, p: PageNumber, start: PageNumber) -> Option<PageState>
-    ensures gap { p < start → result ≡ None }
-    ensures meets { start ≤ p → result ≡ last }
+fn last_before(last: Option<PageState>, page: PageNumber, start: PageNumber) -> Option<PageState>
+    ensures gap { page < start → result ≡ None }
+    ensures meets { start ≤ page → result ≡ last }
 {
-    if p < start { None } else { last }
+    if page < start { None } else { last }
 }
 
 /// The number of ranges that begin at the pages of segments from `from` up to and without `to`, and the state

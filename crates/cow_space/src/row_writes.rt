@@ -10,10 +10,10 @@ use lwc_base::{PAGE_BYTES, PageNumber, Tag};
 use page_tree::{PAGES, PageCell};
 
 /// Puts what a piece at an address has of page p into the page's bytes.
-fn put_piece(page: &mut [u8; PAGE_BYTES], p: PageNumber, at: u32, piece: &[u8])
-    ensures { page.new ≡ bytes_after (record { at = at; bytes = piece.now }) p page.old }
+fn put_piece(page: &mut [u8; PAGE_BYTES], page_number: PageNumber, at: u32, piece: &[u8])
+    ensures { page.new ≡ bytes_after (record { at = at; bytes = piece.now }) page_number page.old }
 {
-    let start = p as usize * PAGE_BYTES;
+    let start = page_number as usize * PAGE_BYTES;
     let at = at as usize;
     let first = at.max(start);
     let skip = piece.len().min(first - at);
@@ -26,7 +26,7 @@ fn put_piece(page: &mut [u8; PAGE_BYTES], p: PageNumber, at: u32, piece: &[u8])
 fn fill(
     frames: &mut Pool,
     cell: PageCell,
-    p: PageNumber,
+    page: PageNumber,
     at: u32,
     piece: &[u8],
     tag: Tag,
@@ -34,10 +34,10 @@ fn fill(
     requires free { 0 < free_frames frames.old }
     requires held { (f : ℕ) → entry_for cell ≡ f + 2 → 0 < frame_count frames.old f }
     ensures { Takes frames.old frames.new result.n tag
-        (bytes_after (record { at = at; bytes = piece.now }) p (cell_bytes frames.old cell)) }
+        (bytes_after (record { at = at; bytes = piece.now }) page (cell_bytes frames.old cell)) }
 {
     let frame = copy_cell(frames, cell, tag);
-    write_frame(frames, frame, p, at, piece);
+    write_frame(frames, frame, page, at, piece);
     frame
 }
 
@@ -55,12 +55,12 @@ fn copy_cell(frames: &mut Pool, cell: PageCell, tag: Tag) -> FrameNo
 }
 
 /// Puts what a piece has of page p into a frame that is held once.
-fn write_frame(frames: &mut Pool, frame: FrameNo, p: PageNumber, at: u32, piece: &[u8])
+fn write_frame(frames: &mut Pool, frame: FrameNo, page: PageNumber, at: u32, piece: &[u8])
     requires once { frame_count frames.old frame.n ≡ 1 }
     ensures { frames.new ≡ refill_frame frames.old frame.n
-        (bytes_after (record { at = at; bytes = piece.now }) p (frame_bytes frames.old frame.n)) }
+        (bytes_after (record { at = at; bytes = piece.now }) page (frame_bytes frames.old frame.n)) }
 {
-    put_piece(frames.bytes_mut(frame), p, at, piece);
+    put_piece(frames.bytes_mut(frame), page, at, piece);
 }
 
 impl Rows {
@@ -73,34 +73,40 @@ impl Rows {
     ghost use Rattle.cow_space.specs.Tags.{different, parts, row_tags, times};
 
     /// Writes a page that parts: it gets a frame of its own under a new tag.
-    pub(crate) fn part(&mut self, i: usize, p: PageNumber, at: u32, piece: &[u8], tag: Tag)
-        requires row { i < length (maps self.old) }
-        requires page { p < PAGES }
+    pub(crate) fn part(&mut self, place: usize, page: PageNumber, at: u32, piece: &[u8], tag: Tag)
+        requires row { place < length (maps self.old) }
+        requires page { page < PAGES }
         requires new { times tag (row_tags (maps self.old)) ≡ 0 }
-        requires parts { parts (row_tags (maps self.old)) (row_of (maps self.old) i p) ≡ true }
+        requires parts { parts (row_tags (maps self.old)) (row_of (maps self.old) place page) ≡ true }
         requires free { different (row_tags (maps self.old)) < frames_of self.old }
         ensures written { maps self.new
-            ≡ write_page (maps self.old) i p (record { at = at; bytes = piece.now }) tag }
+            ≡ write_page (maps self.old) place page (record { at = at; bytes = piece.now }) tag }
         ensures frames { frames_of self.new ≡ frames_of self.old }
-        ensures others { (j : ℕ) → j ≢ i → HasNoTree self.old j → HasNoTree self.new j }
+        ensures others { (j : ℕ) → j ≢ place → HasNoTree self.old j → HasNoTree self.new j }
         ensures nodes { free_nodes self.old ≤ free_nodes self.new + 3 }
         ensures cost { node_steps self.new ≤ node_steps self.old + 54 }
     {
-        let cell = self.cell(i, p);
-        let frame = fill(&mut self.store.frames, cell, p, at, piece, tag);
-        self.trees[i].set(&mut self.store, p, PageCell::Frame(frame));
+        let cell = self.cell(place, page);
+        let frame = fill(&mut self.store.frames, cell, page, at, piece, tag);
+        self.trees[place].set(&mut self.store, page, PageCell::Frame(frame));
         self.store.frames.drop_hold(frame);
     }
 
     /// Writes what a piece at an address has of page p of a row if the page does not part, and tells whether
     /// it did. If the page parts, nothing changes.
     #[inline(always)]
-    pub(crate) fn write_in_place(&mut self, i: usize, p: PageNumber, at: u32, piece: &[u8]) -> bool
-        requires row { i < length (maps self.old) }
-        requires page { p < PAGES }
-        ensures tells { result ≡ not (parts (row_tags (maps self.old)) (row_of (maps self.old) i p)) }
+    pub(crate) fn write_in_place(
+        &mut self,
+        place: usize,
+        page: PageNumber,
+        at: u32,
+        piece: &[u8],
+    ) -> bool
+        requires row { place < length (maps self.old) }
+        requires page { page < PAGES }
+        ensures tells { result ≡ not (parts (row_tags (maps self.old)) (row_of (maps self.old) place page)) }
         ensures written { result ≡ true → (tag : Tag) → maps self.new
-            ≡ write_page (maps self.old) i p (record { at = at; bytes = piece.now }) tag }
+            ≡ write_page (maps self.old) place page (record { at = at; bytes = piece.now }) tag }
         ensures same { result ≡ false → maps self.new ≡ maps self.old }
         ensures frames { frames_of self.new ≡ frames_of self.old }
         ensures others { (j : ℕ) → HasNoTree self.old j → HasNoTree self.new j }
@@ -108,10 +114,10 @@ impl Rows {
         ensures cost { node_steps self.new ≡ node_steps self.old }
         ensures within { different (row_tags (maps self.old)) ≤ frames_of self.old }
     {
-        let Some(frame) = self.lone_frame(i, p) else {
+        let Some(frame) = self.lone_frame(place, page) else {
             return false;
         };
-        write_frame(&mut self.store.frames, frame, p, at, piece);
+        write_frame(&mut self.store.frames, frame, page, at, piece);
         true
     }
 }

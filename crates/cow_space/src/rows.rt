@@ -58,22 +58,23 @@ impl Rows {
     }
 
     /// What a row's tree has for a page.
-    pub(crate) fn cell(&self, i: usize, p: PageNumber) -> PageCell
-        requires row { i < length self.now.trees.items }
-        requires page { p < PAGES }
-        ensures { result ≡ page self.now.store.nodes.all (slice_index self.now.trees.items i) p }
+    pub(crate) fn cell(&self, place: usize, page_number: PageNumber) -> PageCell
+        requires row { place < length self.now.trees.items }
+        requires page { page_number < PAGES }
+        ensures { result
+            ≡ page self.now.store.nodes.all (slice_index self.now.trees.items place) page_number }
     {
-        self.trees[i].get(&self.store, p)
+        self.trees[place].get(&self.store, page_number)
     }
 
     /// The bytes of a page. A page without bytes, which reads as zeros, has none.
-    pub fn bytes(&self, i: usize, p: PageNumber) -> Option<&[u8]>
-        requires row { i < length (maps self.now) }
-        requires page { p < PAGES }
-        ensures value { option_copied result ≡ data_of (row_of (maps self.now) i p) }
+    pub fn bytes(&self, place: usize, page: PageNumber) -> Option<&[u8]>
+        requires row { place < length (maps self.now) }
+        requires page { page < PAGES }
+        ensures value { option_copied result ≡ data_of (row_of (maps self.now) place page) }
         ensures whole { IfSome result (λ bytes. length bytes.now ≡ PAGE_BYTES) }
     {
-        match self.cell(i, p) {
+        match self.cell(place, page) {
             PageCell::Frame(frame) => Some(self.store.frames.bytes(frame)),
             _ => None,
         }
@@ -81,16 +82,17 @@ impl Rows {
 
     /// The frame of a page that does not part when it is written: no other page has its tag.
     #[inline(always)]
-    pub(crate) fn lone_frame(&self, i: usize, p: PageNumber) -> Option<FrameNo>
-        requires row { i < length (maps self.now) }
-        requires page { p < PAGES }
+    pub(crate) fn lone_frame(&self, place: usize, page_number: PageNumber) -> Option<FrameNo>
+        requires row { place < length (maps self.now) }
+        requires page { page_number < PAGES }
         ensures frame { IfSome result (λ frame. page self.now.store.nodes.all
-            (slice_index self.now.trees.items i) p ≡ cell.Frame frame) }
+            (slice_index self.now.trees.items place) page_number ≡ cell.Frame frame) }
         ensures alone { IfSome result
-            (λ frame. parts (row_tags (maps self.now)) (row_of (maps self.now) i p) ≡ false) }
-        ensures parts { IfNone result (parts (row_tags (maps self.now)) (row_of (maps self.now) i p) ≡ true) }
+            (λ frame. parts (row_tags (maps self.now)) (row_of (maps self.now) place page_number) ≡ false) }
+        ensures parts { IfNone result
+            (parts (row_tags (maps self.now)) (row_of (maps self.now) place page_number) ≡ true) }
     {
-        let (cell, alone) = self.trees[i].look(&self.store, p);
+        let (cell, alone) = self.trees[place].look(&self.store, page_number);
         match cell {
             PageCell::Frame(frame) => {
                 if alone && self.store.frames.count(frame) == 1 {
@@ -104,12 +106,12 @@ impl Rows {
     }
 
     /// Whether a page parts when it is written: it is absent or zeros, or its tag is at another page too.
-    pub fn parts(&self, i: usize, p: PageNumber) -> bool
-        requires row { i < length (maps self.now) }
-        requires page { p < PAGES }
-        ensures { result ≡ parts (row_tags (maps self.now)) (row_of (maps self.now) i p) }
+    pub fn parts(&self, place: usize, page: PageNumber) -> bool
+        requires row { place < length (maps self.now) }
+        requires page { page < PAGES }
+        ensures { result ≡ parts (row_tags (maps self.now)) (row_of (maps self.now) place page) }
     {
-        self.lone_frame(i, p).is_none()
+        self.lone_frame(place, page).is_none()
     }
 
     /// How many frames are in use: one for each different tag.

@@ -27,34 +27,34 @@ impl PageCells {
     #[tactic(auto, unfolding(crate::specs::Seen::rights))]
     pub fn write(
         &mut self,
-        i: usize,
-        p: PageNumber,
+        place: usize,
+        page: PageNumber,
         at: u32,
         piece: &[u8],
         tag: Tag,
     ) -> Result<bool, NoFrame>
-        requires place { i < length (cells self.old) }
-        requires own { IsOwnPage (place_of (cells self.old) i p) }
+        requires place { place < length (cells self.old) }
+        requires own { IsOwnPage (place_of (cells self.old) place page) }
         requires new { IsNewTag (cells self.old) tag }
         ensures full { IsErr result
-            ↔ (frames_of self.old < used (cells self.old) + taken_by (cells self.old) i p) }
+            ↔ (frames_of self.old < used (cells self.old) + taken_by (cells self.old) place page) }
         ensures full_same { OnErr result (cells self.new ≡ cells self.old) }
         ensures written { IfOk result (λ parted. cells self.new
-            ≡ write_page (cells self.old) i p (record { at = at; bytes = piece.now }) tag) }
-        ensures parted { IfOk result (λ parted. parted ≡ is_parting (cells self.old) i p) }
+            ≡ write_page (cells self.old) place page (record { at = at; bytes = piece.now }) tag) }
+        ensures parted { IfOk result (λ parted. parted ≡ is_parting (cells self.old) place page) }
         ensures rights { rights self.new ≡ rights self.old }
         ensures frames { frames_of self.new ≡ frames_of self.old }
         ensures nodes { free_nodes self.old ≤ free_nodes self.new + 3 }
         ensures cost { node_steps self.new ≤ node_steps self.old + 54 }
     {
-        let parting = self.is_parting(i, p);
+        let parting = self.is_parting(place, page);
         if parting {
             if self.used() == self.frames() {
                 return Err(NoFrame);
             }
-            self.rows.part(i, p, at, piece, tag);
+            self.rows.part(place, page, at, piece, tag);
         } else {
-            self.rows.write_in_place(i, p, at, piece);
+            self.rows.write_in_place(place, page, at, piece);
         }
         Ok(parting)
     }
@@ -64,24 +64,25 @@ impl PageCells {
     /// does. If it did not, nothing changes.
     #[inline(always)]
     #[tactic(auto, unfolding(crate::specs::Seen::rights))]
-    pub fn write_in_place(&mut self, i: usize, p: PageNumber, at: u32, piece: &[u8]) -> bool
-        requires place { i < length (cells self.old) }
-        ensures tells { (result ≡ true) ↔ (IsOwnPage (place_of (cells self.old) i p)
-            × ((rights_of (rights self.old) i p ≡ Write) × (is_parting (cells self.old) i p ≡ false))) }
+    pub fn write_in_place(&mut self, place: usize, page: PageNumber, at: u32, piece: &[u8]) -> bool
+        requires place { place < length (cells self.old) }
+        ensures tells { (result ≡ true) ↔ (IsOwnPage (place_of (cells self.old) place page)
+            × ((rights_of (rights self.old) place page ≡ Write) ×
+            (is_parting (cells self.old) place page ≡ false))) }
         ensures enough { result ≡ true → used (cells self.old) ≤ frames_of self.old }
         ensures written { result ≡ true → (tag : Tag) → cells self.new
-            ≡ write_page (cells self.old) i p (record { at = at; bytes = piece.now }) tag }
+            ≡ write_page (cells self.old) place page (record { at = at; bytes = piece.now }) tag }
         ensures same { result ≡ false → cells self.new ≡ cells self.old }
         ensures rights { rights self.new ≡ rights self.old }
         ensures frames { frames_of self.new ≡ frames_of self.old }
         ensures nodes { free_nodes self.new ≡ free_nodes self.old }
         ensures cost { node_steps self.new ≡ node_steps self.old }
     {
-        let Some(state) = self.state(i, p) else {
+        let Some(state) = self.state(place, page) else {
             return false;
         };
         match (state.kind, state.right) {
-            (SegmentKind::Own, Right::Write) => self.rows.write_in_place(i, p, at, piece),
+            (SegmentKind::Own, Right::Write) => self.rows.write_in_place(place, page, at, piece),
             _ => false,
         }
     }

@@ -106,10 +106,10 @@ impl Index {
     }
 
     /// The name at a number in the order of names.
-    pub(crate) fn nth(&self, i: usize) -> Option<Name>
-        ensures { result ≡ slice_get (fm.keys self.now.map) i }
+    pub(crate) fn nth(&self, index: usize) -> Option<Name>
+        ensures { result ≡ slice_get (fm.keys self.now.map) index }
     {
-        match self.rows.get(i) {
+        match self.rows.get(index) {
             Some(row) => Some(row.0),
             None => None,
         }

@@ -134,10 +134,10 @@ impl Names {
     }
 
     /// The name at a number in the order of names, if there are more names than that.
-    pub fn nth(&self, i: u32) -> Option<Name>
-        ensures { result ≡ slice_get (fm.keys self.now.map) i }
+    pub fn nth(&self, index: u32) -> Option<Name>
+        ensures { result ≡ slice_get (fm.keys self.now.map) index }
     {
-        self.index.nth(i as usize)
+        self.index.nth(index as usize)
     }
 
     /// The place of a name that has one.

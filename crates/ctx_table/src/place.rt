@@ -55,14 +55,15 @@ impl<C> Place<C> {
     }
 
     /// Keeps registers for a thread in the context that is held there.
-    pub(crate) fn save(&mut self, t: u32, regs: &Regs)
+    pub(crate) fn save(&mut self, thread: u32, regs: &Regs)
         requires held { is_free self.old ≡ false }
-        requires thread { t < MOST_THREADS }
+        requires thread { thread < MOST_THREADS }
         ensures { (name : Name) (kept : Kept C) → slot_of self.old ≡ Some (name, kept) →
-            slot_of self.new ≡ Some (name, record kept { saved = slice_set kept.saved t (Some regs.now) }) }
+            slot_of self.new
+            ≡ Some (name, record kept { saved = slice_set kept.saved thread (Some regs.now) }) }
     {
         match self {
-            Place::Held { saved, .. } => saved[t as usize] = Some(*regs),
+            Place::Held { saved, .. } => saved[thread as usize] = Some(*regs),
             Place::Free => unreachable!(),
         }
     }

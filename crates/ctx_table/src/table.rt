@@ -161,29 +161,30 @@ impl<C: Drop> CtxTable<C> {
     }
 
     /// The registers that a live context keeps for a thread, if it keeps any.
-    pub fn saved(&self, name: Name, t: u32) -> Option<Regs>
+    pub fn saved(&self, name: Name, thread: u32) -> Option<Regs>
         requires live { fm.contains_key self.now.kept name ≡ true }
-        requires thread { t < MOST_THREADS }
-        ensures { option_map (λ kept. slice_index_or kept.saved t None) (fm.get self.now.kept name)
+        requires thread { thread < MOST_THREADS }
+        ensures { option_map (λ kept. slice_index_or kept.saved thread None) (fm.get self.now.kept name)
             ≡ Some result }
     {
         let place = self.place_of(name);
         match &self.places[place] {
-            Place::Held { saved, .. } => saved[t as usize],
+            Place::Held { saved, .. } => saved[thread as usize],
             Place::Free => unreachable!(),
         }
     }
 
     /// Keeps registers for a thread in a live context, in place of those that it kept.
-    pub fn save(&mut self, name: Name, t: u32, regs: &Regs)
+    pub fn save(&mut self, name: Name, thread: u32, regs: &Regs)
         requires live { fm.contains_key self.old.kept name ≡ true }
-        requires thread { t < MOST_THREADS }
+        requires thread { thread < MOST_THREADS }
         ensures kept { (kept : Kept C) → fm.get self.old.kept name ≡ Some kept → self.new.kept
-            ≡ fm.insert self.old.kept name (record kept { saved = slice_set kept.saved t (Some regs.now) }) }
+            ≡ fm.insert self.old.kept name
+            (record kept { saved = slice_set kept.saved thread (Some regs.now) }) }
         ensures places { self.new.places ≡ self.old.places }
     {
         let place = self.place_of(name);
-        self.places[place].save(t, regs);
+        self.places[place].save(thread, regs);
     }
 
     /// The number of live contexts of a job.
@@ -194,10 +195,10 @@ impl<C: Drop> CtxTable<C> {
     }
 
     /// The name at a number in the order of names, if there are more names than that.
-    pub fn nth(&self, i: u32) -> Option<Name>
-        ensures { result ≡ slice_get (fm.keys self.now.kept) i }
+    pub fn nth(&self, index: u32) -> Option<Name>
+        ensures { result ≡ slice_get (fm.keys self.now.kept) index }
     {
-        self.index.nth(i as usize)
+        self.index.nth(index as usize)
     }
 
     /// The place of a live context.

@@ -3,11 +3,11 @@ ghost use Rattle.lwc_base.specs.Capabilities.{has_bit};
 ghost use Rattle.fd_table.specs.Bits.{IsLowestBit};
 
 /// A word with bit n on or off.
-pub(crate) fn with_bit(word: u64, n: u8, on: bool) -> u64
-    requires { n < 64 }
-    ensures { (m : ℕ) → m < 64 → has_bit result m ≡ (if m == n then on else has_bit word m) }
+pub(crate) fn with_bit(word: u64, slot: u8, on: bool) -> u64
+    requires { slot < 64 }
+    ensures { (m : ℕ) → m < 64 → has_bit result m ≡ (if m == slot then on else has_bit word m) }
 {
-    let bit = 1u64 << n;
+    let bit = 1u64 << slot;
     if on { word | bit } else { word & !bit }
 }
 

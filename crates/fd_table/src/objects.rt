@@ -77,13 +77,13 @@ impl Objects {
     }
 
     /// Holds a held object once more.
-    fn hold(&mut self, o: u32)
-        requires held { 0 < count_of self.old.pool o }
-        requires fits { count_of self.old.pool o + 1 < 2 ^ 32 }
-        ensures pool { self.new.pool ≡ recount self.old.pool o (count_of self.old.pool o + 1) }
+    fn hold(&mut self, object: u32)
+        requires held { 0 < count_of self.old.pool object }
+        requires fits { count_of self.old.pool object + 1 < 2 ^ 32 }
+        ensures pool { self.new.pool ≡ recount self.old.pool object (count_of self.old.pool object + 1) }
         ensures places { length self.new.named.items ≡ length self.old.named.items }
     {
-        self.pool.hold(o);
+        self.pool.hold(object);
     }
 
     /// Holds each object that entries name once more. Chunks that name none are skipped.
@@ -115,25 +115,25 @@ impl Objects {
     }
 
     /// The place that a held object names, where it is held once.
-    fn last_target(&self, o: u32) -> Option<TargetNumber>
-        requires { 0 < count_of self.now.pool o }
-        ensures { result ≡ last_target (held_at self.now.pool o) }
+    fn last_target(&self, object: u32) -> Option<TargetNumber>
+        requires { 0 < count_of self.now.pool object }
+        ensures { result ≡ last_target (held_at self.now.pool object) }
     {
-        if self.pool.count(o) == 1 {
-            self.pool.filling(o).target
+        if self.pool.count(object) == 1 {
+            self.pool.filling(object).target
         } else {
             None
         }
     }
 
     /// Holds a held object once less.
-    fn drop_hold(&mut self, o: u32)
-        requires { 0 < count_of self.old.pool o }
-        ensures pool { self.new.pool ≡ recount self.old.pool o (count_of self.old.pool o - 1) }
+    fn drop_hold(&mut self, object: u32)
+        requires { 0 < count_of self.old.pool object }
+        ensures pool { self.new.pool ≡ recount self.old.pool object (count_of self.old.pool object - 1) }
         ensures places { length self.new.named.items ≡ length self.old.named.items }
     {
-        let target = self.last_target(o);
-        self.pool.drop_hold(o);
+        let target = self.last_target(object);
+        self.pool.drop_hold(object);
         count_less(&mut self.named, target);
     }
 

@@ -60,35 +60,35 @@ impl Pool {
     }
 
     /// Holds a held object once more.
-    pub(crate) fn hold(&mut self, o: u32)
-        requires held { 0 < count_of self.old o }
-        requires fits { count_of self.old o + 1 < 2 ^ 32 }
-        ensures { self.new ≡ recount self.old o (count_of self.old o + 1) }
+    pub(crate) fn hold(&mut self, object: u32)
+        requires held { 0 < count_of self.old object }
+        requires fits { count_of self.old object + 1 < 2 ^ 32 }
+        ensures { self.new ≡ recount self.old object (count_of self.old object + 1) }
     {
-        self.counts.hold(o);
+        self.counts.hold(object);
     }
 
     /// Holds a held object once less. At 0 it is free.
-    pub(crate) fn drop_hold(&mut self, o: u32)
-        requires { 0 < count_of self.old o }
-        ensures { self.new ≡ recount self.old o (count_of self.old o - 1) }
+    pub(crate) fn drop_hold(&mut self, object: u32)
+        requires { 0 < count_of self.old object }
+        ensures { self.new ≡ recount self.old object (count_of self.old object - 1) }
     {
-        self.counts.drop_hold(o);
+        self.counts.drop_hold(object);
     }
 
     /// How often a held object is held.
-    pub(crate) fn count(&self, o: u32) -> u32
-        requires { 0 < count_of self.now o }
-        ensures { result ≡ count_of self.now o }
+    pub(crate) fn count(&self, object: u32) -> u32
+        requires { 0 < count_of self.now object }
+        ensures { result ≡ count_of self.now object }
     {
-        self.counts.count(o)
+        self.counts.count(object)
     }
 
     /// The filling of a held object.
-    pub(crate) fn filling(&self, o: u32) -> Filling<'_>
-        requires { 0 < count_of self.now o }
-        ensures { slot_of result ≡ slot_at self.now o }
+    pub(crate) fn filling(&self, object: u32) -> Filling<'_>
+        requires { 0 < count_of self.now object }
+        ensures { slot_of result ≡ slot_at self.now object }
     {
-        self.fillings.get(o)
+        self.fillings.get(object)
     }
 }

@@ -52,37 +52,37 @@ impl Slots {
     }
 
     /// What a slot has, where it is filled.
-    fn filling(&self, i: usize, n: SlotNumber) -> Option<Filling<'_>>
-        requires place { i < length (slots self.now) }
-        requires slot { n < SLOTS }
-        ensures none { IfNone result (row_of (slots self.now) i n ≡ empty_slot) }
-        ensures some { IfSome result (λ filling. row_of (slots self.now) i n ≡ slot_of filling) }
+    fn filling(&self, place: usize, slot: SlotNumber) -> Option<Filling<'_>>
+        requires place { place < length (slots self.now) }
+        requires slot { slot < SLOTS }
+        ensures none { IfNone result (row_of (slots self.now) place slot ≡ empty_slot) }
+        ensures some { IfSome result (λ filling. row_of (slots self.now) place slot ≡ slot_of filling) }
     {
-        match self.tables[i].entries[n as usize] {
+        match self.tables[place].entries[slot as usize] {
             0 => None,
             entry => Some(self.objects.pool.filling(entry - 1)),
         }
     }
 
     /// The cell of a slot, lent.
-    pub fn cell(&self, i: usize, n: SlotNumber) -> Cell<Lent<'_>>
-        requires place { i < length (slots self.now) }
-        requires slot { n < SLOTS }
-        ensures { cell_of result ≡ (row_of (slots self.now) i n).cell }
+    pub fn cell(&self, place: usize, slot: SlotNumber) -> Cell<Lent<'_>>
+        requires place { place < length (slots self.now) }
+        requires slot { slot < SLOTS }
+        ensures { cell_of result ≡ (row_of (slots self.now) place slot).cell }
     {
-        match self.filling(i, n) {
+        match self.filling(place, slot) {
             Some(filling) => filling.cell,
             None => Cell::Own(Lent::Empty),
         }
     }
 
     /// The context that a slot of a place's own has a descriptor of, if it has one.
-    pub fn context(&self, i: usize, n: SlotNumber) -> Option<Name>
-        requires place { i < length (slots self.now) }
-        requires slot { n < SLOTS }
-        ensures { result ≡ context_in (row_of (slots self.now) i n).cell }
+    pub fn context(&self, place: usize, slot: SlotNumber) -> Option<Name>
+        requires place { place < length (slots self.now) }
+        requires slot { slot < SLOTS }
+        ensures { result ≡ context_in (row_of (slots self.now) place slot).cell }
     {
-        match self.filling(i, n) {
+        match self.filling(place, slot) {
             Some(filling) => filling.context(),
             None => None,
         }
@@ -90,38 +90,38 @@ impl Slots {
 
     /// Whether a slot of two places is one object, or has none in both. Slots that are not may be the same,
     /// too.
-    pub fn is_shared(&self, i: usize, j: usize, n: SlotNumber) -> bool
-        requires place { i < length (slots self.now) }
-        requires other { j < length (slots self.now) }
-        requires slot { n < SLOTS }
-        ensures { result ≡ true → row_of (slots self.now) i n ≡ row_of (slots self.now) j n }
+    pub fn is_shared(&self, place: usize, other: usize, slot: SlotNumber) -> bool
+        requires place { place < length (slots self.now) }
+        requires other { other < length (slots self.now) }
+        requires slot { slot < SLOTS }
+        ensures { result ≡ true → row_of (slots self.now) place slot ≡ row_of (slots self.now) other slot }
     {
-        self.tables[i].entries[n as usize] == self.tables[j].entries[n as usize]
+        self.tables[place].entries[slot as usize] == self.tables[other].entries[slot as usize]
     }
 
     /// The slots of a place that are not empty slots of its own: slot n is bit n.
-    pub fn filled(&self, i: usize) -> u64
-        requires { i < length (slots self.now) }
-        ensures { (n : ℕ) → n < SLOTS → has_bit result n ≡ is_filled (row_of (slots self.now) i n).cell }
+    pub fn filled(&self, place: usize) -> u64
+        requires { place < length (slots self.now) }
+        ensures { (n : ℕ) → n < SLOTS → has_bit result n ≡ is_filled (row_of (slots self.now) place n).cell }
     {
-        self.tables[i].filled
+        self.tables[place].filled
     }
 
     /// The slots of a place whose values are groups': slot n is bit n.
-    pub fn common(&self, i: usize) -> u64
-        requires { i < length (slots self.now) }
-        ensures { (n : ℕ) → n < SLOTS → has_bit result n ≡ is_common (row_of (slots self.now) i n).cell }
+    pub fn common(&self, place: usize) -> u64
+        requires { place < length (slots self.now) }
+        ensures { (n : ℕ) → n < SLOTS → has_bit result n ≡ is_common (row_of (slots self.now) place n).cell }
     {
-        self.tables[i].common
+        self.tables[place].common
     }
 
     /// How many slots of a place are not empty slots of its own.
-    pub fn count_filled(&self, i: usize) -> u32
-        requires { i < length (slots self.now) }
+    pub fn count_filled(&self, place: usize) -> u32
+        requires { place < length (slots self.now) }
         ensures { result
-            ≡ count_by (λ n. is_filled (row_of (slots self.now) i n).cell) (range_with_len 0 SLOTS) }
+            ≡ count_by (λ n. is_filled (row_of (slots self.now) place n).cell) (range_with_len 0 SLOTS) }
     {
-        self.filled(i).count_ones()
+        self.filled(place).count_ones()
     }
 
     /// Whether a slot of any place names a number.
@@ -136,66 +136,66 @@ impl Slots {
     /// Puts another cell into a slot, with the number that it names.
     pub fn put(
         &mut self,
-        i: usize,
-        n: SlotNumber,
+        place: usize,
+        slot: SlotNumber,
         cell: Cell<Lent<'_>>,
         target: Option<TargetNumber>,
     )
-        requires place { i < length (slots self.old) }
-        requires slot { n < SLOTS }
+        requires place { place < length (slots self.old) }
+        requires slot { slot < SLOTS }
         requires target { IfSome target (λ number. number < NUMBERS) }
         requires named { cell_of cell ≡ Own Empty → target ≡ None }
-        ensures { slots self.new ≡ slice_set (slots self.old) i
-            (put_slot (row_of (slots self.old) i) n (record { cell = cell_of cell.entry; target = target })) }
+        ensures { slots self.new ≡ slice_set (slots self.old) place
+            (put_slot (row_of (slots self.old) place) slot (record { cell = cell_of cell.entry; target = target })) }
     {
-        self.empty_slot(i, n);
+        self.empty_slot(place, slot);
         let filling = Filling { cell, target };
         if filling.is_filled() {
-            self.fill_slot(i, n, &filling);
+            self.fill_slot(place, slot, &filling);
         }
     }
 
     /// Empties a slot, and gives its object back.
-    fn empty_slot(&mut self, i: usize, n: SlotNumber)
-        requires place { i < length (slots self.old) }
-        requires slot { n < SLOTS }
-        ensures { slots self.new ≡ slice_set (slots self.old) i
-            (put_slot (row_of (slots self.old) i) n empty_slot) }
+    fn empty_slot(&mut self, place: usize, slot: SlotNumber)
+        requires place { place < length (slots self.old) }
+        requires slot { slot < SLOTS }
+        ensures { slots self.new ≡ slice_set (slots self.old) place
+            (put_slot (row_of (slots self.old) place) slot empty_slot) }
     {
-        let entry = self.tables[i].entries[n as usize];
+        let entry = self.tables[place].entries[slot as usize];
         self.objects.drop_entry(entry);
-        self.tables[i].set(n, 0, false);
+        self.tables[place].set(slot, 0, false);
     }
 
     /// Fills an empty slot with a new object.
-    fn fill_slot(&mut self, i: usize, n: SlotNumber, filling: &Filling<'_>)
-        requires place { i < length (slots self.old) }
-        requires slot { n < SLOTS }
-        requires empty { row_of (slots self.old) i n ≡ empty_slot }
+    fn fill_slot(&mut self, place: usize, slot: SlotNumber, filling: &Filling<'_>)
+        requires place { place < length (slots self.old) }
+        requires slot { slot < SLOTS }
+        requires empty { row_of (slots self.old) place slot ≡ empty_slot }
         requires filled { is_filled (slot_of filling.now).cell ≡ true }
         requires target { IfSome (slot_of filling.now).target (λ number. number < NUMBERS) }
-        ensures { slots self.new ≡ slice_set (slots self.old) i
-            (put_slot (row_of (slots self.old) i) n (slot_of filling.now)) }
+        ensures { slots self.new ≡ slice_set (slots self.old) place
+            (put_slot (row_of (slots self.old) place) slot (slot_of filling.now)) }
     {
         let o = self.objects.take(filling);
-        self.tables[i].set(n, o + 1, filling.is_common());
+        self.tables[place].set(slot, o + 1, filling.is_common());
     }
 
     /// Makes slot n of a place what slot m of a place is. Both slots share its object from then on.
-    pub fn copy_slot(&mut self, to: usize, n: SlotNumber, from: usize, m: SlotNumber)
+    pub fn copy_slot(&mut self, to: usize, slot: SlotNumber, from: usize, other_slot: SlotNumber)
         requires to { to < length (slots self.old) }
-        requires slot { n < SLOTS }
+        requires slot { slot < SLOTS }
         requires from { from < length (slots self.old) }
-        requires from_slot { m < SLOTS }
+        requires from_slot { other_slot < SLOTS }
         ensures { slots self.new ≡ slice_set (slots self.old) to
-            (put_slot (row_of (slots self.old) to) n (row_of (slots self.old) from m)) }
+            (put_slot (row_of (slots self.old) to) slot (row_of (slots self.old) from other_slot)) }
     {
-        let entry = self.tables[from].entries[m as usize];
-        let common = self.tables[from].is_common(m);
+        let entry = self.tables[from].entries[other_slot as usize];
+        let common = self.tables[from].is_common(other_slot);
         self.objects.hold_all(&[entry]);
-        let old = self.tables[to].entries[n as usize];
+        let old = self.tables[to].entries[slot as usize];
         self.objects.drop_entry(old);
-        self.tables[to].set(n, entry, common);
+        self.tables[to].set(slot, entry, common);
     }
 
     /// Makes the slots of a place, all of which are empty, those of another.
@@ -211,11 +211,11 @@ impl Slots {
     }
 
     /// Makes all slots of a place empty, and gives back what no other place shares.
-    pub fn clear_place(&mut self, i: usize)
-        requires { i < length (slots self.old) }
-        ensures { slots self.new ≡ slice_set (slots self.old) i no_slots }
+    pub fn clear_place(&mut self, place: usize)
+        requires { place < length (slots self.old) }
+        ensures { slots self.new ≡ slice_set (slots self.old) place no_slots }
     {
-        self.objects.drop_all(self.tables[i].used());
-        self.tables[i] = Table::fresh();
+        self.objects.drop_all(self.tables[place].used());
+        self.tables[place] = Table::fresh();
     }
 }

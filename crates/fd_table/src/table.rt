@@ -41,25 +41,25 @@ impl CopyFrom for Table {
 
 impl Table {
     /// Puts another entry into slot n, common or not.
-    pub(crate) fn set(&mut self, n: SlotNumber, entry: u32, common: bool)
-        requires { n < SLOTS }
-        ensures entries { self.new.entries ≡ slice_set self.old.entries n entry }
+    pub(crate) fn set(&mut self, slot: SlotNumber, entry: u32, common: bool)
+        requires { slot < SLOTS }
+        ensures entries { self.new.entries ≡ slice_set self.old.entries slot entry }
         ensures filled { (m : ℕ) → m < SLOTS →
-            has_bit self.new.filled m ≡ (if m == n then nat_lt 0 entry else has_bit self.old.filled m) }
+            has_bit self.new.filled m ≡ (if m == slot then nat_lt 0 entry else has_bit self.old.filled m) }
         ensures common { (m : ℕ) → m < SLOTS →
-            has_bit self.new.common m ≡ (if m == n then common else has_bit self.old.common m) }
+            has_bit self.new.common m ≡ (if m == slot then common else has_bit self.old.common m) }
     {
-        self.entries[n as usize] = entry;
-        self.filled = with_bit(self.filled, n, entry > 0);
-        self.common = with_bit(self.common, n, common);
+        self.entries[slot as usize] = entry;
+        self.filled = with_bit(self.filled, slot, entry > 0);
+        self.common = with_bit(self.common, slot, common);
     }
 
     /// Whether slot n is common.
-    pub(crate) fn is_common(&self, n: SlotNumber) -> bool
-        requires { n < SLOTS }
-        ensures { result ≡ has_bit self.now.common n }
+    pub(crate) fn is_common(&self, slot: SlotNumber) -> bool
+        requires { slot < SLOTS }
+        ensures { result ≡ has_bit self.now.common slot }
     {
-        self.common >> n & 1 == 1
+        self.common >> slot & 1 == 1
     }
 
     /// The entries up to the last slot that is filled.

@@ -15,9 +15,9 @@ const NOTHING: Instr = Instr {
 };
 
 /// The bytes of an instruction, and the instruction of these bytes.
-fn coded(rt: &impl Abort, i: &Instr) -> ([u8; 8], Option<Instr>) {
-    assert!(rt; i.is_instruction());
-    let bytes = encode(i);
+fn coded(rt: &impl Abort, instruction: &Instr) -> ([u8; 8], Option<Instr>) {
+    assert!(rt; instruction.is_instruction());
+    let bytes = encode(instruction);
     (bytes, decode(&bytes))
 }
 

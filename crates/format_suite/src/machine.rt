@@ -73,11 +73,11 @@ fn numbers_that_are_put(rt: HostRuntime) {
 }
 
 /// pc and r1 after an instruction, from pc 7 with 9 in r2.
-fn jumped(rt: &impl Abort, i: &Instr) -> (u64, u64) {
-    assert!(rt; i.is_instruction() && i.op.is_private());
+fn jumped(rt: &impl Abort, instruction: &Instr) -> (u64, u64) {
+    assert!(rt; instruction.is_instruction() && instruction.op.is_private());
     let mut regs = Regs::fresh(7);
     regs.r[2] = 9;
-    let after = private(i, &regs);
+    let after = private(instruction, &regs);
     (after.pc, after.r[1])
 }
 

@@ -46,7 +46,8 @@ impl<'a> Eq for Name<'a> {
 impl<'a> Hash for Name<'a> {
     ghost hash_input = { λ s. name_in s ∷ [] };
 
-    ghost respects_eq = { λ x y same. ap (λ bytes. bytes ∷ []) ((bytes_decides (name_in x) (name_in y)).0 same) };
+    ghost respects_eq = { λ x y same. ap (λ bytes. bytes ∷ [])
+        ((bytes_decides (name_in x) (name_in y)).0 same) };
 
     fn hash<H: Hasher>(&self, state: &mut H) {
         state.write(self.bytes);

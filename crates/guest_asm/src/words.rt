@@ -99,7 +99,8 @@ pub(crate) fn all_plain(text: &[u8]) -> bool
 /// The label that a text begins with, and the first word after it with what follows.
 pub(crate) fn first_parts(text: &[u8]) -> (Option<&[u8]>, Option<(&[u8], &[u8])>)
     ensures label { option_map bytes_in result.0 ≡ (spec.labelled text.now).0 }
-    ensures some { IfSome result.1 (λ x. spec.words (spec.labelled text.now).1 ≡ x.0.now ∷ spec.words x.1.now) }
+    ensures some { IfSome result.1
+        (λ x. spec.words (spec.labelled text.now).1 ≡ x.0.now ∷ spec.words x.1.now) }
     ensures none { IfNone result.1 (spec.words (spec.labelled text.now).1 ≡ []) }
 {
     let from = from_first_word(text);

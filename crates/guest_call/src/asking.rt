@@ -28,19 +28,19 @@ const BUFFER_BYTES: usize = MOST_ITEMS * ITEM_BYTES;
 #[tactic(auto, unfolding(crate::specs::Asked::item_refusals, crate::specs::Asked::items_of))]
 pub fn items_for<W: World>(
     world: &W,
-    c: Name,
+    context: Name,
     call: SpecCall,
     at: u64,
     count: u64,
     items: &mut Items,
 ) -> Result<(), Refusal>
-    requires live { IsLive (W.seen world.now) c }
+    requires live { IsLive (W.seen world.now) context }
     requires none { items.old ≡ [] }
     ensures refused { IfErr result (λ refusal. (rows : List (Bool × Refusal)) →
-        first_refusal (item_refusals (W.seen world.now) c call at count ++ rows) ≡ Some refusal) }
+        first_refusal (item_refusals (W.seen world.now) context call at count ++ rows) ≡ Some refusal) }
     ensures passed { OnOk result ((rows : List (Bool × Refusal)) →
-        first_refusal (item_refusals (W.seen world.now) c call at count ++ rows) ≡ first_refusal rows) }
-    ensures items { OnOk result (items.new ≡ items_of (W.seen world.now) c call at count) }
+        first_refusal (item_refusals (W.seen world.now) context call at count ++ rows) ≡ first_refusal rows) }
+    ensures items { OnOk result (items.new ≡ items_of (W.seen world.now) context call at count) }
     ensures valid { OnOk result (IsSpec (W.seen world.now).size.pages items.new) }
 {
     if count == 0 {
@@ -49,7 +49,7 @@ pub fn items_for<W: World>(
     if count > MOST_ITEMS as u64 {
         return Err(Refusal::TooManyItems);
     }
-    *items = some_items(world, c, call, at, count)?;
+    *items = some_items(world, context, call, at, count)?;
     Ok(())
 }
 
@@ -58,23 +58,23 @@ pub fn items_for<W: World>(
 #[inline(never)]
 fn some_items<W: World>(
     world: &W,
-    c: Name,
+    context: Name,
     call: SpecCall,
     at: u64,
     count: u64,
 ) -> Result<Items, Refusal>
-    requires live { IsLive (W.seen world.now) c }
+    requires live { IsLive (W.seen world.now) context }
     requires few { count ≤ MOST_ITEMS }
     ensures refused { IfErr result (λ refusal. (rows : List (Bool × Refusal)) →
-        first_refusal (item_refusals (W.seen world.now) c call at count ++ rows) ≡ Some refusal) }
+        first_refusal (item_refusals (W.seen world.now) context call at count ++ rows) ≡ Some refusal) }
     ensures passed { IfOk result (λ items. (rows : List (Bool × Refusal)) →
-        first_refusal (item_refusals (W.seen world.now) c call at count ++ rows) ≡ first_refusal rows) }
-    ensures items { IfOk result (λ items. items ≡ items_of (W.seen world.now) c call at count) }
+        first_refusal (item_refusals (W.seen world.now) context call at count ++ rows) ≡ first_refusal rows) }
+    ensures items { IfOk result (λ items. items ≡ items_of (W.seen world.now) context call at count) }
     ensures valid { IfOk result (λ items. IsSpec (W.seen world.now).size.pages items) }
 {
     let mut buffer = [0; BUFFER_BYTES];
     let bytes = &mut buffer[..count as usize * ITEM_BYTES];
-    if !bytes_for(world, c, at, bytes) {
+    if !bytes_for(world, context, at, bytes) {
         return Err(Refusal::BadAddress);
     }
     read_items(bytes, call, world.pages()).map_err(refusal_of)

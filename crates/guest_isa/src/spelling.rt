@@ -7,13 +7,22 @@ use crate::instr::Instr;
 use crate::op::Op;
 
 /// The eight bytes of an instruction: the opcode, rd, ra, rb, and imm with its lowest byte first.
-pub fn encode(i: &Instr) -> [u8; 8]
-    requires { IsInstruction i.now }
-    ensures bytes { result ≡ spelling i.now }
-    ensures read_back { reading result ≡ Some i.now }
+pub fn encode(instruction: &Instr) -> [u8; 8]
+    requires { IsInstruction instruction.now }
+    ensures bytes { result ≡ spelling instruction.now }
+    ensures read_back { reading result ≡ Some instruction.now }
 {
-    let [low, second, third, high] = i.imm.to_le_bytes();
-    [i.op.number(), i.rd, i.ra, i.rb, low, second, third, high]
+    let [low, second, third, high] = instruction.imm.to_le_bytes();
+    [
+        instruction.op.number(),
+        instruction.rd,
+        instruction.ra,
+        instruction.rb,
+        low,
+        second,
+        third,
+        high,
+    ]
 }
 
 /// The instruction that eight bytes spell, and `None` where they spell none.

@@ -68,11 +68,11 @@ impl Text {
     }
 
     /// The instruction at place i.
-    pub fn get(&self, i: usize) -> &Instr
-        requires { i < length self.now }
-        ensures value { slice_get self.now i ≡ Some result.now }
+    pub fn get(&self, index: usize) -> &Instr
+        requires { index < length self.now }
+        ensures value { slice_get self.now index ≡ Some result.now }
         ensures instruction { IsInstruction result.now }
     {
-        &self.list[i]
+        &self.list[index]
     }
 }

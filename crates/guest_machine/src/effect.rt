@@ -21,13 +21,13 @@ pub enum Effect {
 }
 
 /// The registers after a private instruction.
-pub fn private(i: &Instr, regs: &Regs) -> Regs
-    requires instruction { IsInstruction i.now }
-    requires private { IsTrue (is_private i.now.op) }
-    ensures { result ≡ effect i.now regs.now }
+pub fn private(instruction: &Instr, regs: &Regs) -> Regs
+    requires instruction { IsInstruction instruction.now }
+    requires private { IsTrue (is_private instruction.now.op) }
+    ensures { result ≡ effect instruction.now regs.now }
 {
     let mut r = regs.r;
-    match after_private(i, regs.pc, &mut r) {
+    match after_private(instruction, regs.pc, &mut r) {
         Some(pc) => Regs { r, pc },
         None => unreachable!(),
     }
@@ -37,45 +37,111 @@ pub fn private(i: &Instr, regs: &Regs) -> Regs
 /// is not done.
 #[inline(always)]
 #[tactic(auto, using(guest_isa::proofs::Fields::in_range), unfolding(crate::specs::Effects::effect))]
-pub(crate) fn after_private(i: &Instr, pc: u64, r: &mut [u64; 16]) -> Option<u64>
-    requires { IsInstruction i.now }
+pub(crate) fn after_private(instruction: &Instr, pc: u64, registers: &mut [u64; 16]) -> Option<u64>
+    requires { IsInstruction instruction.now }
     ensures done { IfSome result (λ next.
-        record { r = r.new; pc = next } ≡ effect i.now (record { r = r.old; pc = pc })) }
-    ensures private { IfSome result (λ next. is_shared i.now.op ≡ false) }
-    ensures shared { IfNone result (is_shared i.now.op ≡ true) }
-    ensures kept { IfNone result (r.new ≡ r.old) }
+        record { registers = registers.new; pc = next }
+        ≡ effect instruction.now (record { registers = registers.old; pc = pc })) }
+    ensures private { IfSome result (λ next. is_shared instruction.now.op ≡ false) }
+    ensures shared { IfNone result (is_shared instruction.now.op ≡ true) }
+    ensures kept { IfNone result (registers.new ≡ registers.old) }
 {
-    match i.op {
-        Op::Li => put(i.rd, u64::from(i.imm), pc, r),
+    match instruction.op {
+        Op::Li => put(instruction.rd, u64::from(instruction.imm), pc, registers),
         Op::Lih => put(
-            i.rd,
-            (u64::from(i.imm) << 32) | (of(i.rd, r) & 0xffff_ffff),
+            instruction.rd,
+            (u64::from(instruction.imm) << 32) | (of(instruction.rd, registers) & 0xffff_ffff),
             pc,
-            r,
+            registers,
         ),
-        Op::Mov => put(i.rd, of(i.ra, r), pc, r),
-        Op::Add => put(i.rd, of(i.ra, r).wrapping_add(of(i.rb, r)), pc, r),
-        Op::Sub => put(i.rd, of(i.ra, r).wrapping_sub(of(i.rb, r)), pc, r),
-        Op::Mul => put(i.rd, of(i.ra, r).wrapping_mul(of(i.rb, r)), pc, r),
-        Op::Divu => put(i.rd, quotient(of(i.ra, r), of(i.rb, r)), pc, r),
-        Op::Remu => put(i.rd, remainder(of(i.ra, r), of(i.rb, r)), pc, r),
-        Op::And => put(i.rd, of(i.ra, r) & of(i.rb, r), pc, r),
-        Op::Or => put(i.rd, of(i.ra, r) | of(i.rb, r), pc, r),
-        Op::Xor => put(i.rd, of(i.ra, r) ^ of(i.rb, r), pc, r),
-        Op::Shl => put(i.rd, of(i.ra, r) << (of(i.rb, r) % 64), pc, r),
-        Op::Shr => put(i.rd, of(i.ra, r) >> (of(i.rb, r) % 64), pc, r),
-        Op::Ltu => put(i.rd, u64::from(of(i.ra, r) < of(i.rb, r)), pc, r),
-        Op::Eq => put(i.rd, u64::from(of(i.ra, r) == of(i.rb, r)), pc, r),
-        Op::Addi => put(i.rd, of(i.ra, r).wrapping_add(i.sx()), pc, r),
-        Op::Jmp => Some(u64::from(i.imm)),
-        Op::Jz if of(i.ra, r) == 0 => Some(u64::from(i.imm)),
-        Op::Jnz if of(i.ra, r) != 0 => Some(u64::from(i.imm)),
+        Op::Mov => put(instruction.rd, of(instruction.ra, registers), pc, registers),
+        Op::Add => put(
+            instruction.rd,
+            of(instruction.ra, registers).wrapping_add(of(instruction.rb, registers)),
+            pc,
+            registers,
+        ),
+        Op::Sub => put(
+            instruction.rd,
+            of(instruction.ra, registers).wrapping_sub(of(instruction.rb, registers)),
+            pc,
+            registers,
+        ),
+        Op::Mul => put(
+            instruction.rd,
+            of(instruction.ra, registers).wrapping_mul(of(instruction.rb, registers)),
+            pc,
+            registers,
+        ),
+        Op::Divu => put(
+            instruction.rd,
+            quotient(of(instruction.ra, registers), of(instruction.rb, registers)),
+            pc,
+            registers,
+        ),
+        Op::Remu => put(
+            instruction.rd,
+            remainder(of(instruction.ra, registers), of(instruction.rb, registers)),
+            pc,
+            registers,
+        ),
+        Op::And => put(
+            instruction.rd,
+            of(instruction.ra, registers) & of(instruction.rb, registers),
+            pc,
+            registers,
+        ),
+        Op::Or => put(
+            instruction.rd,
+            of(instruction.ra, registers) | of(instruction.rb, registers),
+            pc,
+            registers,
+        ),
+        Op::Xor => put(
+            instruction.rd,
+            of(instruction.ra, registers) ^ of(instruction.rb, registers),
+            pc,
+            registers,
+        ),
+        Op::Shl => put(
+            instruction.rd,
+            of(instruction.ra, registers) << (of(instruction.rb, registers) % 64),
+            pc,
+            registers,
+        ),
+        Op::Shr => put(
+            instruction.rd,
+            of(instruction.ra, registers) >> (of(instruction.rb, registers) % 64),
+            pc,
+            registers,
+        ),
+        Op::Ltu => put(
+            instruction.rd,
+            u64::from(of(instruction.ra, registers) < of(instruction.rb, registers)),
+            pc,
+            registers,
+        ),
+        Op::Eq => put(
+            instruction.rd,
+            u64::from(of(instruction.ra, registers) == of(instruction.rb, registers)),
+            pc,
+            registers,
+        ),
+        Op::Addi => put(
+            instruction.rd,
+            of(instruction.ra, registers).wrapping_add(instruction.sx()),
+            pc,
+            registers,
+        ),
+        Op::Jmp => Some(u64::from(instruction.imm)),
+        Op::Jz if of(instruction.ra, registers) == 0 => Some(u64::from(instruction.imm)),
+        Op::Jnz if of(instruction.ra, registers) != 0 => Some(u64::from(instruction.imm)),
         Op::Jz | Op::Jnz => Some(pc.wrapping_add(1)),
         Op::Jal => {
-            let _next = put(i.rd, pc.wrapping_add(1), pc, r);
-            Some(u64::from(i.imm))
+            let _next = put(instruction.rd, pc.wrapping_add(1), pc, registers);
+            Some(u64::from(instruction.imm))
         }
-        Op::Jr => Some(of(i.ra, r)),
+        Op::Jr => Some(of(instruction.ra, registers)),
         // Shared operations are done elsewhere.
         Op::Ldb | Op::Ldw | Op::Stb | Op::Stw | Op::Sys | Op::Halt => None,
     }
@@ -83,21 +149,21 @@ pub(crate) fn after_private(i: &Instr, pc: u64, r: &mut [u64; 16]) -> Option<u64
 
 /// The number in a register.
 #[inline(always)]
-fn of(k: u8, r: &[u64; 16]) -> u64
-    requires { k < 16 }
-    ensures { result ≡ slice_index r.now k }
+fn of(register: u8, registers: &[u64; 16]) -> u64
+    requires { register < 16 }
+    ensures { result ≡ slice_index registers.now register }
 {
-    r[k as usize]
+    registers[register as usize]
 }
 
 /// Puts a number into a register, and answers the pc after this one.
 #[inline(always)]
-fn put(rd: u8, number: u64, pc: u64, r: &mut [u64; 16]) -> Option<u64>
+fn put(rd: u8, number: u64, pc: u64, registers: &mut [u64; 16]) -> Option<u64>
     requires { rd < 16 }
     ensures next { result ≡ Some ((pc + 1) % 2 ^ 64) }
-    ensures registers { r.new ≡ slice_set r.old rd number }
+    ensures registers { registers.new ≡ slice_set registers.old rd number }
 {
-    r[rd as usize] = number;
+    registers[rd as usize] = number;
     Some(pc.wrapping_add(1))
 }
 

@@ -59,20 +59,21 @@ pub fn step_thread<W: World>(
     io: &mut Channels,
     serve: &mut Option<Serve>,
     text: &Text,
-    t: u32,
+    thread_number: u32,
     thread: &mut Thread,
     proposal: Option<&Advance>,
 ) -> Result<Option<Effect>, OutOfMemory>
-    requires number { t < MOST_THREADS }
+    requires number { thread_number < MOST_THREADS }
     requires ready { WhileRunning thread.old.status (CanAct (W.seen world.old) thread.old) }
     requires files { HasItsFiles io.old (W.seen world.old) }
     requires steps { WhileRunning thread.old.status (0 < thread.old.budget) }
     requires serve { IfSome serve.old (CanServe (W.seen world.old) io.old) }
-    requires worker { IfSome serve.old (λ s. (t < s.workers) × HasItsJob s thread.old.status thread.old.job) }
+    requires worker { IfSome serve.old
+        (λ s. (thread_number < s.workers) × HasItsJob s thread.old.status thread.old.job) }
     requires proposal { IfSome proposal (λ a. a.now ≡ advanced text.now a.now.before) }
     requires text { IsText text.now }
     ensures outcome { IfOk result (λ effect.
-        spec.thread_outcome spec.guest_calls t (spec.beside (W.seen world.old) io.old) serve.old text.now
+        spec.thread_outcome spec.guest_calls thread_number (spec.beside (W.seen world.old) io.old) serve.old text.now
         thread.old thread.old.status
         ≡ made effect (spec.beside (W.seen world.new) io.new) serve.new thread.new) }
     ensures number { IfOk result (λ effect. IfSome effect (λ e. IsNumbered e serve.new)) }
@@ -86,10 +87,10 @@ pub fn step_thread<W: World>(
 {
     match thread.status {
         ThreadStatus::Running => {
-            let change = run_thread(world, io, text, t, thread, proposal)?;
-            Ok(Some(settle(world, io, serve, t, thread, change)))
+            let change = run_thread(world, io, text, thread_number, thread, proposal)?;
+            Ok(Some(settle(world, io, serve, thread_number, thread, change)))
         }
-        ThreadStatus::Idle => Ok(Some(wake(world, io, serve, t, thread)?)),
+        ThreadStatus::Idle => Ok(Some(wake(world, io, serve, thread_number, thread)?)),
         ThreadStatus::Done { .. } | ThreadStatus::Faulted { .. } => Ok(None),
     }
 }
@@ -101,17 +102,17 @@ fn settle<W: World>(
     world: &W,
     io: &Channels,
     serve: &mut Option<Serve>,
-    t: u32,
+    thread_number: u32,
     thread: &mut Thread,
     change: Change,
 ) -> Effect
-    requires number { t < MOST_THREADS }
-    requires home { IfSome serve.old (λ s. IsLive (W.seen world.now) (home_of t)) }
+    requires number { thread_number < MOST_THREADS }
+    requires home { IfSome serve.old (λ s. IsLive (W.seen world.now) (home_of thread_number)) }
     requires begun { IfSome serve.old (λ s. (1 ≤ thread.old.job) × (thread.old.job ≤ s.next)) }
     requires known { IfSome serve.old (λ s. s.next ≤ length io.now.requests) }
     requires replies { IfSome serve.old (λ s. length s.replies ≡ length io.now.requests) }
     ensures number { IsNumbered result serve.new }
-    ensures after { spec.settled t serve.old
+    ensures after { spec.settled thread_number serve.old
         (spec.unchanged (spec.beside (W.seen world.now) io.now) thread.old)
         ≡ after_effect result (spec.beside (W.seen world.now) io.now) serve.new thread.new }
     ensures kept { (w : World) (x : Thread) → Keeps change w x (W.seen world.now) thread.old →
@@ -122,7 +123,7 @@ fn settle<W: World>(
             let _requests = io.requests();
             let r = (thread.job - 1) as u16;
             serve.record_reply(io, r, thread.status);
-            let home = home_of(t);
+            let home = home_of(thread_number);
             *thread = Thread::waiting(home, world.entry(home));
             Effect {
                 change: Change::Links,
@@ -140,14 +141,15 @@ fn wake<W: World>(
     world: &mut W,
     io: &Channels,
     serve: &mut Option<Serve>,
-    t: u32,
+    thread_number: u32,
     thread: &mut Thread,
 ) -> Result<Effect, OutOfMemory>
-    requires number { t < MOST_THREADS }
-    requires serve { IfSome serve.old (λ s. (t < s.workers) × CanServe (W.seen world.old) io.now s) }
+    requires number { thread_number < MOST_THREADS }
+    requires serve { IfSome serve.old
+        (λ s. (thread_number < s.workers) × CanServe (W.seen world.old) io.now s) }
     ensures number { IfOk result (λ effect. IsNumbered effect serve.new) }
     ensures after { IfOk result (λ effect.
-        spec.woken t serve.old (spec.beside (W.seen world.old) io.now) thread.old
+        spec.woken thread_number serve.old (spec.beside (W.seen world.old) io.now) thread.old
         ≡ after_effect effect (spec.beside (W.seen world.new) io.now) serve.new thread.new) }
     ensures kept { IfOk result (λ effect.
         Keeps effect.change (W.seen world.old) thread.old (W.seen world.new) thread.new) }
@@ -159,7 +161,7 @@ fn wake<W: World>(
     match serve {
         Some(serve) if usize::from(serve.next) < io.requests().len() => {
             let r = serve.next;
-            let home = home_of(t);
+            let home = home_of(thread_number);
             let regs = world.entry(home);
             let context = begin(world, home, r)?;
             *thread = Thread {
@@ -186,18 +188,18 @@ fn run_thread<W: World>(
     world: &mut W,
     io: &mut Channels,
     text: &Text,
-    t: u32,
+    thread_number: u32,
     thread: &mut Thread,
     proposal: Option<&Advance>,
 ) -> Result<Change, OutOfMemory>
-    requires number { t < MOST_THREADS }
+    requires number { thread_number < MOST_THREADS }
     requires ready { CanAct (W.seen world.old) thread.old }
     requires files { HasItsFiles io.old (W.seen world.old) }
     requires steps { 0 < thread.old.budget }
     requires proposal { IfSome proposal (λ a. a.now ≡ advanced text.now a.now.before) }
     requires text { IsText text.now }
     ensures outcome { OnOk result (MakesAll
-        (λ e x. spec.advance_outcome spec.guest_calls t e x (advanced text.now x.regs))
+        (λ e x. spec.advance_outcome spec.guest_calls thread_number e x (advanced text.now x.regs))
         (W.seen world.old) io.old thread.old (W.seen world.new) io.new thread.new) }
     ensures kept { IfOk result (λ change.
         Keeps change (W.seen world.old) thread.old (W.seen world.new) thread.new) }
@@ -209,7 +211,7 @@ fn run_thread<W: World>(
     let left = thread.budget - 1;
     let before = kept_regs::<W>(&thread.regs);
     let next = advance_regs(text, &mut thread.regs, proposal);
-    match run_next(world, io, t, thread, next) {
+    match run_next(world, io, thread_number, thread, next) {
         Ok(change) => {
             thread.set_steps(left);
             Ok(change)
@@ -259,15 +261,15 @@ fn advance_regs(text: &Text, regs: &mut Regs, proposal: Option<&Advance>) -> Nex
 fn run_next<W: World>(
     world: &mut W,
     io: &mut Channels,
-    t: u32,
+    thread_number: u32,
     thread: &mut Thread,
     next: Next,
 ) -> Result<Change, OutOfMemory>
-    requires number { t < MOST_THREADS }
+    requires number { thread_number < MOST_THREADS }
     requires ready { CanAct (W.seen world.old) thread.old }
     requires files { HasItsFiles io.old (W.seen world.old) }
     requires instruction { IfShared next IsInstruction }
-    ensures outcome { OnOk result (MakesAll (λ e x. spec.next_outcome spec.guest_calls t e x next)
+    ensures outcome { OnOk result (MakesAll (λ e x. spec.next_outcome spec.guest_calls thread_number e x next)
         (W.seen world.old) io.old thread.old (W.seen world.new) io.new thread.new) }
     ensures kept { IfOk result (λ change.
         Keeps change (W.seen world.old) thread.old (W.seen world.new) thread.new) }
@@ -282,7 +284,7 @@ fn run_next<W: World>(
             thread.fail(Fault::BadPc);
             Ok(Change::Thread)
         }
-        Next::Shared(i) => execute(world, io, t, thread, &i),
+        Next::Shared(i) => execute(world, io, thread_number, thread, &i),
     }
 }
 
@@ -292,15 +294,16 @@ fn run_next<W: World>(
 fn execute<W: World>(
     world: &mut W,
     io: &mut Channels,
-    t: u32,
+    thread_number: u32,
     thread: &mut Thread,
-    i: &Instr,
+    instruction: &Instr,
 ) -> Result<Change, OutOfMemory>
-    requires number { t < MOST_THREADS }
+    requires number { thread_number < MOST_THREADS }
     requires ready { CanAct (W.seen world.old) thread.old }
     requires files { HasItsFiles io.old (W.seen world.old) }
-    requires instruction { IsInstruction i.now }
-    ensures outcome { OnOk result (MakesAll (λ e x. spec.shared_outcome spec.guest_calls t e x i.now i.now.op)
+    requires instruction { IsInstruction instruction.now }
+    ensures outcome { OnOk result
+        (MakesAll (λ e x. spec.shared_outcome spec.guest_calls thread_number e x instruction.now instruction.now.op)
         (W.seen world.old) io.old thread.old (W.seen world.new) io.new thread.new) }
     ensures kept { IfOk result (λ change.
         Keeps change (W.seen world.old) thread.old (W.seen world.new) thread.new) }
@@ -309,19 +312,32 @@ fn execute<W: World>(
     ensures err_thread { OnErr result (thread.new ≡ thread.old) }
     ensures ample { W.roomy ≡ true → IsOk result }
 {
-    let at = address_of(&thread.regs, i);
-    match i.op {
+    let at = address_of(&thread.regs, instruction);
+    match instruction.op {
         Op::Ldb => {
-            thread.load(i.rd, byte_at(world, thread.context, at).map(u64::from));
+            thread.load(
+                instruction.rd,
+                byte_at(world, thread.context, at).map(u64::from),
+            );
             Ok(Change::Thread)
         }
         Op::Ldw => {
-            thread.load(i.rd, word_at(world, thread.context, at));
+            thread.load(instruction.rd, word_at(world, thread.context, at));
             Ok(Change::Thread)
         }
-        Op::Stb => store_byte(world, thread, at, thread.regs.r[usize::from(i.rb)]),
-        Op::Stw => store_word(world, thread, at, thread.regs.r[usize::from(i.rb)]),
-        Op::Sys => call(world, io, t, thread, i.imm),
+        Op::Stb => store_byte(
+            world,
+            thread,
+            at,
+            thread.regs.r[usize::from(instruction.rb)],
+        ),
+        Op::Stw => store_word(
+            world,
+            thread,
+            at,
+            thread.regs.r[usize::from(instruction.rb)],
+        ),
+        Op::Sys => call(world, io, thread_number, thread, instruction.imm),
         Op::Halt => {
             thread.finish(0);
             Ok(Change::Thread)

@@ -37,14 +37,14 @@ pub const LW_SYSCALL: u32 = 20;
 pub(crate) fn call<W: World>(
     world: &mut W,
     io: &mut Channels,
-    t: u32,
+    thread_number: u32,
     thread: &mut Thread,
     number: u32,
 ) -> Result<Change, OutOfMemory>
-    requires number { t < MOST_THREADS }
+    requires number { thread_number < MOST_THREADS }
     requires ready { CanAct (W.seen world.old) thread.old }
     requires files { HasItsFiles io.old (W.seen world.old) }
-    ensures outcome { OnOk result (MakesAll (λ e x. spec.guest_calls number t e x)
+    ensures outcome { OnOk result (MakesAll (λ e x. spec.guest_calls number thread_number e x)
         (W.seen world.old) io.old thread.old (W.seen world.new) io.new thread.new) }
     ensures kept { IfOk result (λ change.
         Keeps change (W.seen world.old) thread.old (W.seen world.new) thread.new) }
@@ -55,7 +55,7 @@ pub(crate) fn call<W: World>(
 {
     match number {
         LW_CREATE => call_create(world, thread),
-        LW_SWITCH => Ok(call_switch(world, t, thread)),
+        LW_SWITCH => Ok(call_switch(world, thread_number, thread)),
         LW_RESTRICT => Ok(call_restrict(world, thread)),
         LW_OVERLAY => call_overlay(world, thread),
         LW_SYSCALL => call_syscall(world, io, thread),
@@ -80,14 +80,14 @@ fn call_create<W: World>(world: &mut W, thread: &mut Thread) -> Result<Change, O
 }
 
 /// Makes the call that takes thread `t` to another context.
-fn call_switch<W: World>(world: &mut W, t: u32, thread: &mut Thread) -> Change
-    requires number { t < MOST_THREADS }
+fn call_switch<W: World>(world: &mut W, thread_number: u32, thread: &mut Thread) -> Change
+    requires number { thread_number < MOST_THREADS }
     requires ready { CanAct (W.seen world.old) thread.old }
-    ensures outcome { Makes (λ e x. spec.switch_outcome t e x)
+    ensures outcome { Makes (λ e x. spec.switch_outcome thread_number e x)
         (W.seen world.old) thread.old (W.seen world.new) thread.new }
     ensures kept { Keeps result (W.seen world.old) thread.old (W.seen world.new) thread.new }
 {
-    match switch(world, thread.context, t, &thread.regs) {
+    match switch(world, thread.context, thread_number, &thread.regs) {
         Moved::To { context, regs } => {
             // In two parts, as in `run_thread`.
             let Regs { r, pc } = regs;

@@ -83,7 +83,8 @@ impl<W: World> Model for Kernel<W> {
 
     ghost invariant = { λ k. (vec_len k.schedule + k.room ≤ vec_capacity k.schedule)
         × IsSteady (machine (W.seen k.world) k.channels k.threads.items k.text k.serve) k.peak
-        (history k.image.value (option_map (λ v. v.value) k.vault) k.requests.value k.settings k.schedule.items
+        (history k.image.value
+        (option_map (λ v. v.value) k.vault) k.requests.value k.settings k.schedule.items
         k.room) };
 }
 
@@ -174,8 +175,10 @@ impl<W: World> Kernel<W> {
           requests = requests;
           settings = settings.now;
         }) steps) }
-        ensures too_large { settings.now.frames < spec.pages_in image.now (option_map (λ v. v.now) vault.entry) →
-            result ≡ Err (OpenFault.ImageTooLarge (spec.pages_in image.now (option_map (λ v. v.now) vault.entry))
+        ensures too_large { settings.now.frames
+            < spec.pages_in image.now (option_map (λ v. v.now) vault.entry) →
+            result ≡ Err (OpenFault.ImageTooLarge
+            (spec.pages_in image.now (option_map (λ v. v.now) vault.entry))
             settings.now.frames) }
         ensures fits { spec.pages_in image.now (option_map (λ v. v.now) vault.entry) ≤ settings.now.frames →
             IfErr result (λ fault. fault ≡ OpenFault.OutOfMemory) }
@@ -241,21 +244,21 @@ impl<W: World> Kernel<W> {
     /// One step of thread `t`, which is kept unless the thread had ended. A proposal is used if it begins
     /// with the thread's registers. The only error is out of memory, which comes only over a world that is
     /// not roomy, and then nothing has changed.
-    pub fn step(&mut self, t: u32, proposal: Option<&Advance>) -> Result<Turn, OutOfMemory>
-        requires within { t < thread_count self.old.inputs }
-        requires room { is_ended (machine_of self.old) t ≡ false → 0 < self.old.room }
+    pub fn step(&mut self, thread: u32, proposal: Option<&Advance>) -> Result<Turn, OutOfMemory>
+        requires within { thread < thread_count self.old.inputs }
+        requires room { is_ended (machine_of self.old) thread ≡ false → 0 < self.old.room }
         requires proposal { IfSome proposal (λ a. a.now ≡ advanced self.old.inputs.image.text a.now.before) }
-        ensures step { OnOk result (self.new ≡ spec.stepped self.old t) }
-        ensures turn { IfOk result (λ turn. spec.turn self.new t ≡ Some turn) }
-        ensures room { OnOk result (is_ended (machine_of self.old) t ≡ false →
+        ensures step { OnOk result (self.new ≡ spec.stepped self.old thread) }
+        ensures turn { IfOk result (λ turn. spec.turn self.new thread ≡ Some turn) }
+        ensures room { OnOk result (is_ended (machine_of self.old) thread ≡ false →
             self.new.room + 1 ≡ self.old.room) }
-        ensures work { OnOk result (is_ended (machine_of self.old) t ≡ false →
+        ensures work { OnOk result (is_ended (machine_of self.old) thread ≡ false →
             work (machine_of self.new) < work (machine_of self.old)) }
         ensures err { OnErr result (self.new ≡ self.old) }
         ensures ample { W.roomy ≡ true → IsOk result }
     {
-        let finished = self.make_step(t, proposal)?;
-        Ok(self.turn(t, finished))
+        let finished = self.make_step(thread, proposal)?;
+        Ok(self.turn(thread, finished))
     }
 
     /// The step of `step`, which answers the number of the request that it has finished, if it has, in
@@ -263,19 +266,20 @@ impl<W: World> Kernel<W> {
     #[inline(always)]
     pub fn make_step(
         &mut self,
-        t: u32,
+        thread_number: u32,
         proposal: Option<&Advance>,
     ) -> Result<Option<u16>, OutOfMemory>
-        requires within { t < thread_count self.old.inputs }
-        requires room { is_ended (machine_of self.old) t ≡ false → 0 < self.old.room }
+        requires within { thread_number < thread_count self.old.inputs }
+        requires room { is_ended (machine_of self.old) thread_number ≡ false → 0 < self.old.room }
         requires proposal { IfSome proposal (λ a. a.now ≡ advanced self.old.inputs.image.text a.now.before) }
-        ensures step { OnOk result (self.new ≡ spec.stepped self.old t) }
-        ensures turn { IfOk result (λ r. spec.turn self.new t ≡ spec.turn_at (machine_of self.new) t r) }
+        ensures step { OnOk result (self.new ≡ spec.stepped self.old thread_number) }
+        ensures turn { IfOk result
+            (λ r. spec.turn self.new thread_number ≡ spec.turn_at (machine_of self.new) thread_number r) }
         ensures number { IfOk result (λ r. r ≡ option_map (λ f. f.request)
-            (runs.last_finished (start self.new.inputs) self.new.steps t None)) }
-        ensures room { OnOk result (is_ended (machine_of self.old) t ≡ false →
+            (runs.last_finished (start self.new.inputs) self.new.steps thread_number None)) }
+        ensures room { OnOk result (is_ended (machine_of self.old) thread_number ≡ false →
             self.new.room + 1 ≡ self.old.room) }
-        ensures work { OnOk result (is_ended (machine_of self.old) t ≡ false →
+        ensures work { OnOk result (is_ended (machine_of self.old) thread_number ≡ false →
             work (machine_of self.new) < work (machine_of self.old)) }
         ensures err { OnErr result (self.new ≡ self.old) }
         ensures ample { W.roomy ≡ true → IsOk result }
@@ -283,8 +287,17 @@ impl<W: World> Kernel<W> {
         let world = &mut self.world;
         let io = &mut self.channels;
         let serve = &mut self.serve;
-        let thread = &mut self.threads[t as usize];
-        let Some(effect) = step_thread(world, io, serve, &self.text, t, thread, proposal)? else {
+        let thread = &mut self.threads[thread_number as usize];
+        let Some(effect) = step_thread(
+            world,
+            io,
+            serve,
+            &self.text,
+            thread_number,
+            thread,
+            proposal,
+        )?
+        else {
             return Ok(None);
         };
         let workers = worker_count(&self.serve);
@@ -295,26 +308,26 @@ impl<W: World> Kernel<W> {
             effect.change,
         );
         self.peak = peak_after(self.peak, &self.world, effect.change);
-        append(&mut self.schedule, t as u8);
+        append(&mut self.schedule, thread_number as u8);
         self.room -= 1;
         Ok(effect.finished)
     }
 
     /// Notes in `last` what the last step of thread `t` left, which finished the request of this number, or
     /// none. It takes no memory.
-    pub fn note_turn(&self, t: u32, finished: Option<u16>, last: &mut Turn)
-        requires { t < thread_count self.now.inputs }
-        ensures { spec.turn_at (machine_of self.now) t finished ≡ Some last.new }
+    pub fn note_turn(&self, thread: u32, finished: Option<u16>, last: &mut Turn)
+        requires { thread < thread_count self.now.inputs }
+        ensures { spec.turn_at (machine_of self.now) thread finished ≡ Some last.new }
     {
-        last.note(&self.threads[t as usize], self.recorded(finished));
+        last.note(&self.threads[thread as usize], self.recorded(finished));
     }
 
     /// What the last step of thread `t` left, which finished the request of this number, or none.
-    fn turn(&self, t: u32, finished: Option<u16>) -> Turn
-        requires { t < thread_count self.now.inputs }
-        ensures { spec.turn_at (machine_of self.now) t finished ≡ Some result }
+    fn turn(&self, thread: u32, finished: Option<u16>) -> Turn
+        requires { thread < thread_count self.now.inputs }
+        ensures { spec.turn_at (machine_of self.now) thread finished ≡ Some result }
     {
-        self.threads[t as usize].turn(self.recorded(finished))
+        self.threads[thread as usize].turn(self.recorded(finished))
     }
 
     /// What is recorded of the request of this number, where one is given.
@@ -382,11 +395,11 @@ impl<W: World> Kernel<W> {
     }
 
     /// The status, the context and the registers of thread `t`.
-    pub fn thread(&self, t: u32) -> ThreadView
-        requires { t < thread_count self.now.inputs }
-        ensures { spec.view_of (machine_of self.now) t ≡ Some result }
+    pub fn thread(&self, thread_number: u32) -> ThreadView
+        requires { thread_number < thread_count self.now.inputs }
+        ensures { spec.view_of (machine_of self.now) thread_number ≡ Some result }
     {
-        self.threads[t as usize].view()
+        self.threads[thread_number as usize].view()
     }
 
     /// The number of steps that the threads may still make (`work`): in a run the budgets of those that
@@ -400,12 +413,12 @@ impl<W: World> Kernel<W> {
     }
 
     /// How thread `t` is at the start, before any step.
-    pub fn first_turn(&self, t: u32) -> Turn
-        requires within { t < thread_count self.now.inputs }
+    pub fn first_turn(&self, thread: u32) -> Turn
+        requires within { thread < thread_count self.now.inputs }
         requires fresh { self.now.steps ≡ [] }
-        ensures { spec.turn self.now t ≡ Some result }
+        ensures { spec.turn self.now thread ≡ Some result }
     {
-        self.threads[t as usize].turn(None)
+        self.threads[thread as usize].turn(None)
     }
 
     /// The number of requests.
@@ -419,17 +432,17 @@ impl<W: World> Kernel<W> {
 
     /// What is recorded of request `r`; `None` if it is not finished, or if there is none of this number. The
     /// bytes are lent: they are the first ones of the reply in the channels.
-    pub fn reply(&self, r: u16) -> Option<FinishedView<'_>>
-        ensures { result ≡ reply_of (machine_of self.now) r }
+    pub fn reply(&self, request: u16) -> Option<FinishedView<'_>>
+        ensures { result ≡ reply_of (machine_of self.now) request }
     {
-        recorded(&self.serve, &self.channels, r)
+        recorded(&self.serve, &self.channels, request)
     }
 
     /// How request `r` ended; `None` if it is not finished, or if there is none of this number.
-    pub fn reply_status(&self, r: u16) -> Option<ThreadStatus>
-        ensures { result ≡ option_map (λ x. x.status) (reply_of (machine_of self.now) r) }
+    pub fn reply_status(&self, request: u16) -> Option<ThreadStatus>
+        ensures { result ≡ option_map (λ x. x.status) (reply_of (machine_of self.now) request) }
     {
-        status_of(&self.serve, r)
+        status_of(&self.serve, request)
     }
 
     /// What calls of guests read and write beside the world.
@@ -534,13 +547,13 @@ pub fn peak_after<W: World>(peak: u32, world: &W, change: Change) -> u32
 }
 
 /// Appends a step to a schedule that has room for it.
-fn append(schedule: &mut Vec<u8>, t: u8)
+fn append(schedule: &mut Vec<u8>, thread: u8)
     requires { vec_len schedule.old < vec_capacity schedule.old }
-    ensures steps { schedule.new.items ≡ schedule.old.items ++ t ∷ [] }
+    ensures steps { schedule.new.items ≡ schedule.old.items ++ thread ∷ [] }
     ensures length { vec_len schedule.new ≡ vec_len schedule.old + 1 }
     ensures capacity { vec_capacity schedule.old ≤ vec_capacity schedule.new }
 {
-    let _ = schedule.push(t);
+    let _ = schedule.push(thread);
 }
 
 /// The number of steps that the threads may still make, those for this number of requests among them.

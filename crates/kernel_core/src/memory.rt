@@ -16,21 +16,21 @@ const WORD_BYTES: u64 = 8;
 
 /// The address that an instruction names.
 #[inline(always)]
-pub(crate) fn address_of(regs: &Regs, i: &Instr) -> u64
-    requires { i.now.ra < 16 }
-    ensures { result ≡ spec.address regs.now i.now }
+pub(crate) fn address_of(regs: &Regs, instruction: &Instr) -> u64
+    requires { instruction.now.ra < 16 }
+    ensures { result ≡ spec.address regs.now instruction.now }
 {
-    regs.r[usize::from(i.ra)].wrapping_add(i.sx())
+    regs.r[usize::from(instruction.ra)].wrapping_add(instruction.sx())
 }
 
 /// The byte at an address.
 #[inline(always)]
-pub(crate) fn byte_at<W: World>(world: &W, c: Name, at: u64) -> Option<u8>
-    requires { IsLive (W.seen world.now) c }
-    ensures { result ≡ spec.byte_for (W.seen world.now) c at }
+pub(crate) fn byte_at<W: World>(world: &W, context: Name, at: u64) -> Option<u8>
+    requires { IsLive (W.seen world.now) context }
+    ensures { result ≡ spec.byte_for (W.seen world.now) context at }
 {
     let mut out = [0u8; 1];
-    if bytes_for(world, c, at, &mut out) {
+    if bytes_for(world, context, at, &mut out) {
         Some(out[0])
     } else {
         None
@@ -39,15 +39,15 @@ pub(crate) fn byte_at<W: World>(world: &W, c: Name, at: u64) -> Option<u8>
 
 /// The word at an address, lowest byte first.
 #[inline(always)]
-pub(crate) fn word_at<W: World>(world: &W, c: Name, at: u64) -> Option<u64>
-    requires { IsLive (W.seen world.now) c }
-    ensures { result ≡ spec.word_for (W.seen world.now) c at }
+pub(crate) fn word_at<W: World>(world: &W, context: Name, at: u64) -> Option<u64>
+    requires { IsLive (W.seen world.now) context }
+    ensures { result ≡ spec.word_for (W.seen world.now) context at }
 {
     if at % WORD_BYTES != 0 {
         return None;
     }
     let mut out = [0u8; 8];
-    if bytes_for(world, c, at, &mut out) {
+    if bytes_for(world, context, at, &mut out) {
         Some(u64::from_le_bytes(out))
     } else {
         None

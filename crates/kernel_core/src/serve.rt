@@ -71,29 +71,32 @@ impl Serve {
 
     /// Records the reply of request `r`, whose thread has ended with a status. It takes no memory, and copies
     /// no byte of the reply.
-    pub(crate) fn record_reply(&mut self, io: &Channels, r: u16, status: ThreadStatus)
-        requires request { r < length io.now.requests }
-        requires place { r < length self.old.replies }
+    pub(crate) fn record_reply(&mut self, io: &Channels, request_number: u16, status: ThreadStatus)
+        requires request { request_number < length io.now.requests }
+        requires place { request_number < length self.old.replies }
         ensures { self.new ≡ spec.with_reply self.old
-            (record { request = r; status = status; bytes = bytes_in io.now.replies r }) }
+            (record { request = request_number; status = status; bytes = bytes_in io.now.replies request_number }) }
     {
-        self.replies[usize::from(r)] = Some(Recorded::of(io, r, status));
+        self.replies[usize::from(request_number)] = Some(Recorded::of(io, request_number, status));
     }
 
     /// What is recorded of a request; `None` if it is not finished.
-    fn reply(&self, r: u16) -> Option<&Recorded>
-        ensures { option_map (λ x. x.now) result ≡ slice_index_or self.now.replies r None }
+    fn reply(&self, request: u16) -> Option<&Recorded>
+        ensures { option_map (λ x. x.now) result ≡ slice_index_or self.now.replies request None }
     {
-        self.replies.get(usize::from(r))?.as_ref()
+        self.replies.get(usize::from(request))?.as_ref()
     }
 }
 
 /// The context in which the worker of a number waits.
-pub(crate) fn home_of(t: u32) -> Name
-    requires { t < MOST_THREADS }
-    ensures { result ≡ machine.home_of t }
+pub(crate) fn home_of(thread: u32) -> Name
+    requires { thread < MOST_THREADS }
+    ensures { result ≡ machine.home_of thread }
 {
-    Name { job: 0, k: t + 1 }
+    Name {
+        job: 0,
+        k: thread + 1,
+    }
 }
 
 /// The number of workers of a serve; a run has none.
@@ -108,10 +111,10 @@ pub(crate) fn worker_count(serve: &Option<Serve>) -> u32
 }
 
 /// How a request ended; `None` if it is not finished, or if nothing is served.
-pub(crate) fn status_of(serve: &Option<Serve>, r: u16) -> Option<ThreadStatus>
-    ensures { result ≡ option_map (λ x. x.status) (machine.in_serve serve.now r) }
+pub(crate) fn status_of(serve: &Option<Serve>, request: u16) -> Option<ThreadStatus>
+    ensures { result ≡ option_map (λ x. x.status) (machine.in_serve serve.now request) }
 {
-    Some(serve.as_ref()?.reply(r)?.status())
+    Some(serve.as_ref()?.reply(request)?.status())
 }
 
 /// What is recorded of a request, with the bytes that channels still have of it; `None` if it is not finished,
@@ -119,10 +122,10 @@ pub(crate) fn status_of(serve: &Option<Serve>, r: u16) -> Option<ThreadStatus>
 pub(crate) fn recorded<'a>(
     serve: &Option<Serve>,
     io: &'a Channels,
-    r: u16,
+    request: u16,
 ) -> Option<FinishedView<'a>>
-    requires { IfSome (machine.in_serve serve.now r) (StillHas io.now) }
-    ensures { result ≡ machine.in_serve serve.now r }
+    requires { IfSome (machine.in_serve serve.now request) (StillHas io.now) }
+    ensures { result ≡ machine.in_serve serve.now request }
 {
-    Some(serve.as_ref()?.reply(r)?.view(io))
+    Some(serve.as_ref()?.reply(request)?.view(io))
 }

@@ -89,15 +89,15 @@ fn first_threads(alloc: Global, budget: u32, entries: &[u32]) -> Result<Vec<Thre
 }
 
 /// The thread of a number.
-fn first_thread(budget: u32, t: u32, entry: u32) -> Thread
-    requires { t < MOST_THREADS }
-    ensures { result ≡ spec.first_thread budget t entry }
+fn first_thread(budget: u32, thread: u32, entry: u32) -> Thread
+    requires { thread < MOST_THREADS }
+    ensures { result ≡ spec.first_thread budget thread entry }
 {
     Thread {
         status: ThreadStatus::Running,
         context: FIRST,
         regs: Regs::fresh(u64::from(entry)),
-        job: t + 1,
+        job: thread + 1,
         budget,
     }
 }
@@ -150,7 +150,8 @@ pub(crate) fn world_with_vault<W: World>(
     requires settings { IsSettings settings.now }
     requires fits { pages_in image.now (option_map (λ v. v.now) vault) ≤ settings.now.frames }
     ensures { IfOk result (λ w. W.seen w ≡ spec.with_its_vault
-        (spec.world_for image.now settings.now.frames settings.now.job) (option_map (λ v. v.now) vault.entry)) }
+        (spec.world_for image.now settings.now.frames settings.now.job)
+        (option_map (λ v. v.now) vault.entry)) }
 {
     let mut world: W = world_for(alloc, image, settings.frames, settings.job)?;
     if let Some(vault) = vault {
@@ -240,12 +241,12 @@ fn put_homes<W: World>(world: &mut W, image: &Image, workers: u32) -> Result<(),
 }
 
 /// Makes one more home from the first context. The only error is out of memory.
-fn put_home<W: World>(world: &mut W, image: &Image, t: u32) -> Result<(), OutOfMemory>
+fn put_home<W: World>(world: &mut W, image: &Image, thread: u32) -> Result<(), OutOfMemory>
     requires image { IsImage image.now }
-    requires few { t < MOST_THREADS }
-    requires before { W.seen world.old ≡ spec.homes_so_far image.now (W.seen world.old).size.frames t }
+    requires few { thread < MOST_THREADS }
+    requires before { W.seen world.old ≡ spec.homes_so_far image.now (W.seen world.old).size.frames thread }
     ensures { OnOk result (W.seen world.new
-        ≡ spec.homes_so_far image.now (W.seen world.old).size.frames (t + 1)) }
+        ≡ spec.homes_so_far image.now (W.seen world.old).size.frames (thread + 1)) }
 {
     let entry = Regs::fresh(u64::from(image.entries.as_slice()[0]));
     let home = world.clone_context(FIRST, &Items::empty(), 0, &entry)?;
@@ -294,20 +295,20 @@ fn put_pages<W: World>(world: &mut W, image: &Image) -> Result<(), OutOfMemory>
 }
 
 /// Maps a page in a context, and stores its bytes there for job 0. The only error is out of memory.
-fn put_page<W: World>(world: &mut W, c: Name, page: &PageImage) -> Result<(), OutOfMemory>
-    requires { CanPutPage (W.seen world.old) c page.now }
-    ensures { OnOk result (page_stored (mapped (W.seen world.old) c page.now) c page.now
+fn put_page<W: World>(world: &mut W, context: Name, page: &PageImage) -> Result<(), OutOfMemory>
+    requires { CanPutPage (W.seen world.old) context page.now }
+    ensures { OnOk result (page_stored (mapped (W.seen world.old) context page.now) context page.now
         ≡ stores.Done (W.seen world.new)) }
 {
     world.map(
-        c,
+        context,
         Range {
             from: page.number,
             to: page.number + 1,
         },
     )?;
     let at = u32::from(page.number) * PAGE_BYTES as u32;
-    match world.store(c, at, page.bytes.as_slice(), 0) {
+    match world.store(context, at, page.bytes.as_slice(), 0) {
         Ok(()) => Ok(()),
         Err(fault) => Err(out_of_memory(fault)),
     }
@@ -341,26 +342,26 @@ fn put_slots<W: World>(world: &mut W, image: &Image)
 }
 
 /// Fills slot n.
-fn put_slot<W: World>(world: &mut W, image: &Image, n: u8)
+fn put_slot<W: World>(world: &mut W, image: &Image, slot: u8)
     requires image { IsImage image.now }
-    requires within { n < SLOTS }
+    requires within { slot < SLOTS }
     requires before { W.seen world.old
-        ≡ spec.world_so_far image.now (W.seen world.old).size.frames (length image.now.pages) n }
+        ≡ spec.world_so_far image.now (W.seen world.old).size.frames (length image.now.pages) slot }
     ensures { W.seen world.new
-        ≡ spec.world_so_far image.now (W.seen world.old).size.frames (length image.now.pages) (n + 1) }
+        ≡ spec.world_so_far image.now (W.seen world.old).size.frames (length image.now.pages) (slot + 1) }
 {
-    world.set_slot(FIRST, n, first_slot(image.slots.as_slice(), n));
+    world.set_slot(FIRST, slot, first_slot(image.slots.as_slice(), slot));
 }
 
 /// What is in slot n at the start.
 #[tactic(auto, unfolding(crate::specs::Start::first_slot))]
-fn first_slot(slots: &[SlotImage], n: u8) -> Lent<'_>
-    ensures { descriptor_of result ≡ spec.first_slot slots.now n }
+fn first_slot(slots: &[SlotImage], slot_number: u8) -> Lent<'_>
+    ensures { descriptor_of result ≡ spec.first_slot slots.now slot_number }
 {
-    if n < CONSOLES {
+    if slot_number < CONSOLES {
         return Lent::Console;
     }
-    match slot_of(slots, n) {
+    match slot_of(slots, slot_number) {
         Some(slot) => Lent::File {
             file: slot.file,
             at: 0,
@@ -370,8 +371,8 @@ fn first_slot(slots: &[SlotImage], n: u8) -> Lent<'_>
 }
 
 /// The first of an image's slots with this number.
-fn slot_of(slots: &[SlotImage], n: u8) -> Option<SlotImage>
-    ensures { result ≡ find (λ slot. slot.slot == n) slots.now }
+fn slot_of(slots: &[SlotImage], slot_number: u8) -> Option<SlotImage>
+    ensures { result ≡ find (λ slot. slot.slot == slot_number) slots.now }
 {
-    slots.iter().copied().find(|slot| slot.slot == n)
+    slots.iter().copied().find(|slot| slot.slot == slot_number)
 }

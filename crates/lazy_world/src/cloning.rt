@@ -206,20 +206,21 @@ impl PlacedWorld {
     // The origins are a large value: each caller would clear it if this were a part of it, and it is filled in
     // its place, since each move of it is a copy.
     #[inline(never)]
-    fn clone_pieces(&mut self, spec: &Items, c: Name, made: Name)
-        requires from { IsLive (seen self.old) c }
+    fn clone_pieces(&mut self, spec: &Items, of_context: Name, made: Name)
+        requires from { IsLive (seen self.old) of_context }
         requires to { IsLive (seen self.old) made }
-        requires apart { c ≢ made }
+        requires apart { of_context ≢ made }
         requires within { IsSpec (seen self.old).size.pages spec.now }
-        requires settled { (k : Key) → moves spec.now k (context (seen self.old) c).cell ≡ false }
+        requires settled { (k : Key) → moves spec.now k (context (seen self.old) of_context).cell ≡ false }
         requires empty { HasNoPages (context (seen self.old) made).cell }
-        requires fresh { IsFresh (followed (seen self.old) (Clone made) spec.now c made) }
-        requires few { ranges_of (followed (seen self.old) (Clone made) spec.now c made) made ≤ MOST_RANGES }
-        ensures world { seen self.new ≡ followed (seen self.old) (Clone made) spec.now c made }
-        ensures store { CopyStore self.old self.new c spec.now }
-        ensures steps { CopySteps self.old self.new c spec.now }
+        requires fresh { IsFresh (followed (seen self.old) (Clone made) spec.now of_context made) }
+        requires few { ranges_of (followed (seen self.old) (Clone made) spec.now of_context made) made
+            ≤ MOST_RANGES }
+        ensures world { seen self.new ≡ followed (seen self.old) (Clone made) spec.now of_context made }
+        ensures store { CopyStore self.old self.new of_context spec.now }
+        ensures steps { CopySteps self.old self.new of_context spec.now }
     {
-        let from = self.place(c);
+        let from = self.place(of_context);
         let to = self.place(made);
         let mut origins = Origins::none();
         self.clone_origins(made, spec, from, to, &mut origins);
@@ -231,25 +232,26 @@ impl PlacedWorld {
     /// 128 node steps and 4 free nodes, and one free node besides; at most one node step and no node where
     /// all pages are the other one's own, and items share none and leave none out. No frame is taken or
     /// written.
-    pub(crate) fn clone_by(&mut self, spec: &Items, c: Name, made: Name)
-        requires from { IsLive (seen self.old) c }
+    pub(crate) fn clone_by(&mut self, spec: &Items, of_context: Name, made: Name)
+        requires from { IsLive (seen self.old) of_context }
         requires to { IsLive (seen self.old) made }
-        requires apart { c ≢ made }
+        requires apart { of_context ≢ made }
         requires within { IsSpec (seen self.old).size.pages spec.now }
-        requires settled { (k : Key) → moves spec.now k (context (seen self.old) c).cell ≡ false }
+        requires settled { (k : Key) → moves spec.now k (context (seen self.old) of_context).cell ≡ false }
         requires empty { IsEmpty (context (seen self.old) made).cell }
-        requires fresh { IsFresh (followed (seen self.old) (Clone made) spec.now c made) }
-        requires few { ranges_of (followed (seen self.old) (Clone made) spec.now c made) made ≤ MOST_RANGES }
-        ensures world { seen self.new ≡ followed (seen self.old) (Clone made) spec.now c made }
-        ensures store { CopyStore self.old self.new c spec.now }
-        ensures steps { CopySteps self.old self.new c spec.now }
+        requires fresh { IsFresh (followed (seen self.old) (Clone made) spec.now of_context made) }
+        requires few { ranges_of (followed (seen self.old) (Clone made) spec.now of_context made) made
+            ≤ MOST_RANGES }
+        ensures world { seen self.new ≡ followed (seen self.old) (Clone made) spec.now of_context made }
+        ensures store { CopyStore self.old self.new of_context spec.now }
+        ensures steps { CopySteps self.old self.new of_context spec.now }
     {
-        let from = self.place(c);
+        let from = self.place(of_context);
         let to = self.place(made);
         if self.can_copy(Transfer::Clone(made), spec, from, to) {
             self.places.copy_place(to, from);
         } else {
-            self.clone_pieces(spec, c, made);
+            self.clone_pieces(spec, of_context, made);
         }
     }
 
@@ -260,22 +262,29 @@ impl PlacedWorld {
     /// new context begins with these registers and has no saved ones. Answers its name. No frame is taken or
     /// written.
     #[tactic(auto, using(lwc_base::proofs::Facts::changes))]
-    pub(crate) fn clone_counted(&mut self, c: Name, spec: &Items, job: u32, entry: &Regs) -> Name
-        requires live { IsLive (seen self.old) c }
+    pub(crate) fn clone_counted(
+        &mut self,
+        of_context: Name,
+        spec: &Items,
+        job: u32,
+        entry: &Regs,
+    ) -> Name
+        requires live { IsLive (seen self.old) of_context }
         requires within { IsSpec (seen self.old).size.pages spec.now }
         requires may { MayName (seen self.old) job }
         requires place { HasPlace (seen self.old) }
-        requires group { needs_group (seen self.old) c spec.now ≡ true → HasGroupPlace (seen self.old) }
-        requires few { AreFew (ranges_after_clone (seen self.old) c job spec.now) }
+        requires group { needs_group (seen self.old) of_context spec.now ≡ true
+            → HasGroupPlace (seen self.old) }
+        requires few { AreFew (ranges_after_clone (seen self.old) of_context job spec.now) }
         ensures name { result ≡ next_context (seen self.old) job }
-        ensures cloned { seen self.new ≡ clone_context (seen self.old) c job spec.now entry.now }
-        ensures store { CloneStore self.old self.new c job spec.now }
-        ensures steps { CloneSteps self.old self.new c job spec.now }
+        ensures cloned { seen self.new ≡ clone_context (seen self.old) of_context job spec.now entry.now }
+        ensures store { CloneStore self.old self.new of_context job spec.now }
+        ensures steps { CloneSteps self.old self.new of_context job spec.now }
     {
-        self.share(c, spec, job);
+        self.share(of_context, spec, job);
         let made = self.add_context(job, NOBODY, entry);
         // Nothing is left that moves, so that no value of the new context becomes common by this name.
-        self.clone_by(spec, c, made);
+        self.clone_by(spec, of_context, made);
         made
     }
 }

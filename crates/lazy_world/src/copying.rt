@@ -54,46 +54,48 @@ impl Places {
     }
 
     /// Whether no slot of a place is filled.
-    fn has_no_slot(&self, i: usize) -> bool
-        requires { i < count self.now }
-        ensures { result ≡ true → (n : ℕ) → n < SLOTS → rows self.now i (Slot n) ≡ Own Empty }
+    fn has_no_slot(&self, place: usize) -> bool
+        requires { place < count self.now }
+        ensures { result ≡ true → (n : ℕ) → n < SLOTS → rows self.now place (Slot n) ≡ Own Empty }
     {
-        self.filled(i) == 0
+        self.filled(place) == 0
     }
 
     /// Whether no slot of a place is common.
-    fn has_own_slots(&self, i: usize) -> bool
-        requires { i < count self.now }
-        ensures { result ≡ true → (n : ℕ) → n < SLOTS → is_own (rows self.now i (Slot n)) ≡ true }
+    fn has_own_slots(&self, place: usize) -> bool
+        requires { place < count self.now }
+        ensures { result ≡ true → (n : ℕ) → n < SLOTS → is_own (rows self.now place (Slot n)) ≡ true }
     {
-        self.common(i) == 0
+        self.common(place) == 0
     }
 
     /// Whether no page of a place is common.
-    pub(crate) fn has_own_pages(&self, i: usize) -> bool
-        requires { i < count self.now }
-        ensures own { result ≡ true → (p : ℕ) → p < MOST_PAGES → is_own (rows self.now i (Page p)) ≡ true }
-        ensures all { HasOwnPages (rows self.now i) → result ≡ true }
+    pub(crate) fn has_own_pages(&self, place: usize) -> bool
+        requires { place < count self.now }
+        ensures own { result ≡ true → (p : ℕ) → p < MOST_PAGES
+            → is_own (rows self.now place (Page p)) ≡ true }
+        ensures all { HasOwnPages (rows self.now place) → result ≡ true }
     {
-        !has_common(self.segments(i))
+        !has_common(self.segments(place))
     }
 
     /// Whether the credential of a place is its own.
-    fn has_own_uid(&self, i: usize) -> bool
-        requires { i < count self.now }
-        ensures { result ≡ is_own (rows self.now i Cred) }
+    fn has_own_uid(&self, place: usize) -> bool
+        requires { place < count self.now }
+        ensures { result ≡ is_own (rows self.now place Cred) }
     {
-        matches!(self.uid(i), Cell::Own(_))
+        matches!(self.uid(place), Cell::Own(_))
     }
 
     /// Whether each cell of a place is its own.
-    fn is_all_own(&self, i: usize) -> bool
-        requires { i < count self.now }
-        ensures slots { result ≡ true → (n : ℕ) → n < SLOTS → is_own (rows self.now i (Slot n)) ≡ true }
-        ensures uid { result ≡ true → is_own (rows self.now i Cred) ≡ true }
-        ensures pages { result ≡ true → (p : ℕ) → p < MOST_PAGES → is_own (rows self.now i (Page p)) ≡ true }
+    fn is_all_own(&self, place: usize) -> bool
+        requires { place < count self.now }
+        ensures slots { result ≡ true → (n : ℕ) → n < SLOTS → is_own (rows self.now place (Slot n)) ≡ true }
+        ensures uid { result ≡ true → is_own (rows self.now place Cred) ≡ true }
+        ensures pages { result ≡ true → (p : ℕ) → p < MOST_PAGES
+            → is_own (rows self.now place (Page p)) ≡ true }
     {
-        self.has_own_slots(i) && self.has_own_uid(i) && self.has_own_pages(i)
+        self.has_own_slots(place) && self.has_own_uid(place) && self.has_own_pages(place)
     }
 }
 

@@ -14,16 +14,16 @@ use lwc_base::{Cell, NOBODY, Name};
 
 impl Places {
     /// Takes all that a place has, and gives back what no other place shares.
-    pub fn clear(&mut self, i: usize)
-        requires place { i < count self.old }
-        ensures rows { rows self.new ≡ put_row (rows self.old) i no_row }
-        ensures rights { rights self.new ≡ put_rights (rights self.old) i all_write }
+    pub fn clear(&mut self, place: usize)
+        requires place { place < count self.old }
+        ensures rows { rows self.new ≡ put_row (rows self.old) place no_row }
+        ensures rights { rights self.new ≡ put_rights (rights self.old) place all_write }
         ensures count { count self.new ≡ count self.old }
         ensures frames { frame_count self.new ≡ frame_count self.old }
     {
-        self.pages.clear_place(i);
-        self.slots.clear_place(i);
-        self.uids[i] = Cell::Own(NOBODY);
+        self.pages.clear_place(place);
+        self.slots.clear_place(place);
+        self.uids[place] = Cell::Own(NOBODY);
     }
 }
 
@@ -42,30 +42,30 @@ impl PlacedWorld {
     }
 
     /// Drops the context at a place, if there is one and it does not stay.
-    fn keep_context(&mut self, i: usize, stays: bool)
+    fn keep_context(&mut self, place: usize, stays: bool)
         ensures map { self.new.contexts.map
-            ≡ left_by self.old.contexts.map (passes stays i) self.old.contexts.map }
+            ≡ left_by self.old.contexts.map (passes stays place) self.old.contexts.map }
         ensures world { seen self.new ≡ record (seen self.old) {
-          contexts = left_by self.old.contexts.map (passes stays i) (seen self.old).contexts;
+          contexts = left_by self.old.contexts.map (passes stays place) (seen self.old).contexts;
         } }
     {
         if stays {
             return;
         }
-        if let Some(c) = self.contexts.at(i) {
+        if let Some(c) = self.contexts.at(place) {
             self.drop_context(c);
         }
     }
 
     /// Drops a context, with all that it has.
-    pub(crate) fn drop_context(&mut self, c: Name)
-        requires { IsLive (seen self.old) c }
-        ensures map { self.new.contexts.map ≡ fm.remove self.old.contexts.map c }
+    pub(crate) fn drop_context(&mut self, context: Name)
+        requires { IsLive (seen self.old) context }
+        ensures map { self.new.contexts.map ≡ fm.remove self.old.contexts.map context }
         ensures world { seen self.new ≡ record (seen self.old) {
-          contexts = fm.remove (seen self.old).contexts c;
+          contexts = fm.remove (seen self.old).contexts context;
         } }
     {
-        let i = self.contexts.remove(c);
+        let i = self.contexts.remove(context);
         self.places.clear(i);
     }
 
@@ -83,34 +83,35 @@ impl PlacedWorld {
     }
 
     /// Drops the group at a place, if there is one and it does not stay.
-    fn keep_group(&mut self, j: usize, stays: bool)
-        requires { stays ≡ false → (g : Name) → slice_index_or self.old.groups.places j None ≡ Some g
+    fn keep_group(&mut self, other: usize, stays: bool)
+        requires { stays ≡ false → (g : Name) → slice_index_or self.old.groups.places other None ≡ Some g
             → NamesNone (parts self.old) g }
         ensures names { (g : Name) → NamesNone (parts self.old) g → NamesNone (parts self.new) g }
-        ensures map { self.new.groups.map ≡ left_by self.old.groups.map (passes stays j) self.old.groups.map }
+        ensures map { self.new.groups.map
+            ≡ left_by self.old.groups.map (passes stays other) self.old.groups.map }
         ensures world { seen self.new ≡ record (seen self.old) {
-          groups = left_by self.old.groups.map (passes stays j) (seen self.old).groups;
+          groups = left_by self.old.groups.map (passes stays other) (seen self.old).groups;
         } }
     {
         if stays {
             return;
         }
-        if let Some(g) = self.groups.at(j) {
+        if let Some(g) = self.groups.at(other) {
             self.drop_group(g);
         }
     }
 
     /// Drops a group that no page is common of, with all values that it has.
-    fn drop_group(&mut self, g: Name)
-        requires there { fm.contains_key (seen self.old).groups g ≡ true }
-        requires unnamed { NamesNone (parts self.old) g }
+    fn drop_group(&mut self, group: Name)
+        requires there { fm.contains_key (seen self.old).groups group ≡ true }
+        requires unnamed { NamesNone (parts self.old) group }
         ensures names { (h : Name) → NamesNone (parts self.old) h → NamesNone (parts self.new) h }
-        ensures map { self.new.groups.map ≡ fm.remove self.old.groups.map g }
+        ensures map { self.new.groups.map ≡ fm.remove self.old.groups.map group }
         ensures world { seen self.new ≡ record (seen self.old) {
-          groups = fm.remove (seen self.old).groups g;
+          groups = fm.remove (seen self.old).groups group;
         } }
     {
-        let j = self.groups.remove(g);
+        let j = self.groups.remove(group);
         self.places.clear(self.size.contexts as usize + j);
     }
 }

@@ -44,96 +44,96 @@ impl World for LazyWorld {
         Ok(self.world.first(uid, entry))
     }
 
-    fn map(&mut self, c: Name, range: Range) -> Result<(), OutOfMemory> {
-        self.world.map(c, range);
+    fn map(&mut self, context: Name, range: Range) -> Result<(), OutOfMemory> {
+        self.world.map(context, range);
         Ok(())
     }
 
-    fn unmap(&mut self, c: Name, range: Range) -> Result<(), OutOfMemory> {
-        self.world.unmap(c, range);
+    fn unmap(&mut self, context: Name, range: Range) -> Result<(), OutOfMemory> {
+        self.world.unmap(context, range);
         Ok(())
     }
 
     #[inline(always)]
-    fn bytes(&self, c: Name, at: u32, out: &mut [u8]) -> bool {
-        self.world.bytes(c, at, out)
+    fn bytes(&self, context: Name, at: u32, out: &mut [u8]) -> bool {
+        self.world.bytes(context, at, out)
     }
 
     #[inline(always)]
-    fn store(&mut self, c: Name, at: u32, piece: &[u8], job: u32) -> Result<(), StoreFault> {
-        if self.world.store_in_place(c, at, piece) {
+    fn store(&mut self, context: Name, at: u32, piece: &[u8], job: u32) -> Result<(), StoreFault> {
+        if self.world.store_in_place(context, at, piece) {
             return Ok(());
         }
-        self.world.store(c, at, piece, job)
+        self.world.store(context, at, piece, job)
     }
 
-    fn slot(&self, c: Name, n: SlotNumber) -> Lent<'_> {
-        self.world.slot(c, n)
+    fn slot(&self, context: Name, slot_number: SlotNumber) -> Lent<'_> {
+        self.world.slot(context, slot_number)
     }
 
-    fn set_slot(&mut self, c: Name, n: SlotNumber, value: Lent<'_>) {
-        let i = self.world.place(c);
+    fn set_slot(&mut self, context: Name, slot: SlotNumber, value: Lent<'_>) {
+        let i = self.world.place(context);
         // What the old descriptor is of may have lost its only link.
-        let cut = self.world.linked(i, n);
+        let cut = self.world.linked(i, slot);
         self.add_cached_root(cut);
-        self.world.set_slot(c, i, n, value);
+        self.world.set_slot(context, i, slot, value);
     }
 
-    fn dup_slot(&mut self, c: Name, from: SlotNumber, to: SlotNumber) {
-        let i = self.world.place(c);
+    fn dup_slot(&mut self, context: Name, from: SlotNumber, to: SlotNumber) {
+        let i = self.world.place(context);
         // As in `set_slot`.
         let lost = self.world.linked(i, to);
         self.add_cached_root(lost);
-        self.world.dup_slot(c, i, from, to);
+        self.world.dup_slot(context, i, from, to);
     }
 
-    fn lowest_empty(&self, c: Name) -> Option<SlotNumber> {
-        self.world.lowest_empty(c)
+    fn lowest_empty(&self, context: Name) -> Option<SlotNumber> {
+        self.world.lowest_empty(context)
     }
 
-    fn uid(&self, c: Name) -> u32 {
-        self.world.uid(c)
+    fn uid(&self, context: Name) -> u32 {
+        self.world.uid(context)
     }
 
-    fn set_uid(&mut self, c: Name, uid: u32) {
-        self.world.set_uid(c, uid);
+    fn set_uid(&mut self, context: Name, uid: u32) {
+        self.world.set_uid(context, uid);
     }
 
-    fn entry(&self, c: Name) -> Regs {
-        self.world.entry(c)
+    fn entry(&self, context: Name) -> Regs {
+        self.world.entry(context)
     }
 
-    fn saved(&self, c: Name, t: u32) -> Option<Regs> {
-        self.world.saved(c, t)
+    fn saved(&self, context: Name, thread: u32) -> Option<Regs> {
+        self.world.saved(context, thread)
     }
 
-    fn save(&mut self, c: Name, t: u32, regs: &Regs) {
-        self.world.save(c, t, regs);
+    fn save(&mut self, context: Name, thread: u32, regs: &Regs) {
+        self.world.save(context, thread, regs);
     }
 
     fn clone_context(
         &mut self,
-        c: Name,
+        context: Name,
         spec: &Items,
         job: u32,
         entry: &Regs,
     ) -> Result<Name, OutOfMemory>
-        requires live { IsLive (lazy.seen_lazy self.old) c }
+        requires live { IsLive (lazy.seen_lazy self.old) context }
         requires within { IsSpec (lazy.seen_lazy self.old).size.pages spec.now }
         requires may { MayName (lazy.seen_lazy self.old) job }
         requires place { HasPlace (lazy.seen_lazy self.old) }
-        requires group { needs_group (lazy.seen_lazy self.old) c spec.now ≡ true
+        requires group { needs_group (lazy.seen_lazy self.old) context spec.now ≡ true
             → HasGroupPlace (lazy.seen_lazy self.old) }
-        requires few { AreFew (ranges_after_clone (lazy.seen_lazy self.old) c job spec.now) }
+        requires few { AreFew (ranges_after_clone (lazy.seen_lazy self.old) context job spec.now) }
         ensures name { IfOk result (λ made. made ≡ next_context (lazy.seen_lazy self.old) job) }
         ensures cloned { OnOk result (lazy.seen_lazy self.new
-            ≡ clone_context (lazy.seen_lazy self.old) c job spec.now entry.now) }
+            ≡ clone_context (lazy.seen_lazy self.old) context job spec.now entry.now) }
         ensures err { OnErr result (lazy.seen_lazy self.new ≡ lazy.seen_lazy self.old) }
         ensures ample { IsOk result }
-        ensures store { CloneStore (lazy.placed self.old) (lazy.placed self.new) c job spec.now }
-        ensures steps { CloneSteps (lazy.placed self.old) (lazy.placed self.new) c job spec.now }
+        ensures store { CloneStore (lazy.placed self.old) (lazy.placed self.new) context job spec.now }
+        ensures steps { CloneSteps (lazy.placed self.old) (lazy.placed self.new) context job spec.now }
     {
-        Ok(self.clone_counted(c, spec, job, entry))
+        Ok(self.clone_counted(context, spec, job, entry))
     }
 
     fn overlay(&mut self, to: Name, from: Name, spec: &Items, job: u32) -> Result<(), OutOfMemory>
@@ -162,20 +162,20 @@ impl World for LazyWorld {
         self.known = true;
     }
 
-    fn needs_group(&self, c: Name, spec: &Items) -> bool {
-        self.world.needs_group(c, spec)
+    fn needs_group(&self, context: Name, spec: &Items) -> bool {
+        self.world.needs_group(context, spec)
     }
 
-    fn ranges_after_clone(&self, c: Name, spec: &Items) -> (u32, u32) {
-        self.world.ranges_after_clone(c, spec)
+    fn ranges_after_clone(&self, context: Name, spec: &Items) -> (u32, u32) {
+        self.world.ranges_after_clone(context, spec)
     }
 
     fn ranges_after_overlay(&self, to: Name, from: Name, spec: &Items) -> (u32, u32) {
         self.world.ranges_after_overlay(to, from, spec)
     }
 
-    fn ranges_after_map(&self, c: Name, range: Range, present: bool) -> u32 {
-        self.world.ranges_after_map(c, range, present)
+    fn ranges_after_map(&self, context: Name, range: Range, present: bool) -> u32 {
+        self.world.ranges_after_map(context, range, present)
     }
 
     fn live_of(&self, job: u32) -> u32 {
@@ -186,12 +186,12 @@ impl World for LazyWorld {
         self.world.groups_of(job)
     }
 
-    fn nth_context(&self, i: u32) -> Option<Name> {
-        self.world.nth_context(i)
+    fn nth_context(&self, index: u32) -> Option<Name> {
+        self.world.nth_context(index)
     }
 
-    fn summary(&self, c: Name) -> Summary {
-        self.world.summary(c)
+    fn summary(&self, context: Name) -> Summary {
+        self.world.summary(context)
     }
 
     fn context_count(&self) -> u32 {

@@ -22,15 +22,15 @@ impl LazyWorld {
     ghost use Rattle.lazy_world.specs.CachedRoots.{with_cached_root};
 
     /// Adds a cached root, if one is given. Without room for it they are not known any more.
-    pub(crate) fn add_cached_root(&mut self, c: Option<Name>)
+    pub(crate) fn add_cached_root(&mut self, context: Option<Name>)
         ensures world { self.new.world ≡ self.old.world }
         ensures kept { self.new.known ≡ true → self.old.known ≡ true }
         ensures cached_roots { self.new.known ≡ true
-            → self.new.cached_roots.items ≡ with_cached_root self.old.cached_roots.items c }
+            → self.new.cached_roots.items ≡ with_cached_root self.old.cached_roots.items context }
     {
-        if let Some(c) = c {
+        if let Some(context) = context {
             if self.cached_roots.len() < MOST_KEPT_ROOTS {
-                self.cached_roots.push(c);
+                self.cached_roots.push(context);
             } else {
                 self.known = false;
             }
@@ -52,22 +52,23 @@ impl LazyWorld {
     /// each range of the context and each item takes at most 128 node steps and 4 free nodes, and one free
     /// node besides if there is one; or one step and no node in all, where each page is copied and is the
     /// context's own.
-    pub fn clone_counted(&mut self, c: Name, spec: &Items, job: u32, entry: &Regs) -> Name
-        requires live { IsLive (seen_lazy self.old) c }
+    pub fn clone_counted(&mut self, context: Name, spec: &Items, job: u32, entry: &Regs) -> Name
+        requires live { IsLive (seen_lazy self.old) context }
         requires within { IsSpec (seen_lazy self.old).size.pages spec.now }
         requires may { MayName (seen_lazy self.old) job }
         requires place { HasPlace (seen_lazy self.old) }
-        requires group { needs_group (seen_lazy self.old) c spec.now ≡ true
+        requires group { needs_group (seen_lazy self.old) context spec.now ≡ true
             → HasGroupPlace (seen_lazy self.old) }
-        requires few { AreFew (ranges_after_clone (seen_lazy self.old) c job spec.now) }
+        requires few { AreFew (ranges_after_clone (seen_lazy self.old) context job spec.now) }
         ensures name { result ≡ next_context (seen_lazy self.old) job }
-        ensures cloned { seen_lazy self.new ≡ clone_context (seen_lazy self.old) c job spec.now entry.now }
-        ensures store { CloneStore (placed self.old) (placed self.new) c job spec.now }
-        ensures steps { CloneSteps (placed self.old) (placed self.new) c job spec.now }
+        ensures cloned { seen_lazy self.new
+            ≡ clone_context (seen_lazy self.old) context job spec.now entry.now }
+        ensures store { CloneStore (placed self.old) (placed self.new) context job spec.now }
+        ensures steps { CloneSteps (placed self.old) (placed self.new) context job spec.now }
     {
         let next = self.world.next_name(job);
         self.add_cached_root(Some(next));
-        self.world.clone_counted(c, spec, job, entry)
+        self.world.clone_counted(context, spec, job, entry)
     }
 
     /// `overlay`, without a `Result`. No frame is taken or written. Where no group is needed, each

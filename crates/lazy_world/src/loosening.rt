@@ -30,33 +30,34 @@ pub enum Garbage {
 }
 
 /// Whether a name is among some.
-fn is_among(names: &[Name], c: Name) -> bool
-    ensures { result ≡ is_among names.now c }
+fn is_among(names: &[Name], context: Name) -> bool
+    ensures { result ≡ is_among names.now context }
 {
-    names.contains(&c)
+    names.contains(&context)
 }
 
 /// The same. It looks at this place first, since a root mostly stays where it was among the roots.
-fn is_among_at(names: &[Name], place: usize, c: Name) -> bool
-    ensures { result ≡ is_among names.now c }
+fn is_among_at(names: &[Name], place: usize, context: Name) -> bool
+    ensures { result ≡ is_among names.now context }
 {
-    if place < names.len() && names[place] == c {
+    if place < names.len() && names[place] == context {
         return true;
     }
-    is_among(names, c)
+    is_among(names, context)
 }
 
 impl PlacedWorld {
     /// The context that a slot of the context at a place has a descriptor of, if it has one.
-    pub(crate) fn linked(&self, i: usize, n: SlotNumber) -> Option<Name>
-        requires place { i < count self.now.places }
-        requires slot { n < SLOTS }
-        ensures { result ≡ context_of (value_of (seen self.now) (Slot n) (rows self.now.places i (Slot n))) }
+    pub(crate) fn linked(&self, place: usize, slot: SlotNumber) -> Option<Name>
+        requires place { place < count self.now.places }
+        requires slot { slot < SLOTS }
+        ensures { result
+            ≡ context_of (value_of (seen self.now) (Slot slot) (rows self.now.places place (Slot slot))) }
     {
-        if !self.places.is_common(i, n) {
-            return self.places.context(i, n);
+        if !self.places.is_common(place, slot) {
+            return self.places.context(place, slot);
         }
-        match self.slot_at(i, n) {
+        match self.slot_at(place, slot) {
             Lent::Ctx { name, .. } => Some(name),
             _ => None,
         }
@@ -64,20 +65,21 @@ impl PlacedWorld {
 
     /// Whether a slot of the context at a place has a descriptor of a context. It looks at the last
     /// filled slot first, since that often has the newest one.
-    fn links_at(&self, i: usize, c: Name) -> bool
-        requires { i < count self.now.places }
+    fn links_at(&self, place: usize, context: Name) -> bool
+        requires { place < count self.now.places }
         ensures { result ≡ true → (n : ℕ) × (n < SLOTS)
-            × (context_of (value_of (seen self.now) (Slot n) (rows self.now.places i (Slot n))) ≡ Some c) }
+            × (context_of (value_of (seen self.now) (Slot n) (rows self.now.places place (Slot n)))
+            ≡ Some context) }
     {
-        let filled = self.places.filled(i);
+        let filled = self.places.filled(place);
         if let Some(last) = 63_u8.checked_sub(filled.leading_zeros() as u8) {
-            if self.linked(i, last) == Some(c) {
+            if self.linked(place, last) == Some(context) {
                 return true;
             }
         }
         let mut from = 0;
         'slots: while let Some(n) = lowest_bit(filled, from) {
-            if self.linked(i, n) == Some(c) {
+            if self.linked(place, n) == Some(context) {
                 return true;
             }
             from = n + 1;
@@ -86,20 +88,20 @@ impl PlacedWorld {
     }
 
     /// Whether a context links to another one.
-    fn links_to(&self, d: Name, c: Name) -> bool
-        requires { IsLive (seen self.now) d }
-        ensures { result ≡ true → links (seen self.now) d c ≡ true }
+    fn links_to(&self, target: Name, context: Name) -> bool
+        requires { IsLive (seen self.now) target }
+        ensures { result ≡ true → links (seen self.now) target context ≡ true }
     {
-        self.links_at(self.place(d), c)
+        self.links_at(self.place(target), context)
     }
 
     /// Whether one of the roots links to a context.
-    fn is_next(&self, roots: &[Name], c: Name) -> bool
+    fn is_next(&self, roots: &[Name], context: Name) -> bool
         requires { All (λ root. IsLive (seen self.now) root) roots.now }
-        ensures { result ≡ true → Reaches (seen self.now) roots.now c }
+        ensures { result ≡ true → Reaches (seen self.now) roots.now context }
     {
         for i in 0..roots.len() {
-            if self.links_to(roots[i], c) {
+            if self.links_to(roots[i], context) {
                 return true;
             }
         }
@@ -107,14 +109,14 @@ impl PlacedWorld {
     }
 
     /// Whether a context is a root or one of them links to it.
-    fn is_near(&self, roots: &[Name], c: Name) -> bool
+    fn is_near(&self, roots: &[Name], context: Name) -> bool
         requires { All (λ root. IsLive (seen self.now) root) roots.now }
-        ensures { result ≡ true → Reaches (seen self.now) roots.now c }
+        ensures { result ≡ true → Reaches (seen self.now) roots.now context }
     {
-        if is_among(roots, c) {
+        if is_among(roots, context) {
             return true;
         }
-        self.is_next(roots, c)
+        self.is_next(roots, context)
     }
 
     /// The place of the first root, if there is one.
@@ -131,40 +133,41 @@ impl PlacedWorld {
 
     /// Whether what a slot of the context at a place links to is near the roots, if it links to a context. It
     /// looks first whether the slot is one that a root shares.
-    fn has_near(&self, roots: &[Name], first: Option<usize>, i: usize, n: SlotNumber) -> bool
+    fn has_near(&self, roots: &[Name], first: Option<usize>, place: usize, slot: SlotNumber) -> bool
         requires live { All (λ root. IsLive (seen self.now) root) roots.now }
         requires first { IfSome first (HasRoot (parts self.now) roots.now) }
         requires first_inside { IfSome first (λ j. j < count self.now.places) }
-        requires place { i < count self.now.places }
-        requires slot { n < SLOTS }
+        requires place { place < count self.now.places }
+        requires slot { slot < SLOTS }
         ensures { result ≡ true → (c : Name)
-            → context_of (value_of (seen self.now) (Slot n) (rows self.now.places i (Slot n))) ≡ Some c
+            → context_of (value_of (seen self.now) (Slot slot) (rows self.now.places place (Slot slot)))
+            ≡ Some c
             → Reaches (seen self.now) roots.now c }
     {
         if let Some(j) = first {
-            if self.places.is_shared(i, j, n) {
+            if self.places.is_shared(place, j, slot) {
                 return true;
             }
         }
-        match self.linked(i, n) {
+        match self.linked(place, slot) {
             Some(c) => self.is_near(roots, c),
             None => true,
         }
     }
 
     /// Whether each context that the context at a place links to is near the roots.
-    fn has_all_near(&self, roots: &[Name], i: usize) -> bool
+    fn has_all_near(&self, roots: &[Name], place: usize) -> bool
         requires live { All (λ root. IsLive (seen self.now) root) roots.now }
-        requires place { i < count self.now.places }
+        requires place { place < count self.now.places }
         ensures { result ≡ true → (n : ℕ) (c : Name) → n < SLOTS
-            → context_of (value_of (seen self.now) (Slot n) (rows self.now.places i (Slot n))) ≡ Some c
+            → context_of (value_of (seen self.now) (Slot n) (rows self.now.places place (Slot n))) ≡ Some c
             → Reaches (seen self.now) roots.now c }
     {
         let first = self.first_place(roots);
-        let filled = self.places.filled(i);
+        let filled = self.places.filled(place);
         let mut from = 0;
         'slots: while let Some(n) = lowest_bit(filled, from) {
-            if !self.has_near(roots, first, i, n) {
+            if !self.has_near(roots, first, place, n) {
                 return false;
             }
             from = n + 1;
@@ -173,38 +176,39 @@ impl PlacedWorld {
     }
 
     /// Whether a live context is loose, as far as that is seen without a search.
-    fn is_loose(&self, roots: &[Name], c: Name) -> bool
-        requires live { IsLive (seen self.now) c }
+    fn is_loose(&self, roots: &[Name], context: Name) -> bool
+        requires live { IsLive (seen self.now) context }
         requires roots { All (λ root. IsLive (seen self.now) root) roots.now }
-        ensures { result ≡ true → IsLoose (seen self.now) roots.now c }
+        ensures { result ≡ true → IsLoose (seen self.now) roots.now context }
     {
-        if self.places.may_name(c) || is_among(roots, c) {
+        if self.places.may_name(context) || is_among(roots, context) {
             return false;
         }
-        self.has_all_near(roots, self.place(c))
+        self.has_all_near(roots, self.place(context))
     }
 
     /// Whether a context is live.
     #[inline(always)]
-    pub(crate) fn is_live(&self, c: Name) -> bool
-        ensures { result ≡ is_live (seen self.now) c }
+    pub(crate) fn is_live(&self, context: Name) -> bool
+        ensures { result ≡ is_live (seen self.now) context }
     {
-        self.contexts.place(c).is_some()
+        self.contexts.place(context).is_some()
     }
 
     /// Whether a context is near the roots, or not live. Mostly it is near them, so that is looked at first; and mostly
     /// it is the root at this place.
-    fn is_settled(&self, roots: &[Name], place: usize, c: Name) -> bool
+    fn is_settled(&self, roots: &[Name], place: usize, context: Name) -> bool
         requires { All (λ root. IsLive (seen self.now) root) roots.now }
-        ensures { result ≡ true → is_live (seen self.now) c ≡ true → Reaches (seen self.now) roots.now c }
+        ensures { result ≡ true → is_live (seen self.now) context ≡ true
+            → Reaches (seen self.now) roots.now context }
     {
-        if is_among_at(roots, place, c) {
+        if is_among_at(roots, place, context) {
             return true;
         }
-        if self.places.may_name(c) && self.is_next(roots, c) {
+        if self.places.may_name(context) && self.is_next(roots, context) {
             return true;
         }
-        !self.is_live(c)
+        !self.is_live(context)
     }
 
     /// The garbage among contexts of some names.

@@ -19,23 +19,23 @@ use range_map::SegmentKind;
 
 impl Places {
     /// The group that a slot of a place is common of, if it is.
-    fn slot_group(&self, i: usize, n: SlotNumber) -> Option<Name>
-        requires place { i < count self.now }
-        requires slot { n < SLOTS }
-        ensures { result ≡ group_in (rows self.now i (Slot n)) }
+    fn slot_group(&self, place: usize, slot: SlotNumber) -> Option<Name>
+        requires place { place < count self.now }
+        requires slot { slot < SLOTS }
+        ensures { result ≡ group_in (rows self.now place (Slot slot)) }
     {
-        match self.slot(i, n) {
+        match self.slot(place, slot) {
             Cell::Own(_) => None,
             Cell::Common(g) => Some(g),
         }
     }
 
     /// The group that the credential of a place is common of, if it is.
-    fn uid_group(&self, i: usize) -> Option<Name>
-        requires { i < count self.now }
-        ensures { result ≡ group_in (rows self.now i Cred) }
+    fn uid_group(&self, place: usize) -> Option<Name>
+        requires { place < count self.now }
+        ensures { result ≡ group_in (rows self.now place Cred) }
     {
-        match self.uid(i) {
+        match self.uid(place) {
             Cell::Own(_) => None,
             Cell::Common(g) => Some(*g),
         }
@@ -63,16 +63,17 @@ impl PlacedWorld {
     }
 
     /// Marks the groups that the cells of the context at a place name, if there is one.
-    fn mark_named(&self, i: usize, marks: &mut [bool; 1024])
-        requires { i < (parts self.now).size.contexts }
-        ensures { AddsMarks self.now.groups.places (λ g. names_at (parts self.now) g i) marks.old marks.new }
+    fn mark_named(&self, place: usize, marks: &mut [bool; 1024])
+        requires { place < (parts self.now).size.contexts }
+        ensures { AddsMarks self.now.groups.places
+            (λ g. names_at (parts self.now) g place) marks.old marks.new }
     {
-        if self.contexts.at(i).is_none() {
+        if self.contexts.at(place).is_none() {
             return;
         }
-        self.mark_pages(i, marks);
-        self.mark_slots(i, marks);
-        self.mark_group(self.places.uid_group(i), marks);
+        self.mark_pages(place, marks);
+        self.mark_slots(place, marks);
+        self.mark_group(self.places.uid_group(place), marks);
     }
 
     /// The number in the order of names of the first live group from one on that is not marked; the number of
@@ -91,11 +92,11 @@ impl PlacedWorld {
     }
 
     /// Whether the k-th live group in the order of names is marked, if there is one.
-    fn is_marked(&self, k: u32, marks: &[bool; 1024]) -> bool
-        ensures { (g : Name) (j : ℕ) → slice_get (fm.keys self.now.groups.map) k ≡ Some g →
+    fn is_marked(&self, index: u32, marks: &[bool; 1024]) -> bool
+        ensures { (g : Name) (j : ℕ) → slice_get (fm.keys self.now.groups.map) index ≡ Some g →
             fm.get self.now.groups.map g ≡ Some j → result ≡ is_marked marks.now j }
     {
-        let Some(g) = self.groups.nth(k) else {
+        let Some(g) = self.groups.nth(index) else {
             return true;
         };
         match self.groups.place(g) {
@@ -105,29 +106,29 @@ impl PlacedWorld {
     }
 
     /// Marks the groups that pages of a place are common of, by its segments.
-    fn mark_pages(&self, i: usize, marks: &mut [bool; 1024])
-        requires { i < count self.now.places }
+    fn mark_pages(&self, place: usize, marks: &mut [bool; 1024])
+        requires { place < count self.now.places }
         ensures { AddsMarks self.now.groups.places
-            (λ g. list_any (λ p. is_in g (rows self.now.places i (Page p)))
+            (λ g. list_any (λ p. is_in g (rows self.now.places place (Page p)))
             (range_with_len 0 self.now.size.pages))
             marks.old marks.new }
     {
-        for segment in self.places.segments(i) {
+        for segment in self.places.segments(place) {
             self.mark_kind(segment.kind, marks);
         }
     }
 
     /// Marks the groups that slots of a place are common of.
-    fn mark_slots(&self, i: usize, marks: &mut [bool; 1024])
-        requires { i < count self.now.places }
+    fn mark_slots(&self, place: usize, marks: &mut [bool; 1024])
+        requires { place < count self.now.places }
         ensures { AddsMarks self.now.groups.places
-            (λ g. list_any (λ n. is_in g (rows self.now.places i (Slot n))) (range_with_len 0 SLOTS))
+            (λ g. list_any (λ n. is_in g (rows self.now.places place (Slot n))) (range_with_len 0 SLOTS))
             marks.old marks.new }
     {
-        let common = self.places.common(i);
+        let common = self.places.common(place);
         let mut from = 0;
         'slots: while let Some(n) = lowest_bit(common, from) {
-            self.mark_group(self.places.slot_group(i, n), marks);
+            self.mark_group(self.places.slot_group(place, n), marks);
             from = n + 1;
         }
     }

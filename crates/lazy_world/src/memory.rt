@@ -32,14 +32,14 @@ impl PlacedWorld {
 
     /// The place that has what is under a page of the context at a place: that place itself, or the place of
     /// the group that the page is common of. `None` if the page is absent, or that group is not live.
-    pub(crate) fn holder(&self, i: usize, p: PageNumber) -> Option<usize>
-        requires { i < count self.now.places }
-        ensures place { result ≡ holder (parts self.now) i p }
+    pub(crate) fn holder(&self, place: usize, page: PageNumber) -> Option<usize>
+        requires { place < count self.now.places }
+        ensures place { result ≡ holder (parts self.now) place page }
         ensures inside { IfSome result (λ j. j < count self.now.places) }
     {
-        match self.places.kind(i, p) {
+        match self.places.kind(place, page) {
             None => None,
-            Some(SegmentKind::Own) => Some(i),
+            Some(SegmentKind::Own) => Some(place),
             Some(SegmentKind::Common(g)) => match self.groups.place(g) {
                 Some(j) => Some(self.size.contexts as usize + j),
                 None => None,
@@ -48,30 +48,30 @@ impl PlacedWorld {
     }
 
     /// The bytes of a page of the context at a place. A page that is absent or zeros has none.
-    fn page_bytes(&self, i: usize, p: PageNumber) -> Option<&[u8]>
-        requires place { i < count self.now.places }
-        requires page { p < MOST_PAGES }
-        ensures { option_copied result ≡ data_of (page_in (seen self.now) (rows self.now.places i) p) }
+    fn page_bytes(&self, place: usize, page: PageNumber) -> Option<&[u8]>
+        requires place { place < count self.now.places }
+        requires page { page < MOST_PAGES }
+        ensures { option_copied result ≡ data_of (page_in (seen self.now) (rows self.now.places place) page) }
     {
-        match self.holder(i, p) {
-            Some(j) => self.places.bytes(j, p),
+        match self.holder(place, page) {
+            Some(j) => self.places.bytes(j, page),
             None => None,
         }
     }
 
     /// Copies the bytes of the context at a place from an address on; 0 where a page is absent. Each touched
     /// page is found once.
-    fn copy_to(&self, i: usize, at: usize, out: &mut [u8])
-        requires place { i < count self.now.places }
+    fn copy_to(&self, place: usize, at: usize, out: &mut [u8])
+        requires place { place < count self.now.places }
         requires within { at + length out.old ≤ MOST_PAGES * PAGE_BYTES }
-        ensures { out.new ≡ map (byte_in (seen self.now) (rows self.now.places i))
+        ensures { out.new ≡ map (byte_in (seen self.now) (rows self.now.places place))
             (range_with_len at (length out.old)) }
     {
         let mut page = None;
         for (k, byte) in out.iter_mut().enumerate() {
             let address = at + k;
             if k == 0 || address % PAGE_BYTES == 0 {
-                page = self.page_bytes(i, (address / PAGE_BYTES) as PageNumber);
+                page = self.page_bytes(place, (address / PAGE_BYTES) as PageNumber);
             }
             *byte = byte_of(page, address % PAGE_BYTES);
         }
@@ -79,13 +79,13 @@ impl PlacedWorld {
 
     /// Copies bytes of the context at a place from an address on, if they are in one page, which is its own,
     /// and tells whether it did. If it did not, nothing changes.
-    fn copy_own(&self, i: usize, at: usize, out: &mut [u8]) -> bool
-        requires place { i < count self.now.places }
+    fn copy_own(&self, place: usize, at: usize, out: &mut [u8]) -> bool
+        requires place { place < count self.now.places }
         requires within { at + length out.old ≤ MOST_PAGES * PAGE_BYTES }
         ensures present { result ≡ true
-            → list_all (λ p. is_some (page_in (seen self.now) (rows self.now.places i) p))
+            → list_all (λ p. is_some (page_in (seen self.now) (rows self.now.places place) p))
             (touched at (length out.old)) ≡ true }
-        ensures copied { result ≡ true → out.new ≡ map (byte_in (seen self.now) (rows self.now.places i))
+        ensures copied { result ≡ true → out.new ≡ map (byte_in (seen self.now) (rows self.now.places place))
             (range_with_len at (length out.old)) }
         ensures same { result ≡ false → out.new ≡ out.old }
     {
@@ -93,10 +93,10 @@ impl PlacedWorld {
         if pages.to - pages.from != 1 {
             return false;
         }
-        match self.places.kind(i, pages.from) {
+        match self.places.kind(place, pages.from) {
             Some(SegmentKind::Own) => {
                 let from = at % PAGE_BYTES;
-                match self.places.bytes(i, pages.from) {
+                match self.places.bytes(place, pages.from) {
                     Some(bytes) => out.copy_from_slice(&bytes[from..from + out.len()]),
                     None => out.fill(0),
                 }
@@ -107,24 +107,24 @@ impl PlacedWorld {
     }
 
     /// Whether all of some pages of the context at a place are present.
-    pub(crate) fn are_present(&self, i: usize, pages: Range) -> bool
-        requires { i < count self.now.places }
-        ensures { result ≡ list_all (λ p. is_some (page_in (seen self.now) (rows self.now.places i) p))
+    pub(crate) fn are_present(&self, place: usize, pages: Range) -> bool
+        requires { place < count self.now.places }
+        ensures { result ≡ list_all (λ p. is_some (page_in (seen self.now) (rows self.now.places place) p))
             (range_with_len pages.from (pages.to - pages.from)) }
     {
-        (pages.from..pages.to).all(|p| self.is_present(i, p))
+        (pages.from..pages.to).all(|p| self.is_present(place, p))
     }
 
     /// Reads `out.len()` bytes of the context's memory from the address `at` on into `out`. Answers
     /// `false`, with `out` unchanged, if a page of them is absent.
-    pub(crate) fn bytes(&self, c: Name, at: u32, out: &mut [u8]) -> bool
-        requires live { IsLive (seen self.now) c }
+    pub(crate) fn bytes(&self, context: Name, at: u32, out: &mut [u8]) -> bool
+        requires live { IsLive (seen self.now) context }
         requires within { at + length out.old ≤ (seen self.now).size.pages * PAGE_BYTES }
-        ensures present { result ≡ is_some (load (seen self.now) c at (length out.old)) }
-        ensures found { IfSome (load (seen self.now) c at (length out.old)) (λ bytes. out.new ≡ bytes) }
-        ensures absent { IfNone (load (seen self.now) c at (length out.old)) (out.new ≡ out.old) }
+        ensures present { result ≡ is_some (load (seen self.now) context at (length out.old)) }
+        ensures found { IfSome (load (seen self.now) context at (length out.old)) (λ bytes. out.new ≡ bytes) }
+        ensures absent { IfNone (load (seen self.now) context at (length out.old)) (out.new ≡ out.old) }
     {
-        let i = self.place(c);
+        let i = self.place(context);
         if self.copy_own(i, at as usize, out) {
             return true;
         }

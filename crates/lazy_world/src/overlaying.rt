@@ -34,23 +34,23 @@ impl PlacedWorld {
     /// Takes over what the items name from the context itself. Its values move at once with the change of the
     /// others, since a context that has only shared may have too many ranges.
     #[tactic(auto, using(lwc_base::proofs::Facts::changes))]
-    fn overlay_itself(&mut self, c: Name, spec: &Items, job: u32)
-        requires live { IsLive (seen self.old) c }
+    fn overlay_itself(&mut self, context: Name, spec: &Items, job: u32)
+        requires live { IsLive (seen self.old) context }
         requires within { IsSpec (seen self.old).size.pages spec.now }
         requires may { MayName (seen self.old) job }
-        requires group { needs_group (seen self.old) c spec.now ≡ true → HasGroupPlace (seen self.old) }
-        requires few { AreFew (ranges_after_overlay (seen self.old) c c job spec.now) }
-        ensures overlaid { seen self.new ≡ overlay (seen self.old) c c job spec.now }
-        ensures store { OverlayStore self.old self.new c job spec.now }
-        ensures steps { OverlaySteps self.old self.new c job spec.now }
+        requires group { needs_group (seen self.old) context spec.now ≡ true → HasGroupPlace (seen self.old) }
+        requires few { AreFew (ranges_after_overlay (seen self.old) context context job spec.now) }
+        ensures overlaid { seen self.new ≡ overlay (seen self.old) context context job spec.now }
+        ensures store { OverlayStore self.old self.new context job spec.now }
+        ensures steps { OverlaySteps self.old self.new context job spec.now }
     {
-        if self.needs_group(c, spec) {
+        if self.needs_group(context, spec) {
             let g = self.add_group(job);
-            self.fill_group(g, c, spec);
-            self.follow(Transfer::Overlay(g), spec, c, c);
+            self.fill_group(g, context, spec);
+            self.follow(Transfer::Overlay(g), spec, context, context);
         } else {
             // Nothing moves, so that no value becomes common by this name.
-            self.follow(Transfer::Overlay(c), spec, c, c);
+            self.follow(Transfer::Overlay(context), spec, context, context);
         }
     }
 

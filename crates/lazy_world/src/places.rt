@@ -83,86 +83,87 @@ impl Places {
     }
 
     /// The kind of a page of a place; `None` where it is absent.
-    pub fn kind(&self, i: usize, p: PageNumber) -> Option<SegmentKind>
-        requires { i < count self.now }
-        ensures { result ≡ kind_of (rows self.now i (Page p)) }
+    pub fn kind(&self, place: usize, page: PageNumber) -> Option<SegmentKind>
+        requires { place < count self.now }
+        ensures { result ≡ kind_of (rows self.now place (Page page)) }
     {
-        self.pages.kind(i, p)
+        self.pages.kind(place, page)
     }
 
     /// The right of a page of a place; `Write` where it is absent.
-    pub fn right(&self, i: usize, p: PageNumber) -> Right
-        requires { i < count self.now }
-        ensures { result ≡ rights self.now i p }
+    pub fn right(&self, place: usize, page: PageNumber) -> Right
+        requires { place < count self.now }
+        ensures { result ≡ rights self.now place page }
     {
-        self.pages.right(i, p)
+        self.pages.right(place, page)
     }
 
     /// The kind and the right of a page of a place; `None` where it is absent.
-    pub fn state(&self, i: usize, p: PageNumber) -> Option<PageState>
-        requires { i < count self.now }
-        ensures { result ≡ states_of (rows self.now i) (rights self.now i) p }
+    pub fn state(&self, place: usize, page: PageNumber) -> Option<PageState>
+        requires { place < count self.now }
+        ensures { result ≡ states_of (rows self.now place) (rights self.now place) page }
     {
-        self.pages.state(i, p)
+        self.pages.state(place, page)
     }
 
     /// The kind and the right of a page of a place, and the first page after it that has others, or the end of
     /// all pages. There are at most 64 ranges, so that a walk from run to run is short.
-    pub fn run_at(&self, i: usize, p: PageNumber) -> (Option<PageState>, PageNumber)
-        requires place { i < count self.now }
-        requires page { p < MOST_PAGES }
-        ensures state { result.0 ≡ states_of (rows self.now i) (rights self.now i) p }
-        ensures past { p < result.1 }
+    pub fn run_at(&self, place: usize, page: PageNumber) -> (Option<PageState>, PageNumber)
+        requires place { place < count self.now }
+        requires page { page < MOST_PAGES }
+        ensures state { result.0 ≡ states_of (rows self.now place) (rights self.now place) page }
+        ensures past { page < result.1 }
         ensures within { result.1 ≤ MOST_PAGES }
-        ensures alike { (q : ℕ) → p ≤ q → q < result.1
-            → states_of (rows self.now i) (rights self.now i) q
-            ≡ states_of (rows self.now i) (rights self.now i) p }
+        ensures alike { (q : ℕ) → page ≤ q → q < result.1
+            → states_of (rows self.now place) (rights self.now place) q
+            ≡ states_of (rows self.now place) (rights self.now place) page }
         ensures other { result.1 < MOST_PAGES
-            → states_of (rows self.now i) (rights self.now i) result.1
-            ≢ states_of (rows self.now i) (rights self.now i) p }
-        ensures few { ranges MOST_PAGES (states_of (rows self.now i) (rights self.now i)) ≤ MOST_RANGES }
+            → states_of (rows self.now place) (rights self.now place) result.1
+            ≢ states_of (rows self.now place) (rights self.now place) page }
+        ensures few { ranges MOST_PAGES (states_of (rows self.now place) (rights self.now place))
+            ≤ MOST_RANGES }
     {
-        self.pages.run_at(i, p)
+        self.pages.run_at(place, page)
     }
 
     /// The segments of a place, one for each range.
-    pub fn segments(&self, i: usize) -> &[Segment]
-        requires { i < count self.now }
-        ensures states { state_at result.now ≡ states_of (rows self.now i) (rights self.now i) }
+    pub fn segments(&self, place: usize) -> &[Segment]
+        requires { place < count self.now }
+        ensures states { state_at result.now ≡ states_of (rows self.now place) (rights self.now place) }
         ensures count { length result.now
-            ≡ ranges MOST_PAGES (states_of (rows self.now i) (rights self.now i)) }
+            ≡ ranges MOST_PAGES (states_of (rows self.now place) (rights self.now place)) }
         ensures few { length result.now ≤ MOST_RANGES }
         ensures each { All IsSegment result.now }
         ensures canonical { IsCanonical result.now }
     {
-        self.pages.segments(i)
+        self.pages.segments(place)
     }
 
     /// The bytes of a page that is the place's own. A page that is absent, common or zeros has none.
-    pub fn bytes(&self, i: usize, p: PageNumber) -> Option<&[u8]>
-        requires place { i < count self.now }
-        requires page { p < MOST_PAGES }
-        ensures value { option_copied result ≡ data_of (own_value (rows self.now i (Page p))) }
+    pub fn bytes(&self, place: usize, page: PageNumber) -> Option<&[u8]>
+        requires place { place < count self.now }
+        requires page { page < MOST_PAGES }
+        ensures value { option_copied result ≡ data_of (own_value (rows self.now place (Page page))) }
         ensures whole { IfSome result (λ bytes. length bytes.now ≡ PAGE_BYTES) }
     {
-        self.pages.bytes(i, p)
+        self.pages.bytes(place, page)
     }
 
     /// The cell of a slot of a place, lent.
-    pub fn slot(&self, i: usize, n: SlotNumber) -> Cell<Lent<'_>>
-        requires place { i < count self.now }
-        requires slot { n < SLOTS }
-        ensures { cell_of result ≡ rows self.now i (Slot n) }
+    pub fn slot(&self, place: usize, slot_number: SlotNumber) -> Cell<Lent<'_>>
+        requires place { place < count self.now }
+        requires slot { slot_number < SLOTS }
+        ensures { cell_of result ≡ rows self.now place (Slot slot_number) }
     {
-        self.slots.cell(i, n)
+        self.slots.cell(place, slot_number)
     }
 
     /// The cell of the credential of a place.
-    pub fn uid(&self, i: usize) -> &Cell<u32>
-        requires { i < count self.now }
-        ensures { result.now ≡ rows self.now i Cred }
+    pub fn uid(&self, place: usize) -> &Cell<u32>
+        requires { place < count self.now }
+        ensures { result.now ≡ rows self.now place Cred }
     {
-        &self.uids[i]
+        &self.uids[place]
     }
 
     /// The number of the context that a cell has a descriptor of, if it has one.
@@ -177,134 +178,136 @@ impl Places {
     }
 
     /// The context that a slot of a place's own has a descriptor of, if it has one.
-    pub fn context(&self, i: usize, n: SlotNumber) -> Option<Name>
-        requires place { i < count self.now }
-        requires slot { n < SLOTS }
-        ensures { result ≡ context_in (rows self.now i (Slot n)) }
+    pub fn context(&self, place: usize, slot: SlotNumber) -> Option<Name>
+        requires place { place < count self.now }
+        requires slot { slot < SLOTS }
+        ensures { result ≡ context_in (rows self.now place (Slot slot)) }
     {
-        self.slots.context(i, n)
+        self.slots.context(place, slot)
     }
 
     /// The slots of a place that are common: slot n is bit n.
-    pub fn common(&self, i: usize) -> u64
-        requires { i < count self.now }
-        ensures { (n : ℕ) → n < SLOTS → has_bit result n ≡ is_common (rows self.now i (Slot n)) }
+    pub fn common(&self, place: usize) -> u64
+        requires { place < count self.now }
+        ensures { (n : ℕ) → n < SLOTS → has_bit result n ≡ is_common (rows self.now place (Slot n)) }
     {
-        self.slots.common(i)
+        self.slots.common(place)
     }
 
     /// Whether a slot of a place is common.
-    pub fn is_common(&self, i: usize, n: SlotNumber) -> bool
-        requires place { i < count self.now }
-        requires slot { n < SLOTS }
-        ensures { result ≡ is_common (rows self.now i (Slot n)) }
+    pub fn is_common(&self, place: usize, slot: SlotNumber) -> bool
+        requires place { place < count self.now }
+        requires slot { slot < SLOTS }
+        ensures { result ≡ is_common (rows self.now place (Slot slot)) }
     {
-        self.common(i) >> n & 1 == 1
+        self.common(place) >> slot & 1 == 1
     }
 
     /// Whether two slots of a place are both its own.
-    pub fn are_own(&self, i: usize, n: SlotNumber, m: SlotNumber) -> bool
-        requires place { i < count self.now }
-        requires slot { n < SLOTS }
-        requires other { m < SLOTS }
-        ensures slot { result ≡ true → is_common (rows self.now i (Slot n)) ≡ false }
-        ensures other { result ≡ true → is_common (rows self.now i (Slot m)) ≡ false }
+    pub fn are_own(&self, place: usize, slot: SlotNumber, other_slot: SlotNumber) -> bool
+        requires place { place < count self.now }
+        requires slot { slot < SLOTS }
+        requires other { other_slot < SLOTS }
+        ensures slot { result ≡ true → is_common (rows self.now place (Slot slot)) ≡ false }
+        ensures other { result ≡ true → is_common (rows self.now place (Slot other_slot)) ≡ false }
     {
-        !self.is_common(i, n) && !self.is_common(i, m)
+        !self.is_common(place, slot) && !self.is_common(place, other_slot)
     }
 
     /// The slots of a place that are more than empty ones of its own: slot n is bit n.
-    pub fn filled(&self, i: usize) -> u64
-        requires { i < count self.now }
-        ensures { (n : ℕ) → n < SLOTS → has_bit result n ≡ is_filled (rows self.now i (Slot n)) }
+    pub fn filled(&self, place: usize) -> u64
+        requires { place < count self.now }
+        ensures { (n : ℕ) → n < SLOTS → has_bit result n ≡ is_filled (rows self.now place (Slot n)) }
     {
-        self.slots.filled(i)
+        self.slots.filled(place)
     }
 
     /// Whether two places share a slot. Slots that are not shared may be the same, too.
-    pub fn is_shared(&self, i: usize, j: usize, n: SlotNumber) -> bool
-        requires place { i < count self.now }
-        requires other { j < count self.now }
-        requires slot { n < SLOTS }
-        ensures { result ≡ true → rows self.now i (Slot n) ≡ rows self.now j (Slot n) }
+    pub fn is_shared(&self, place: usize, other: usize, slot: SlotNumber) -> bool
+        requires place { place < count self.now }
+        requires other { other < count self.now }
+        requires slot { slot < SLOTS }
+        ensures { result ≡ true → rows self.now place (Slot slot) ≡ rows self.now other (Slot slot) }
     {
-        self.slots.is_shared(i, j, n)
+        self.slots.is_shared(place, other, slot)
     }
 
     /// Whether a slot of a place is more than an empty slot of its own.
-    pub fn is_filled(&self, i: usize, n: SlotNumber) -> bool
-        requires place { i < count self.now }
-        requires slot { n < SLOTS }
-        ensures { result ≡ is_filled (rows self.now i (Slot n)) }
+    pub fn is_filled(&self, place: usize, slot: SlotNumber) -> bool
+        requires place { place < count self.now }
+        requires slot { slot < SLOTS }
+        ensures { result ≡ is_filled (rows self.now place (Slot slot)) }
     {
-        self.filled(i) >> n & 1 == 1
+        self.filled(place) >> slot & 1 == 1
     }
 
     /// Whether a slot of any place may have a descriptor of a context.
-    pub fn may_name(&self, c: Name) -> bool
-        ensures { result ≡ false → (i n : ℕ) → context_in (rows self.now i (Slot n)) ≢ Some c }
+    pub fn may_name(&self, context: Name) -> bool
+        ensures { result ≡ false → (i n : ℕ) → context_in (rows self.now i (Slot n)) ≢ Some context }
     {
-        self.slots.is_named(number_of(c))
+        self.slots.is_named(number_of(context))
     }
 
     /// Puts another cell into a slot of a place.
-    pub fn put_slot(&mut self, i: usize, n: SlotNumber, cell: Cell<Lent<'_>>)
-        requires place { i < count self.old }
-        requires slot { n < SLOTS }
+    pub fn put_slot(&mut self, place: usize, slot: SlotNumber, cell: Cell<Lent<'_>>)
+        requires place { place < count self.old }
+        requires slot { slot < SLOTS }
         ensures rows { rows self.new
-            ≡ put_row (rows self.old) i (with_key Cell (Slot n) (cell_of cell.entry) (rows self.old i)) }
+            ≡ put_row (rows self.old) place
+            (with_key Cell (Slot slot) (cell_of cell.entry) (rows self.old place)) }
         ensures count { count self.new ≡ count self.old }
         ensures frames { frame_count self.new ≡ frame_count self.old }
         ensures store { KeepsStore self.old self.new }
     {
         let target = Places::target_of(&cell);
-        self.slots.put(i, n, cell, target);
+        self.slots.put(place, slot, cell, target);
     }
 
     /// Puts another cell of the credential at a place.
-    pub fn put_uid(&mut self, i: usize, cell: Cell<u32>)
-        requires { i < count self.old }
-        ensures rows { rows self.new ≡ put_row (rows self.old) i (with_key Cell Cred cell (rows self.old i)) }
+    pub fn put_uid(&mut self, place: usize, cell: Cell<u32>)
+        requires { place < count self.old }
+        ensures rows { rows self.new
+            ≡ put_row (rows self.old) place (with_key Cell Cred cell (rows self.old place)) }
         ensures count { count self.new ≡ count self.old }
         ensures frames { frame_count self.new ≡ frame_count self.old }
         ensures store { KeepsStore self.old self.new }
     {
-        self.uids[i] = cell;
+        self.uids[place] = cell;
     }
 
     /// Puts a value of a place's own under a key.
-    pub fn put(&mut self, i: usize, value: KeyValue<'_>)
-        requires place { i < count self.old }
+    pub fn put(&mut self, place: usize, value: KeyValue<'_>)
+        requires place { place < count self.old }
         requires slot { HasSlot value }
-        ensures rows { rows self.new ≡ put_row (rows self.old) i
-            (with_key Cell (key_in value.entry) (Own (value_in value.entry)) (rows self.old i)) }
+        ensures rows { rows self.new ≡ put_row (rows self.old) place
+            (with_key Cell (key_in value.entry) (Own (value_in value.entry)) (rows self.old place)) }
         ensures count { count self.new ≡ count self.old }
         ensures frames { frame_count self.new ≡ frame_count self.old }
         ensures store { KeepsStore self.old self.new }
     {
         match value {
-            KeyValue::Slot(n, descriptor) => self.put_slot(i, n, Cell::Own(descriptor)),
-            KeyValue::Cred(uid) => self.put_uid(i, Cell::Own(uid)),
+            KeyValue::Slot(n, descriptor) => self.put_slot(place, n, Cell::Own(descriptor)),
+            KeyValue::Cred(uid) => self.put_uid(place, Cell::Own(uid)),
         }
     }
 
     /// The group that the cell of a place under a key names, if it names one.
-    pub fn group(&self, i: usize, value: KeyValue<'_>) -> Option<Name>
-        requires place { i < count self.now }
+    pub fn group(&self, place: usize, value: KeyValue<'_>) -> Option<Name>
+        requires place { place < count self.now }
         requires slot { HasSlot value }
-        ensures { result ≡ group_in (rows self.now i (key_in value.entry)) }
+        ensures { result ≡ group_in (rows self.now place (key_in value.entry)) }
     {
         match value {
             KeyValue::Slot(n, _) => {
-                if !self.is_common(i, n) {
+                if !self.is_common(place, n) {
                     return None;
                 }
-                match self.slot(i, n) {
+                match self.slot(place, n) {
                     Cell::Own(_) => None,
                     Cell::Common(g) => Some(g),
                 }
             }
-            KeyValue::Cred(_) => match self.uid(i) {
+            KeyValue::Cred(_) => match self.uid(place) {
                 Cell::Own(_) => None,
                 Cell::Common(g) => Some(*g),
             },

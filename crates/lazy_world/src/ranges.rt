@@ -49,13 +49,13 @@ impl ModeRun {
     }
 
     /// The mode of a page and of all up to the end of the item of a number, if that has the page.
-    fn in_item(items: &Items, near: usize, p: PageNumber) -> Option<ModeRun>
-        ensures past { IfSome result (λ run. p < run.to) }
-        ensures run { IfSome result (λ run. IsModeRun items.now p run) }
+    fn in_item(items: &Items, near: usize, page: PageNumber) -> Option<ModeRun>
+        ensures past { IfSome result (λ run. page < run.to) }
+        ensures run { IfSome result (λ run. IsModeRun items.now page run) }
     {
         let item = items.items().get(near)?;
         let range = item.pages()?;
-        if p < range.from || range.to <= p {
+        if page < range.from || range.to <= page {
             return None;
         }
         Some(ModeRun {
@@ -67,19 +67,19 @@ impl ModeRun {
 
     /// The mode of a page and of all up to a later one, where an item begins or ends: that of the item that has
     /// the page, or none up to the next item. It looks at each item.
-    fn at(items: &Items, near: usize, p: PageNumber) -> ModeRun
-        requires page { p < MOST_PAGES }
-        ensures past { p < result.to }
-        ensures run { IsModeRun items.now p result }
+    fn at(items: &Items, near: usize, page: PageNumber) -> ModeRun
+        requires page { page < MOST_PAGES }
+        ensures past { page < result.to }
+        ensures run { IsModeRun items.now page result }
     {
         let mut to = MOST_PAGES;
         for item in items.items() {
             let Some(range) = item.pages() else {
                 continue;
             };
-            if p < range.from {
+            if page < range.from {
                 to = to.min(range.from);
-            } else if p < range.to {
+            } else if page < range.to {
                 return ModeRun {
                     mode: Some(item.mode),
                     to: range.to,
@@ -96,18 +96,18 @@ impl ModeRun {
 
     /// The mode of a page and of all up to a later one, where an item begins or ends. The items are looked
     /// through once for all pages of one mode.
-    pub(crate) fn next(self, items: &Items, p: PageNumber) -> ModeRun
-        requires page { p < MOST_PAGES }
-        requires known { IsModeRun items.now p self }
-        ensures past { p < result.to }
-        ensures run { IsModeRun items.now p result }
+    pub(crate) fn next(self, items: &Items, page: PageNumber) -> ModeRun
+        requires page { page < MOST_PAGES }
+        requires known { IsModeRun items.now page self }
+        ensures past { page < result.to }
+        ensures run { IsModeRun items.now page result }
     {
-        if p < self.to {
+        if page < self.to {
             return self;
         }
-        match ModeRun::in_item(items, self.near, p) {
+        match ModeRun::in_item(items, self.near, page) {
             Some(run) => run,
-            None => ModeRun::at(items, self.near, p),
+            None => ModeRun::at(items, self.near, page),
         }
     }
 }
@@ -177,22 +177,22 @@ impl Stretch {
     ghost use Rattle.lazy_world.specs.Transfers.{CanGet, given, given_or};
 
     /// The page run that gives them all at the place i, from a page on: those that stay are copied from there.
-    pub(crate) fn whole(self, i: usize, from: PageNumber) -> PageRun
+    pub(crate) fn whole(self, place: usize, from: PageNumber) -> PageRun
         ensures begin { result.range.from ≡ from }
         ensures end { result.range.to ≡ self.to }
         ensures gives { (rows : ℕ → Row) (q : ℕ) → given rows (Page q) result.origin
-            ≡ given_or rows (Page q) (rows i (Page q)) (option_map (λ s. s.origin) self.page_run) }
+            ≡ given_or rows (Page q) (rows place (Page q)) (option_map (λ s. s.origin) self.page_run) }
         ensures right { (rights : ℕ → ℕ → Right) (q : ℕ)
             → unwrap_or result.right (origin_right rights result.origin q)
             ≡ (if self.read then Read
-            else gift_right rights q (rights i q) (option_map gift_of self.page_run)) }
-        ensures inside { (count : ℕ) → i < count
-            → CanGet count i (option_map (λ s. s.origin) self.page_run)
+            else gift_right rights q (rights place q) (option_map gift_of self.page_run)) }
+        ensures inside { (count : ℕ) → place < count
+            → CanGet count place (option_map (λ s. s.origin) self.page_run)
             → (j : ℕ) → result.origin ≡ CopyOf j → j < count }
     {
         let (origin, right) = match self.page_run {
             Some(page_run) => (page_run.origin, page_run.right),
-            None => (Origin::CopyOf(i), None),
+            None => (Origin::CopyOf(place), None),
         };
         PageRun {
             range: Range { from, to: self.to },
@@ -251,26 +251,28 @@ impl PlacedWorld {
 
     /// What is found at a page of a place, and the first later page of another state, or the end of all
     /// pages.
-    pub(crate) fn found_page(&self, i: usize, p: PageNumber) -> (Found, PageNumber)
-        requires place { i < count self.now.places }
-        requires page { p < MOST_PAGES }
-        ensures past { p < result.1 }
+    pub(crate) fn found_page(&self, place: usize, page: PageNumber) -> (Found, PageNumber)
+        requires place { place < count self.now.places }
+        requires page { page < MOST_PAGES }
+        ensures past { page < result.1 }
         ensures within { result.1 ≤ MOST_PAGES }
-        ensures found { (q : ℕ) → p ≤ q → q < result.1 → IsFound (seen self.now)
+        ensures found { (q : ℕ) → page ≤ q → q < result.1 → IsFound (seen self.now)
             (parts self.now).size.contexts (count self.now.places) (rows self.now.places) (Page q)
-            (rows self.now.places i (Page q)) result.0 }
-        ensures right { (q : ℕ) → p ≤ q → q < result.1 → result.0.right
-            ≡ option_map (λ s. s.right) (states_of (rows self.now.places i) (rights self.now.places i) q) }
-        ensures alike { (q : ℕ) → p ≤ q → q < result.1
-            → states_of (rows self.now.places i) (rights self.now.places i) q
-            ≡ states_of (rows self.now.places i) (rights self.now.places i) p }
+            (rows self.now.places place (Page q)) result.0 }
+        ensures right { (q : ℕ) → page ≤ q → q < result.1 → result.0.right
+            ≡ option_map (λ s. s.right)
+            (states_of (rows self.now.places place) (rights self.now.places place) q) }
+        ensures alike { (q : ℕ) → page ≤ q → q < result.1
+            → states_of (rows self.now.places place) (rights self.now.places place) q
+            ≡ states_of (rows self.now.places place) (rights self.now.places place) page }
         ensures other { result.1 < MOST_PAGES
-            → states_of (rows self.now.places i) (rights self.now.places i) result.1
-            ≢ states_of (rows self.now.places i) (rights self.now.places i) p }
-        ensures few { ranges MOST_PAGES (states_of (rows self.now.places i) (rights self.now.places i))
+            → states_of (rows self.now.places place) (rights self.now.places place) result.1
+            ≢ states_of (rows self.now.places place) (rights self.now.places place) page }
+        ensures few { ranges MOST_PAGES
+            (states_of (rows self.now.places place) (rights self.now.places place))
             ≤ MOST_RANGES }
     {
-        let (state, edge) = self.places.run_at(i, p);
+        let (state, edge) = self.places.run_at(place, page);
         (self.found_state(state), edge)
     }
 
@@ -282,45 +284,48 @@ impl PlacedWorld {
         modes: ModeRun,
         from: usize,
         to: usize,
-        p: PageNumber,
+        page: PageNumber,
     ) -> Stretch
-        requires modes { IsModeRun spec.now p modes }
+        requires modes { IsModeRun spec.now page modes }
         requires from { from < count self.now.places }
         requires transfer { IsFor (parts self.now).size.contexts from to transfer }
-        requires page { p < MOST_PAGES }
+        requires page { page < MOST_PAGES }
         ensures modes { IsModeRun spec.now result.to result.modes }
-        ensures past { p < result.to }
+        ensures past { page < result.to }
         ensures within { result.to ≤ MOST_PAGES }
-        ensures begin { IfSome result.page_run (λ s. s.range.from ≡ p) }
+        ensures begin { IfSome result.page_run (λ s. s.range.from ≡ page) }
         ensures end { IfSome result.page_run (λ s. s.range.to ≡ result.to) }
-        ensures gives { (q : ℕ) → p ≤ q → q < result.to
+        ensures gives { (q : ℕ) → page ≤ q → q < result.to
             → given_or (rows self.now.places) (Page q) (rows self.now.places to (Page q))
             (option_map (λ s. s.origin) result.page_run)
             ≡ transferred self.now transfer spec.now from to (Page q) }
-        ensures rights { (q : ℕ) → p ≤ q → q < result.to
+        ensures rights { (q : ℕ) → page ≤ q → q < result.to
             → shown_right (transferred self.now transfer spec.now from to (Page q))
             (reads transfer (mode spec.now (Page q)))
             (gift_right (rights self.now.places) q (rights self.now.places to q)
             (option_map gift_of result.page_run))
             ≡ right_transferred self.now transfer spec.now from to q }
-        ensures read { (q : ℕ) → p ≤ q → q < result.to
+        ensures read { (q : ℕ) → page ≤ q → q < result.to
             → reads transfer (mode spec.now (Page q)) ≡ result.read }
         ensures can { CanGet (count self.now.places) to (option_map (λ s. s.origin) result.page_run) }
-        ensures alike { (q : ℕ) → p ≤ q → q < result.to
+        ensures alike { (q : ℕ) → page ≤ q → q < result.to
             → states_of (rows self.now.places from) (rights self.now.places from) q
-            ≡ states_of (rows self.now.places from) (rights self.now.places from) p }
+            ≡ states_of (rows self.now.places from) (rights self.now.places from) page }
         ensures edge { result.to < MOST_PAGES
             → (states_of (rows self.now.places from) (rights self.now.places from) result.to
-            ≢ states_of (rows self.now.places from) (rights self.now.places from) p)
+            ≢ states_of (rows self.now.places from) (rights self.now.places from) page)
             ⊎ (list_any (λ item. (item.from == result.to) || (item.to == result.to)) spec.now ≡ true) }
         ensures few { ranges MOST_PAGES (states_of (rows self.now.places from) (rights self.now.places from))
             ≤ MOST_RANGES }
     {
-        let (found, edge) = self.found_page(from, p);
-        let modes = modes.next(spec, p);
+        let (found, edge) = self.found_page(from, page);
+        let modes = modes.next(spec, page);
         let end = edge.min(modes.to);
         let origin = transfer.origin(modes.mode, found, from, to);
-        let range = Range { from: p, to: end };
+        let range = Range {
+            from: page,
+            to: end,
+        };
         Stretch {
             page_run: page_run_of(origin, range, found.right),
             to: end,
@@ -370,22 +375,22 @@ impl PlacedWorld {
     }
 
     /// What is found in a slot of a place.
-    pub(crate) fn found_slot(&self, i: usize, n: SlotNumber) -> Found
-        requires place { i < count self.now.places }
-        requires slot { n < SLOTS }
+    pub(crate) fn found_slot(&self, place: usize, slot: SlotNumber) -> Found
+        requires place { place < count self.now.places }
+        requires slot { slot < SLOTS }
         ensures { IsFound (seen self.now) (parts self.now).size.contexts (count self.now.places)
-            (rows self.now.places) (Slot n) (rows self.now.places i (Slot n)) result }
+            (rows self.now.places) (Slot slot) (rows self.now.places place (Slot slot)) result }
     {
-        self.found(Some(owner(&self.places.slot(i, n))), None)
+        self.found(Some(owner(&self.places.slot(place, slot))), None)
     }
 
     /// What is found under the credential of a place.
-    pub(crate) fn found_uid(&self, i: usize) -> Found
-        requires { i < count self.now.places }
+    pub(crate) fn found_uid(&self, place: usize) -> Found
+        requires { place < count self.now.places }
         ensures { IsFound (seen self.now) (parts self.now).size.contexts (count self.now.places)
-            (rows self.now.places) Cred (rows self.now.places i Cred) result }
+            (rows self.now.places) Cred (rows self.now.places place Cred) result }
     {
-        self.found(Some(owner(self.places.uid(i))), None)
+        self.found(Some(owner(self.places.uid(place))), None)
     }
 
     /// The origin of a slot by a transfer.
@@ -395,16 +400,16 @@ impl PlacedWorld {
         spec: &Items,
         from: usize,
         to: usize,
-        n: SlotNumber,
+        slot: SlotNumber,
     ) -> Option<Origin>
         requires from { from < count self.now.places }
         requires transfer { IsFor (parts self.now).size.contexts from to transfer }
-        requires slot { n < SLOTS }
-        ensures { Gives (count self.now.places) (rows self.now.places) to (Slot n)
-            (transferred self.now transfer spec.now from to (Slot n)) result }
+        requires slot { slot < SLOTS }
+        ensures { Gives (count self.now.places) (rows self.now.places) to (Slot slot)
+            (transferred self.now transfer spec.now from to (Slot slot)) result }
     {
-        let found = self.found_slot(from, n);
-        transfer.origin(mode_of(spec, Key::Slot(n)), found, from, to)
+        let found = self.found_slot(from, slot);
+        transfer.origin(mode_of(spec, Key::Slot(slot)), found, from, to)
     }
 
     /// The slots that a transfer may change: slot n is bit n. The others are empty in both places, and no

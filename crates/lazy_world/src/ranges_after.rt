@@ -20,11 +20,11 @@ use range_map::PageState;
 
 impl Places {
     /// The number of ranges of a place.
-    fn range_count(&self, i: usize) -> u32
-        requires { i < count self.now }
-        ensures { result ≡ ranges MOST_PAGES (states_of (rows self.now i) (rights self.now i)) }
+    fn range_count(&self, place: usize) -> u32
+        requires { place < count self.now }
+        ensures { result ≡ ranges MOST_PAGES (states_of (rows self.now place) (rights self.now place)) }
     {
-        self.pages.count(i)
+        self.pages.count(place)
     }
 
     /// The number of ranges that begin at the pages of a page run, and the state of the last of them. `before`
@@ -94,15 +94,15 @@ impl PlacedWorld {
     }
 
     /// The number of ranges of a context once it got the cells that a transfer gives it of another one.
-    fn ranges_after(&self, transfer: Transfer, spec: &Items, d: Name, c: Name) -> u32
-        requires from { IsLive (seen self.now) d }
-        requires to { IsLive (seen self.now) c }
-        requires transfer { IsOfContexts transfer d c }
+    fn ranges_after(&self, transfer: Transfer, spec: &Items, target: Name, context: Name) -> u32
+        requires from { IsLive (seen self.now) target }
+        requires to { IsLive (seen self.now) context }
+        requires transfer { IsOfContexts transfer target context }
         requires within { IsSpec (seen self.now).size.pages spec.now }
-        ensures { result ≡ ranges_of (followed (seen self.now) transfer spec.now d c) c }
+        ensures { result ≡ ranges_of (followed (seen self.now) transfer spec.now target context) context }
     {
-        let from = self.place(d);
-        let to = self.place(c);
+        let from = self.place(target);
+        let to = self.place(context);
         if self.gives_same(transfer, spec, from) {
             self.places.range_count(from)
         } else {
@@ -112,29 +112,35 @@ impl PlacedWorld {
 
     /// The number of ranges of a context once its own values of mode share are common of a group. Mostly none
     /// is, and the ranges are as they were.
-    fn ranges_left(&self, c: Name, items: &Items) -> u32
-        requires live { IsLive (seen self.now) c }
+    fn ranges_left(&self, context: Name, items: &Items) -> u32
+        requires live { IsLive (seen self.now) context }
         requires within { IsSpec (seen self.now).size.pages items.now }
         ensures { result
-            ≡ ranges_of (followed (seen self.now) (Mark (next_group (seen self.now) 0)) items.now c c) c }
+            ≡ ranges_of (followed (seen self.now)
+            (Mark (next_group (seen self.now) 0)) items.now context context) context }
     {
-        if self.needs_group(c, items) {
-            self.ranges_after(Transfer::Mark(self.unnamed()), items, c, c)
+        if self.needs_group(context, items) {
+            self.ranges_after(Transfer::Mark(self.unnamed()), items, context, context)
         } else {
-            self.places.range_count(self.place(c))
+            self.places.range_count(self.place(context))
         }
     }
 
     /// The numbers of ranges that the context and the new one would have after `clone_context`, in this
     /// order. They are the same for every job.
-    pub(crate) fn ranges_after_clone(&self, c: Name, spec: &Items) -> (u32, u32)
-        requires live { IsLive (seen self.now) c }
+    pub(crate) fn ranges_after_clone(&self, of_context: Name, spec: &Items) -> (u32, u32)
+        requires live { IsLive (seen self.now) of_context }
         requires within { IsSpec (seen self.now).size.pages spec.now }
-        ensures value { (job : ℕ) → result ≡ ranges_after_clone (seen self.now) c job spec.now }
+        ensures value { (job : ℕ) → result ≡ ranges_after_clone (seen self.now) of_context job spec.now }
     {
         // The new context's cells do not depend on what is at its place, so that any place will do.
-        let made = self.ranges_after(Transfer::Clone(self.unnamed()), spec, c, c);
-        (self.ranges_left(c, spec), made)
+        let made = self.ranges_after(
+            Transfer::Clone(self.unnamed()),
+            spec,
+            of_context,
+            of_context,
+        );
+        (self.ranges_left(of_context, spec), made)
     }
 
     /// The numbers of ranges that the contexts `from` and `to` would have after `overlay`, in this order.

@@ -80,11 +80,11 @@ impl PlacedWorld {
     }
 
     /// The place of a context, if one is given and it is live.
-    fn place_of(&self, c: Option<Name>) -> Option<usize>
-        ensures place { result ≡ place_by self.now.contexts.map c }
+    fn place_of(&self, context: Option<Name>) -> Option<usize>
+        ensures place { result ≡ place_by self.now.contexts.map context }
         ensures within { IfSome result (λ place. place < MOST_CONTEXTS) }
     {
-        match c {
+        match context {
             Some(name) => self.contexts.place(name),
             None => None,
         }

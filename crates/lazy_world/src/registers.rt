@@ -66,27 +66,27 @@ impl Registers {
     }
 
     /// Those that the context keeps for a thread; `None` if it keeps none for it.
-    pub fn saved(&self, t: u32) -> Option<Regs>
-        requires { t < 16 }
-        ensures { result ≡ slice_index_or self.now.saved t None }
+    pub fn saved(&self, thread: u32) -> Option<Regs>
+        requires { thread < 16 }
+        ensures { result ≡ slice_index_or self.now.saved thread None }
     {
-        if self.kept[t as usize] {
-            Some(self.saved[t as usize])
+        if self.kept[thread as usize] {
+            Some(self.saved[thread as usize])
         } else {
             None
         }
     }
 
     /// Keeps registers for a thread, in place of those that were kept for it.
-    pub fn save(&mut self, t: u32, regs: &Regs)
-        requires { t < 16 }
-        ensures inside { t < length self.old.saved }
+    pub fn save(&mut self, thread: u32, regs: &Regs)
+        requires { thread < 16 }
+        ensures inside { thread < length self.old.saved }
         ensures saved { self.new ≡ record {
           entry = self.old.entry;
-          saved = slice_set self.old.saved t (Some regs.now);
+          saved = slice_set self.old.saved thread (Some regs.now);
         } }
     {
-        self.saved[t as usize] = *regs;
-        self.kept[t as usize] = true;
+        self.saved[thread as usize] = *regs;
+        self.kept[thread as usize] = true;
     }
 }

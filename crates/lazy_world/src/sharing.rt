@@ -73,18 +73,18 @@ impl PlacedWorld {
     ghost use Rattle.lazy_world.specs.Worlds.{parts, seen};
 
     /// Whether a page of a range is a place's own.
-    fn has_own_between(&self, i: usize, range: Range) -> bool
-        requires place { i < count self.now.places }
+    fn has_own_between(&self, place: usize, range: Range) -> bool
+        requires place { place < count self.now.places }
         requires order { range.from ≤ range.to }
         requires inside { range.to ≤ MOST_PAGES }
         ensures some { result ≡ true → (p : ℕ) × (range.from ≤ p) × (p < range.to)
-            × (has_own (Page p) (rows self.now.places i (Page p)) ≡ true) }
+            × (has_own (Page p) (rows self.now.places place (Page p)) ≡ true) }
         ensures none { result ≡ false → (p : ℕ) → range.from ≤ p → p < range.to
-            → has_own (Page p) (rows self.now.places i (Page p)) ≡ false }
+            → has_own (Page p) (rows self.now.places place (Page p)) ≡ false }
     {
         let mut p: PageNumber = range.from;
         'pages: while p < range.to {
-            let (state, edge) = self.places.run_at(i, p);
+            let (state, edge) = self.places.run_at(place, p);
             if is_of_own(state) {
                 return true;
             }
@@ -94,33 +94,34 @@ impl PlacedWorld {
     }
 
     /// Whether an item shares a page that is a place's own.
-    fn shares_own_page(&self, i: usize, item: &Item) -> bool
-        requires place { i < count self.now.places }
+    fn shares_own_page(&self, place: usize, item: &Item) -> bool
+        requires place { place < count self.now.places }
         requires item { IsItem MOST_PAGES item.now }
         ensures share { result ≡ true → item.now.mode ≡ Share }
         ensures some { result ≡ true → (p : ℕ) × (names item.now (Page p) ≡ true)
-            × (has_own (Page p) (rows self.now.places i (Page p)) ≡ true) }
+            × (has_own (Page p) (rows self.now.places place (Page p)) ≡ true) }
         ensures none { result ≡ false → (p : ℕ) → names item.now (Page p) ≡ true → item.now.mode ≡ Share
-            → has_own (Page p) (rows self.now.places i (Page p)) ≡ false }
+            → has_own (Page p) (rows self.now.places place (Page p)) ≡ false }
     {
         if !is_share(item) {
             return false;
         }
         match item.pages() {
-            Some(range) => self.has_own_between(i, range),
+            Some(range) => self.has_own_between(place, range),
             None => false,
         }
     }
 
     /// Whether a page of a place moves. Only the pages of items that share are looked at.
-    fn moves_page(&self, i: usize, spec: &Items) -> bool
-        requires { i < count self.now.places }
-        ensures some { result ≡ true → (p : ℕ) × (moves spec.now (Page p) (rows self.now.places i) ≡ true) }
+    fn moves_page(&self, place: usize, spec: &Items) -> bool
+        requires { place < count self.now.places }
+        ensures some { result ≡ true
+            → (p : ℕ) × (moves spec.now (Page p) (rows self.now.places place) ≡ true) }
         ensures none { result ≡ false → (p : ℕ) → p < MOST_PAGES
-            → moves spec.now (Page p) (rows self.now.places i) ≡ false }
+            → moves spec.now (Page p) (rows self.now.places place) ≡ false }
     {
         for item in spec.items() {
-            if self.shares_own_page(i, item) {
+            if self.shares_own_page(place, item) {
                 return true;
             }
         }
@@ -128,18 +129,18 @@ impl PlacedWorld {
     }
 
     /// Whether a slot of a place moves.
-    fn moves_slot(&self, i: usize, spec: &Items) -> bool
-        requires { i < count self.now.places }
+    fn moves_slot(&self, place: usize, spec: &Items) -> bool
+        requires { place < count self.now.places }
         ensures some { result ≡ true → (n : ℕ) × (n < SLOTS)
-            × (moves spec.now (Slot n) (rows self.now.places i) ≡ true) }
+            × (moves spec.now (Slot n) (rows self.now.places place) ≡ true) }
         ensures none { result ≡ false → (n : ℕ) → n < SLOTS
-            → moves spec.now (Slot n) (rows self.now.places i) ≡ false }
+            → moves spec.now (Slot n) (rows self.now.places place) ≡ false }
     {
         if !names_slots(spec) {
             return false;
         }
         for n in 0..SLOTS {
-            if self.found_slot(i, n).moves(mode_of(spec, Key::Slot(n))) {
+            if self.found_slot(place, n).moves(mode_of(spec, Key::Slot(n))) {
                 return true;
             }
         }
@@ -147,24 +148,24 @@ impl PlacedWorld {
     }
 
     /// Whether the credential of a place moves.
-    fn moves_uid(&self, i: usize, spec: &Items) -> bool
-        requires { i < count self.now.places }
-        ensures { result ≡ moves spec.now Cred (rows self.now.places i) }
+    fn moves_uid(&self, place: usize, spec: &Items) -> bool
+        requires { place < count self.now.places }
+        ensures { result ≡ moves spec.now Cred (rows self.now.places place) }
     {
-        self.found_uid(i).moves(mode_of(spec, Key::Cred))
+        self.found_uid(place).moves(mode_of(spec, Key::Cred))
     }
 
     /// Whether `clone_context` and `overlay` make a group: an item of mode share names a key that is
     /// present and the context's own.
-    pub(crate) fn needs_group(&self, c: Name, spec: &Items) -> bool
-        requires live { IsLive (seen self.now) c }
+    pub(crate) fn needs_group(&self, context: Name, spec: &Items) -> bool
+        requires live { IsLive (seen self.now) context }
         requires within { IsSpec (seen self.now).size.pages spec.now }
-        ensures value { result ≡ needs_group (seen self.now) c spec.now }
+        ensures value { result ≡ needs_group (seen self.now) context spec.now }
     {
         if shares_nothing(spec) {
             return false;
         }
-        let i = self.place(c);
+        let i = self.place(context);
         if self.moves_page(i, spec) {
             return true;
         }
@@ -179,21 +180,28 @@ impl PlacedWorld {
     /// and 1532 steps and 9 nodes besides. No frame is taken or written.
     // The origins are a large value, which each caller would clear if this were a part of it.
     #[inline(never)]
-    pub(crate) fn follow(&mut self, transfer: Transfer, spec: &Items, d: Name, c: Name)
-        requires from { IsLive (seen self.old) d }
-        requires to { IsLive (seen self.old) c }
-        requires transfer { IsOfContexts transfer d c }
+    pub(crate) fn follow(
+        &mut self,
+        transfer: Transfer,
+        spec: &Items,
+        target: Name,
+        of_context: Name,
+    )
+        requires from { IsLive (seen self.old) target }
+        requires to { IsLive (seen self.old) of_context }
+        requires transfer { IsOfContexts transfer target of_context }
         requires within { IsSpec (seen self.old).size.pages spec.now }
-        requires ready { IsReady (seen self.old) transfer spec.now (context (seen self.old) d) }
-        requires fresh { IsFresh (followed (seen self.old) transfer spec.now d c) }
-        requires few { ranges_of (followed (seen self.old) transfer spec.now d c) c ≤ MOST_RANGES }
-        ensures world { seen self.new ≡ followed (seen self.old) transfer spec.now d c }
-        ensures store { TakesNodes self.old self.new (change_nodes (pieces (seen self.old) d spec.now)) }
+        requires ready { IsReady (seen self.old) transfer spec.now (context (seen self.old) target) }
+        requires fresh { IsFresh (followed (seen self.old) transfer spec.now target of_context) }
+        requires few { ranges_of (followed (seen self.old) transfer spec.now target of_context) of_context
+            ≤ MOST_RANGES }
+        ensures world { seen self.new ≡ followed (seen self.old) transfer spec.now target of_context }
+        ensures store { TakesNodes self.old self.new (change_nodes (pieces (seen self.old) target spec.now)) }
         ensures steps { node_steps self.new.places
-            ≤ node_steps self.old.places + change_steps (pieces (seen self.old) d spec.now) }
+            ≤ node_steps self.old.places + change_steps (pieces (seen self.old) target spec.now) }
     {
-        let from = self.place(d);
-        let to = self.place(c);
+        let from = self.place(target);
+        let to = self.place(of_context);
         let mut origins = Origins::none();
         self.origins(transfer, spec, from, to, &mut origins);
         self.places.take(to, &origins);
@@ -224,22 +232,23 @@ impl PlacedWorld {
     }
 
     /// A group without values gets those of a context that items move, and nothing else.
-    pub(crate) fn fill_group(&mut self, g: Name, c: Name, spec: &Items)
-        requires live { IsLive (seen self.old) c }
+    pub(crate) fn fill_group(&mut self, group_name: Name, of_context: Name, spec: &Items)
+        requires live { IsLive (seen self.old) of_context }
         requires within { IsSpec (seen self.old).size.pages spec.now }
-        requires empty { group (seen self.old) g ≡ new_group }
+        requires empty { group (seen self.old) group_name ≡ new_group }
         requires few { ranges MOST_PAGES (states_of
-            (transferred_row (seen self.old) Move spec.now (context (seen self.old) c).cell no_row)
-            (transferred_rights Move spec.now (context (seen self.old) c).cell
-            (context (seen self.old) c).right all_write)) ≤ MOST_RANGES }
-        ensures world { seen self.new ≡ change_group (seen self.old) g
-            (λ x. moved_values spec.now (context (seen self.old) c)) }
-        ensures store { TakesNodes self.old self.new (fill_nodes (pieces (seen self.old) c spec.now)) }
+            (transferred_row (seen self.old) Move spec.now (context (seen self.old) of_context).cell no_row)
+            (transferred_rights Move spec.now (context (seen self.old) of_context).cell
+            (context (seen self.old) of_context).right all_write)) ≤ MOST_RANGES }
+        ensures world { seen self.new ≡ change_group (seen self.old) group_name
+            (λ x. moved_values spec.now (context (seen self.old) of_context)) }
+        ensures store { TakesNodes self.old self.new
+            (fill_nodes (pieces (seen self.old) of_context spec.now)) }
         ensures steps { node_steps self.new.places
-            ≤ node_steps self.old.places + fill_steps (pieces (seen self.old) c spec.now) }
+            ≤ node_steps self.old.places + fill_steps (pieces (seen self.old) of_context spec.now) }
     {
-        let from = self.place(c);
-        match self.groups.place(g) {
+        let from = self.place(of_context);
+        match self.groups.place(group_name) {
             Some(j) => {
                 let to = self.size.contexts as usize + j;
                 let mut origins = Origins::none();
@@ -253,24 +262,24 @@ impl PlacedWorld {
     /// Moves a context's own values under share into a new group of the job, if there are any; else nothing
     /// changes.
     #[tactic(auto, using(lwc_base::proofs::Facts::changes))]
-    pub(crate) fn share(&mut self, c: Name, spec: &Items, job: u32)
-        requires live { IsLive (seen self.old) c }
+    pub(crate) fn share(&mut self, context: Name, spec: &Items, job: u32)
+        requires live { IsLive (seen self.old) context }
         requires within { IsSpec (seen self.old).size.pages spec.now }
         requires may { MayName (seen self.old) job }
-        requires group { needs_group (seen self.old) c spec.now ≡ true → HasGroupPlace (seen self.old) }
-        requires few { ranges_of (share (seen self.old) c job spec.now) c ≤ MOST_RANGES }
-        ensures world { seen self.new ≡ share (seen self.old) c job spec.now }
-        ensures none { needs_group (seen self.old) c spec.now ≡ false → self.new ≡ self.old }
-        ensures store { TakesNodes self.old self.new (fill_nodes (pieces (seen self.old) c spec.now)
-            + change_nodes (pieces (seen self.old) c spec.now)) }
+        requires group { needs_group (seen self.old) context spec.now ≡ true → HasGroupPlace (seen self.old) }
+        requires few { ranges_of (share (seen self.old) context job spec.now) context ≤ MOST_RANGES }
+        ensures world { seen self.new ≡ share (seen self.old) context job spec.now }
+        ensures none { needs_group (seen self.old) context spec.now ≡ false → self.new ≡ self.old }
+        ensures store { TakesNodes self.old self.new (fill_nodes (pieces (seen self.old) context spec.now)
+            + change_nodes (pieces (seen self.old) context spec.now)) }
         ensures steps { node_steps self.new.places
-            ≤ node_steps self.old.places + (fill_steps (pieces (seen self.old) c spec.now)
-            + change_steps (pieces (seen self.old) c spec.now)) }
+            ≤ node_steps self.old.places + (fill_steps (pieces (seen self.old) context spec.now)
+            + change_steps (pieces (seen self.old) context spec.now)) }
     {
-        if self.needs_group(c, spec) {
+        if self.needs_group(context, spec) {
             let g = self.add_group(job);
-            self.fill_group(g, c, spec);
-            self.follow(Transfer::Mark(g), spec, c, c);
+            self.fill_group(g, context, spec);
+            self.follow(Transfer::Mark(g), spec, context, context);
         }
     }
 }

@@ -33,14 +33,14 @@ impl Places {
     /// Whether a page of a place parts when it is written: it has no bytes of its own, or its tag is at
     /// another page too.
     #[tactic(auto, unfolding(crate::specs::Seen::pages))]
-    pub fn is_parting(&self, i: usize, p: PageNumber) -> bool
-        requires { i < count self.now }
-        ensures { result ≡ places.is_parting (pages self.now) i p }
+    pub fn is_parting(&self, place: usize, page: PageNumber) -> bool
+        requires { place < count self.now }
+        ensures { result ≡ places.is_parting (pages self.now) place page }
     {
-        match self.pages.kind(i, p) {
+        match self.pages.kind(place, page) {
             None => true,
             Some(SegmentKind::Common(_)) => true,
-            Some(SegmentKind::Own) => self.pages.is_parting(i, p),
+            Some(SegmentKind::Own) => self.pages.is_parting(place, page),
         }
     }
 
@@ -48,44 +48,44 @@ impl Places {
     /// part, and tells whether it did. If it did not, nothing changes.
     #[inline(always)]
     #[tactic(auto, unfolding(crate::specs::Seen::pages, crate::specs::Seen::frame_count))]
-    pub fn write_in_place(&mut self, i: usize, p: PageNumber, at: u32, piece: &[u8]) -> bool
-        requires { i < count self.old }
-        ensures own { result ≡ true → IsOwnPage (place_of (pages self.old) i p) }
-        ensures may { result ≡ true → rights self.old i p ≡ Write }
-        ensures alone { result ≡ true → places.is_parting (pages self.old) i p ≡ false }
+    pub fn write_in_place(&mut self, place: usize, page: PageNumber, at: u32, piece: &[u8]) -> bool
+        requires { place < count self.old }
+        ensures own { result ≡ true → IsOwnPage (place_of (pages self.old) place page) }
+        ensures may { result ≡ true → rights self.old place page ≡ Write }
+        ensures alone { result ≡ true → places.is_parting (pages self.old) place page ≡ false }
         ensures enough { result ≡ true → places.used (pages self.old) ≤ frame_count self.old }
-        ensures rows { result ≡ true → (tag : Tag) → rows self.new ≡ put_row (rows self.old) i
-            (with_key Cell (Page p)
-            (Own (Some (written_value (pages self.old) i p (record { at = at; bytes = piece.now }) tag)))
-            (rows self.old i)) }
+        ensures rows { result ≡ true → (tag : Tag) → rows self.new ≡ put_row (rows self.old) place
+            (with_key Cell (Page page)
+            (Own (Some (written_value (pages self.old) place page (record { at = at; bytes = piece.now }) tag)))
+            (rows self.old place)) }
         ensures same { result ≡ false → rows self.new ≡ rows self.old }
         ensures rights { rights self.new ≡ rights self.old }
         ensures count { count self.new ≡ count self.old }
         ensures frames { frame_count self.new ≡ frame_count self.old }
     {
-        self.pages.write_in_place(i, p, at, piece)
+        self.pages.write_in_place(place, page, at, piece)
     }
 
     /// Writes what a piece has of a page that is the place's own, under a new tag if the page parts, and
     /// tells whether it did.
     #[tactic(auto, unfolding(crate::specs::Seen::pages, crate::specs::Seen::frame_count))]
-    pub fn write(&mut self, i: usize, p: PageNumber, at: u32, piece: &[u8], tag: Tag) -> bool
-        requires place { i < count self.old }
-        requires own { IsOwnPage (place_of (pages self.old) i p) }
+    pub fn write(&mut self, place: usize, page: PageNumber, at: u32, piece: &[u8], tag: Tag) -> bool
+        requires place { place < count self.old }
+        requires own { IsOwnPage (place_of (pages self.old) place page) }
         requires new { places.IsNewTag (pages self.old) tag }
-        requires enough { places.used (pages self.old) + places.taken_by (pages self.old) i p
+        requires enough { places.used (pages self.old) + places.taken_by (pages self.old) place page
             ≤ frame_count self.old }
         ensures pages { pages self.new
-            ≡ write_page (pages self.old) i p (record { at = at; bytes = piece.now }) tag }
-        ensures rows { rows self.new ≡ put_row (rows self.old) i (with_key Cell (Page p)
-            (Own (Some (written_value (pages self.old) i p (record { at = at; bytes = piece.now }) tag)))
-            (rows self.old i)) }
+            ≡ write_page (pages self.old) place page (record { at = at; bytes = piece.now }) tag }
+        ensures rows { rows self.new ≡ put_row (rows self.old) place (with_key Cell (Page page)
+            (Own (Some (written_value (pages self.old) place page (record { at = at; bytes = piece.now }) tag)))
+            (rows self.old place)) }
         ensures rights { rights self.new ≡ rights self.old }
-        ensures parted { result ≡ places.is_parting (pages self.old) i p }
+        ensures parted { result ≡ places.is_parting (pages self.old) place page }
         ensures count { count self.new ≡ count self.old }
         ensures frames { frame_count self.new ≡ frame_count self.old }
     {
-        match self.pages.write(i, p, at, piece, tag) {
+        match self.pages.write(place, page, at, piece, tag) {
             Ok(parted) => parted,
             Err(_) => unreachable!(),
         }
@@ -114,86 +114,88 @@ impl PlacedWorld {
 
     /// Whether a page of the context at a place parts when it is stored to. An absent page reads as zeros,
     /// which part.
-    fn is_parting(&self, i: usize, p: PageNumber) -> bool
-        requires { i < count self.now.places }
+    fn is_parting(&self, place: usize, page: PageNumber) -> bool
+        requires { place < count self.now.places }
         ensures { result ≡ is_parting (seen self.now)
-            (unwrap_or (page_in (seen self.now) (rows self.now.places i) p) Zero) }
+            (unwrap_or (page_in (seen self.now) (rows self.now.places place) page) Zero) }
     {
-        match self.holder(i, p) {
-            Some(j) => self.places.is_parting(j, p),
+        match self.holder(place, page) {
+            Some(j) => self.places.is_parting(j, page),
             None => true,
         }
     }
 
     /// The number of pages that a store to some pages of the context at a place parts.
     #[tactic(auto, using(lwc_types::proofs::Small::count_of_range))]
-    fn parting_count(&self, i: usize, pages: Range) -> usize
-        requires { i < count self.now.places }
+    fn parting_count(&self, place: usize, pages: Range) -> usize
+        requires { place < count self.now.places }
         ensures parting { result ≡ count_by (λ p. is_parting (seen self.now)
-            (unwrap_or (page_in (seen self.now) (rows self.now.places i) p) Zero))
+            (unwrap_or (page_in (seen self.now) (rows self.now.places place) p) Zero))
             (range_with_len pages.from (pages.to - pages.from)) }
         ensures few { result ≤ pages.to - pages.from }
     {
         (pages.from..pages.to)
-            .filter(|p| self.is_parting(i, *p))
+            .filter(|p| self.is_parting(place, *p))
             .count()
     }
 
     /// Whether the frames in use and the pages that a store to some pages of the context at a place parts
     /// are more than the frames. These pages are looked at only where all of them could not part.
     #[tactic(auto, using(lwc_types::proofs::Small::count_of_range))]
-    fn lacks_frames(&self, i: usize, pages: Range) -> bool
-        requires place { i < count self.now.places }
+    fn lacks_frames(&self, place: usize, pages: Range) -> bool
+        requires place { place < count self.now.places }
         requires order { pages.from ≤ pages.to }
         ensures lacking { result ≡ true → (seen self.now).size.frames < used (seen self.now)
             + count_by (λ p. is_parting (seen self.now)
-            (unwrap_or (page_in (seen self.now) (rows self.now.places i) p) Zero))
+            (unwrap_or (page_in (seen self.now) (rows self.now.places place) p) Zero))
             (range_with_len pages.from (pages.to - pages.from)) }
         ensures enough { result ≡ false → used (seen self.now)
             + count_by (λ p. is_parting (seen self.now)
-            (unwrap_or (page_in (seen self.now) (rows self.now.places i) p) Zero))
+            (unwrap_or (page_in (seen self.now) (rows self.now.places place) p) Zero))
             (range_with_len pages.from (pages.to - pages.from)) ≤ (seen self.now).size.frames }
     {
         let used = self.used() as usize;
         let frames = self.size.frames as usize;
         let most = (pages.to - pages.from) as usize;
-        frames < used + most && frames < used + self.parting_count(i, pages)
+        frames < used + most && frames < used + self.parting_count(place, pages)
     }
 
     /// Whether bytes may be stored to a page of the context at a place.
-    fn is_writable(&self, i: usize, p: PageNumber) -> bool
-        requires { i < count self.now.places }
-        ensures { result ≡ may_write (rights self.now.places i p) }
+    fn is_writable(&self, place: usize, page: PageNumber) -> bool
+        requires { place < count self.now.places }
+        ensures { result ≡ may_write (rights self.now.places place page) }
     {
-        match self.places.right(i, p) {
+        match self.places.right(place, page) {
             Right::Write => true,
             Right::Read => false,
         }
     }
 
     /// Whether bytes may be stored to each of some pages of the context at a place.
-    fn are_writable(&self, i: usize, pages: Range) -> bool
-        requires { i < count self.now.places }
-        ensures { result ≡ list_all (λ p. may_write (rights self.now.places i p))
+    fn are_writable(&self, place: usize, pages: Range) -> bool
+        requires { place < count self.now.places }
+        ensures { result ≡ list_all (λ p. may_write (rights self.now.places place p))
             (range_with_len pages.from (pages.to - pages.from)) }
     {
-        (pages.from..pages.to).all(|p| self.is_writable(i, p))
+        (pages.from..pages.to).all(|p| self.is_writable(place, p))
     }
 
     /// Writes what a piece has of a present page of the context, under the job's next tag if the page parts.
-    fn write_page(&mut self, c: Name, p: PageNumber, at: u32, piece: &[u8], job: u32)
-        requires live { IsLive (seen self.old) c }
-        requires there { is_some (page_at (seen self.old) c p) ≡ true }
+    fn write_page(&mut self, context: Name, page: PageNumber, at: u32, piece: &[u8], job: u32)
+        requires live { IsLive (seen self.old) context }
+        requires there { is_some (page_at (seen self.old) context page) ≡ true }
         requires known { job < (seen self.old).size.jobs }
         requires few { ((seen self.old).next job).tags < 2 ^ 32 - 1 }
-        requires enough { used (seen self.old) + taken_at (seen self.old) c p ≤ (seen self.old).size.frames }
+        requires enough { used (seen self.old) + taken_at (seen self.old) context page
+            ≤ (seen self.old).size.frames }
         ensures stored { seen self.new
-            ≡ store_pages (seen self.old) c job (record { at = at; bytes = piece.now }) (p ∷ []) }
-        ensures used { used (seen self.new) ≡ used (seen self.old) + taken_at (seen self.old) c p }
-        ensures others { (q : ℕ) → q ≢ p → parts_at (seen self.new) c q ≡ parts_at (seen self.old) c q }
+            ≡ store_pages (seen self.old) context job (record { at = at; bytes = piece.now }) (page ∷ []) }
+        ensures used { used (seen self.new) ≡ used (seen self.old) + taken_at (seen self.old) context page }
+        ensures others { (q : ℕ) → q ≢ page
+            → parts_at (seen self.new) context q ≡ parts_at (seen self.old) context q }
     {
-        let i = self.place(c);
-        let Some(j) = self.holder(i, p) else {
+        let i = self.place(context);
+        let Some(j) = self.holder(i, page) else {
             unreachable!()
         };
         let counts = self.counts[job as usize];
@@ -201,7 +203,7 @@ impl PlacedWorld {
             job,
             k: counts.tags,
         };
-        let parted = self.places.write(j, p, at, piece, tag);
+        let parted = self.places.write(j, page, at, piece, tag);
         self.counts[job as usize] = Counts {
             tags: counts.tags + u32::from(parted),
             ..counts
@@ -209,35 +211,36 @@ impl PlacedWorld {
     }
 
     /// Writes a piece to present pages of the context, under the job's next tags.
-    fn write_pages(&mut self, c: Name, pages: Range, at: u32, piece: &[u8], job: u32)
-        requires live { IsLive (seen self.old) c }
+    fn write_pages(&mut self, context: Name, pages: Range, at: u32, piece: &[u8], job: u32)
+        requires live { IsLive (seen self.old) context }
         requires order { pages.from ≤ pages.to }
-        requires there { list_all (λ p. is_some (page_at (seen self.old) c p))
+        requires there { list_all (λ p. is_some (page_at (seen self.old) context p))
             (range_with_len pages.from (pages.to - pages.from)) ≡ true }
         requires known { job < (seen self.old).size.jobs }
         requires few { ((seen self.old).next job).tags < 2 ^ 31 }
         requires enough { used (seen self.old)
-            + count_by (parts_at (seen self.old) c) (range_with_len pages.from (pages.to - pages.from))
+            + count_by (parts_at (seen self.old) context) (range_with_len pages.from (pages.to - pages.from))
             ≤ (seen self.old).size.frames }
-        ensures { seen self.new ≡ store_pages (seen self.old) c job (record { at = at; bytes = piece.now })
+        ensures { seen self.new
+            ≡ store_pages (seen self.old) context job (record { at = at; bytes = piece.now })
             (range_with_len pages.from (pages.to - pages.from)) }
     {
         for p in pages.from..pages.to {
-            self.write_page(c, p, at, piece, job);
+            self.write_page(context, p, at, piece, job);
         }
     }
 
     /// Stores bytes in the context's memory from the address `at` on, if they are in one page, which is its
     /// own, may be stored to and does not part, and tells whether it did. If it did not, nothing changes.
     #[inline(always)]
-    pub(crate) fn store_in_place(&mut self, c: Name, at: u32, piece: &[u8]) -> bool
-        requires live { IsLive (seen self.old) c }
+    pub(crate) fn store_in_place(&mut self, context: Name, at: u32, piece: &[u8]) -> bool
+        requires live { IsLive (seen self.old) context }
         requires within { at + length piece.now ≤ (seen self.old).size.pages * PAGE_BYTES }
-        ensures done { result ≡ true → (job : ℕ) → store (seen self.old) c job
+        ensures done { result ≡ true → (job : ℕ) → store (seen self.old) context job
             (record { at = at; bytes = piece.now }) ≡ stores.Done (seen self.new) }
         ensures same { result ≡ false → seen self.new ≡ seen self.old }
     {
-        let i = self.place(c);
+        let i = self.place(context);
         let pages = touched_pages(at as usize, piece.len());
         if pages.to - pages.from != 1 {
             return false;
@@ -254,27 +257,28 @@ impl PlacedWorld {
     #[inline(never)]
     pub(crate) fn store(
         &mut self,
-        c: Name,
+        context: Name,
         at: u32,
         piece: &[u8],
         job: u32,
     ) -> Result<(), StoreFault>
-        requires live { IsLive (seen self.old) c }
+        requires live { IsLive (seen self.old) context }
         requires within { at + length piece.now ≤ (seen self.old).size.pages * PAGE_BYTES }
         requires short { length piece.now ≤ PAGE_BYTES }
         requires may { MayName (seen self.old) job }
-        ensures done { OnOk result (store (seen self.old) c job (record { at = at; bytes = piece.now }) ≡
+        ensures done { OnOk result
+            (store (seen self.old) context job (record { at = at; bytes = piece.now }) ≡
             stores.Done (seen self.new)) }
         ensures bad_address { (result ≡ Err StoreFault.BadAddress) ↔
-            (store (seen self.old) c job (record { at = at; bytes = piece.now }) ≡ stores.Absent) }
+            (store (seen self.old) context job (record { at = at; bytes = piece.now }) ≡ stores.Absent) }
         ensures read_only { (result ≡ Err StoreFault.ReadOnly) ↔
-            (store (seen self.old) c job (record { at = at; bytes = piece.now }) ≡ stores.ReadOnly) }
+            (store (seen self.old) context job (record { at = at; bytes = piece.now }) ≡ stores.ReadOnly) }
         ensures no_frame { (result ≡ Err StoreFault.NoFrame) ↔
-            (store (seen self.old) c job (record { at = at; bytes = piece.now }) ≡ stores.Full) }
+            (store (seen self.old) context job (record { at = at; bytes = piece.now }) ≡ stores.Full) }
         ensures err { OnErr result (seen self.new ≡ seen self.old) }
         ensures ample { result ≢ Err StoreFault.OutOfMemory }
     {
-        let i = self.place(c);
+        let i = self.place(context);
         let pages = touched_pages(at as usize, piece.len());
         if !self.are_present(i, pages) {
             return Err(StoreFault::BadAddress);
@@ -285,7 +289,7 @@ impl PlacedWorld {
         if self.lacks_frames(i, pages) {
             return Err(StoreFault::NoFrame);
         }
-        self.write_pages(c, pages, at, piece, job);
+        self.write_pages(context, pages, at, piece, job);
         Ok(())
     }
 }

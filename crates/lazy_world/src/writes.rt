@@ -20,12 +20,12 @@ impl PlacedWorld {
     ghost use Rattle.lazy_world.specs.Worlds.{parts, seen};
 
     /// Puts a value under a key of a group.
-    fn put_common(&mut self, g: Name, value: KeyValue<'_>)
+    fn put_common(&mut self, group: Name, value: KeyValue<'_>)
         requires { HasSlot value }
         ensures { seen self.new
-            ≡ change_group (seen self.old) g (with_value (key_in value.entry) (value_in value.entry)) }
+            ≡ change_group (seen self.old) group (with_value (key_in value.entry) (value_in value.entry)) }
     {
-        match self.groups.place(g) {
+        match self.groups.place(group) {
             Some(j) => self.places.put(self.size.contexts as usize + j, value),
             None => {}
         }
@@ -33,63 +33,70 @@ impl PlacedWorld {
 
     /// Puts a value under a key of the context at a place, where the old one is.
     #[inline(always)]
-    fn put(&mut self, c: Name, i: usize, value: KeyValue<'_>)
-        requires found { fm.get (parts self.old).contexts.map c ≡ Some i }
-        requires inside { i < count self.old.places }
+    fn put(&mut self, context: Name, place: usize, value: KeyValue<'_>)
+        requires found { fm.get (parts self.old).contexts.map context ≡ Some place }
+        requires inside { place < count self.old.places }
         requires slot { HasSlot value }
-        ensures { seen self.new ≡ put_at (seen self.old) c (key_in value.entry) (value_in value.entry) }
+        ensures { seen self.new ≡ put_at (seen self.old) context (key_in value.entry) (value_in value.entry) }
     {
-        match self.places.group(i, value) {
-            None => self.places.put(i, value),
+        match self.places.group(place, value) {
+            None => self.places.put(place, value),
             Some(g) => self.put_common(g, value),
         }
     }
 
     /// Puts another descriptor into a slot of the context at a place.
     #[inline(always)]
-    pub(crate) fn set_slot(&mut self, c: Name, i: usize, n: SlotNumber, value: Lent<'_>)
-        requires found { fm.get (parts self.old).contexts.map c ≡ Some i }
-        requires inside { i < count self.old.places }
-        requires within { n < SLOTS }
-        ensures put { seen self.new ≡ put_slot (seen self.old) c n (descriptor_of value.entry) }
+    pub(crate) fn set_slot(
+        &mut self,
+        context: Name,
+        place: usize,
+        slot: SlotNumber,
+        value: Lent<'_>,
+    )
+        requires found { fm.get (parts self.old).contexts.map context ≡ Some place }
+        requires inside { place < count self.old.places }
+        requires within { slot < SLOTS }
+        ensures put { seen self.new ≡ put_slot (seen self.old) context slot (descriptor_of value.entry) }
     {
-        self.put(c, i, KeyValue::Slot(n, value));
+        self.put(context, place, KeyValue::Slot(slot, value));
     }
 
     /// Puts the descriptor in the slot `from` of the context at a place into its slot `to` too. Where both slots
     /// are the context's own, they share it.
-    pub(crate) fn dup_slot(&mut self, c: Name, i: usize, from: SlotNumber, to: SlotNumber)
-        requires found { fm.get (parts self.old).contexts.map c ≡ Some i }
-        requires inside { i < count self.old.places }
+    pub(crate) fn dup_slot(&mut self, context: Name, place: usize, from: SlotNumber, to: SlotNumber)
+        requires found { fm.get (parts self.old).contexts.map context ≡ Some place }
+        requires inside { place < count self.old.places }
         requires from { from < SLOTS }
         requires to { to < SLOTS }
-        ensures put { seen self.new ≡ put_slot (seen self.old) c to (slot_at (seen self.old) c from) }
+        ensures put { seen self.new
+            ≡ put_slot (seen self.old) context to (slot_at (seen self.old) context from) }
     {
-        if self.places.are_own(i, from, to) {
-            self.places.copy_slot(i, to, i, from);
+        if self.places.are_own(place, from, to) {
+            self.places.copy_slot(place, to, place, from);
         } else {
-            let value = owned(self.slot_at(i, from));
-            self.set_slot(c, i, to, value.lend());
+            let value = owned(self.slot_at(place, from));
+            self.set_slot(context, place, to, value.lend());
         }
     }
 
     /// Changes the credential of the context.
-    pub(crate) fn set_uid(&mut self, c: Name, uid: u32)
-        requires { IsLive (seen self.old) c }
-        ensures { seen self.new ≡ put_uid (seen self.old) c uid }
+    pub(crate) fn set_uid(&mut self, context: Name, uid: u32)
+        requires { IsLive (seen self.old) context }
+        ensures { seen self.new ≡ put_uid (seen self.old) context uid }
     {
-        let i = self.place(c);
-        self.put(c, i, KeyValue::Cred(uid));
+        let i = self.place(context);
+        self.put(context, i, KeyValue::Cred(uid));
     }
 
     /// Keeps registers for a thread in the context, in place of those that it kept for it.
-    pub(crate) fn save(&mut self, c: Name, t: u32, regs: &Regs)
-        requires live { IsLive (seen self.old) c }
-        requires thread { t < MOST_THREADS }
-        ensures saved { seen self.new ≡ save (seen self.old) c t regs.now }
+    pub(crate) fn save(&mut self, context: Name, thread: u32, regs: &Regs)
+        requires live { IsLive (seen self.old) context }
+        requires thread { thread < MOST_THREADS }
+        ensures saved { seen self.new ≡ save (seen self.old) context thread regs.now }
     {
-        let i = self.place(c);
-        self.registers[i].save(t, regs);
+        let i = self.place(context);
+        self.registers[i].save(thread, regs);
     }
 
     /// The name of a job's next context.

@@ -90,12 +90,12 @@ impl Channels {
     }
 
     /// The bytes that have been written to the reply of a request.
-    pub fn reply(&self, r: u16) -> &[u8]
-        requires { r < length self.now.requests }
-        ensures bytes { result.now ≡ bytes_in self.now.replies r }
-        ensures few { length (bytes_in self.now.replies r) ≤ MOST_REPLY_BYTES }
+    pub fn reply(&self, request: u16) -> &[u8]
+        requires { request < length self.now.requests }
+        ensures bytes { result.now ≡ bytes_in self.now.replies request }
+        ensures few { length (bytes_in self.now.replies request) ≤ MOST_REPLY_BYTES }
     {
-        self.replies.bytes(r as usize)
+        self.replies.bytes(request as usize)
     }
 
     /// Appends bytes to the console, which has room for them.
@@ -107,14 +107,14 @@ impl Channels {
     }
 
     /// Appends bytes to the reply of a request, which has room for them.
-    pub fn append_reply(&mut self, r: u16, piece: &[u8])
-        requires there { r < length self.old.requests }
-        requires room { length (bytes_in self.old.replies r) + length piece.now ≤ MOST_REPLY_BYTES }
+    pub fn append_reply(&mut self, request: u16, piece: &[u8])
+        requires there { request < length self.old.requests }
+        requires room { length (bytes_in self.old.replies request) + length piece.now ≤ MOST_REPLY_BYTES }
         ensures { self.new ≡ record self.old {
-          replies = slice_set self.old.replies r (bytes_in self.old.replies r ++ piece.now);
+          replies = slice_set self.old.replies request (bytes_in self.old.replies request ++ piece.now);
         } }
     {
-        self.replies.append(r as usize, piece);
+        self.replies.append(request as usize, piece);
     }
 }
 

@@ -46,32 +46,32 @@ impl Replies {
     }
 
     /// The bytes of a reply, in order.
-    pub(crate) fn bytes(&self, r: usize) -> &[u8]
-        requires { r < length self.now }
-        ensures bytes { result.now ≡ bytes_in self.now r }
-        ensures few { length (bytes_in self.now r) ≤ MOST_REPLY_BYTES }
+    pub(crate) fn bytes(&self, request: usize) -> &[u8]
+        requires { request < length self.now }
+        ensures bytes { result.now ≡ bytes_in self.now request }
+        ensures few { length (bytes_in self.now request) ≤ MOST_REPLY_BYTES }
     {
-        let long = self.long[r].as_slice();
+        let long = self.long[request].as_slice();
         if long.is_empty() {
-            self.short[r].as_slice()
+            self.short[request].as_slice()
         } else {
             long
         }
     }
 
     /// Appends bytes to a reply, which has room for them.
-    pub(crate) fn append(&mut self, r: usize, piece: &[u8])
-        requires there { r < length self.old }
-        requires room { length (bytes_in self.old r) + length piece.now ≤ MOST_REPLY_BYTES }
-        ensures { self.new ≡ slice_set self.old r (bytes_in self.old r ++ piece.now) }
+    pub(crate) fn append(&mut self, request: usize, piece: &[u8])
+        requires there { request < length self.old }
+        requires room { length (bytes_in self.old request) + length piece.now ≤ MOST_REPLY_BYTES }
+        ensures { self.new ≡ slice_set self.old request (bytes_in self.old request ++ piece.now) }
     {
-        let short = self.short[r].as_slice();
-        if !self.long[r].as_slice().is_empty() {
-            self.long[r].append(piece);
+        let short = self.short[request].as_slice();
+        if !self.long[request].as_slice().is_empty() {
+            self.long[request].append(piece);
         } else if short.len() + piece.len() <= MOST_SHORT_BYTES {
-            self.short[r].append(piece);
+            self.short[request].append(piece);
         } else {
-            let long = &mut self.long[r];
+            let long = &mut self.long[request];
             long.append(short);
             long.append(piece);
         }

@@ -39,7 +39,8 @@ pub fn steps_for_other_requests_keep_to_a_fence()
         inputs.settings.job ≡ jobs.Serve workers → IsOver f job → KeepsTo f (run (start inputs) before) →
         StayInsideOrServeOthers f job (run (start inputs) before) during →
         KeepsTo f (run (run (start inputs) before) during) }
-    ensures each { (inputs : Inputs) (before during : List ℕ) (workers t job : ℕ) (f : Fence) → CanOpen inputs →
+    ensures each { (inputs : Inputs) (before during : List ℕ) (workers t job : ℕ) (f : Fence)
+        → CanOpen inputs →
         inputs.settings.job ≡ jobs.Serve workers → IsOver f job → KeepsTo f (run (start inputs) before) →
         StayInsideOrServeOthers f job (run (start inputs) before) during →
         StaysInside f (run (run (start inputs) before) during) t →

@@ -22,29 +22,29 @@ const NO_CALLER: u64 = u64::MAX;
 #[tactic(auto, using(crate::proofs::Table::call_is))]
 pub fn create<W: World>(
     world: &mut W,
-    c: Name,
+    context: Name,
     job: u32,
     regs: &Regs,
 ) -> Result<Answer, OutOfMemory>
-    requires live { IsLive (W.seen world.old) c }
+    requires live { IsLive (W.seen world.old) context }
     requires may { MayName (W.seen world.old) job }
     requires places { HasPlaces (W.seen world.old) job }
     ensures done { IfOk result (λ answer.
-        spec.create (W.seen world.old) c job regs.now ≡ (answer, W.seen world.new)) }
+        spec.create (W.seen world.old) context job regs.now ≡ (answer, W.seen world.new)) }
     ensures refused { IfOk result (λ answer. IfRefused answer (W.seen world.new ≡ W.seen world.old)) }
     ensures err { OnErr result (W.seen world.new ≡ W.seen world.old) }
     ensures ample { W.roomy ≡ true → IsOk result }
 {
     let mut items = Items::empty();
-    let slot = match allowed(world, c, job, regs, &mut items) {
+    let slot = match allowed(world, context, job, regs, &mut items) {
         Ok(slot) => slot,
         Err(refusal) => return Ok(Answer::Refused(refusal)),
     };
     let keys = Grant::All {
         pages: world.pages(),
     };
-    let name = world.clone_context(c, &items, job, &after_call(regs, NO_CALLER))?;
-    world.set_slot(c, slot, Lent::Ctx { name, keys });
+    let name = world.clone_context(context, &items, job, &after_call(regs, NO_CALLER))?;
+    world.set_slot(context, slot, Lent::Ctx { name, keys });
     Ok(Answer::Done(after_call(regs, u64::from(slot))))
 }
 
@@ -52,40 +52,47 @@ pub fn create<W: World>(
 /// into `items`.
 fn allowed<W: World>(
     world: &W,
-    c: Name,
+    context: Name,
     job: u32,
     regs: &Regs,
     items: &mut Items,
 ) -> Result<u8, Refusal>
-    requires live { IsLive (W.seen world.now) c }
+    requires live { IsLive (W.seen world.now) context }
     requires none { items.old ≡ [] }
     ensures refused { IfErr result (λ refusal.
-        first_refusal (spec.refusals (W.seen world.now) c job regs.now) ≡ Some refusal) }
-    ensures passed { IfOk result (λ slot. IsAllowed (W.seen world.now) c job regs.now items.new slot) }
+        first_refusal (spec.refusals (W.seen world.now) context job regs.now) ≡ Some refusal) }
+    ensures passed { IfOk result (λ slot. IsAllowed (W.seen world.now) context job regs.now items.new slot) }
 {
-    items_for(world, c, SpecCall::Create, regs.r[1], regs.r[2], items)?;
-    room_for(world, c, job, items)
+    items_for(
+        world,
+        context,
+        SpecCall::Create,
+        regs.r[1],
+        regs.r[2],
+        items,
+    )?;
+    room_for(world, context, job, items)
 }
 
 /// The slot for the descriptor of a context that is made by these items, or the first refusal.
 #[tactic(auto, unfolding(crate::specs::Create::room_refusals))]
-fn room_for<W: World>(world: &W, c: Name, job: u32, items: &Items) -> Result<u8, Refusal>
-    requires live { IsLive (W.seen world.now) c }
+fn room_for<W: World>(world: &W, context: Name, job: u32, items: &Items) -> Result<u8, Refusal>
+    requires live { IsLive (W.seen world.now) context }
     requires valid { IsSpec (W.seen world.now).size.pages items.now }
     ensures refused { IfErr result (λ refusal.
-        first_refusal (spec.room_refusals (W.seen world.now) c job items.now) ≡ Some refusal) }
-    ensures room { IfOk result (λ slot. HasRoom (W.seen world.now) c job items.now slot) }
+        first_refusal (spec.room_refusals (W.seen world.now) context job items.now) ≡ Some refusal) }
+    ensures room { IfOk result (λ slot. HasRoom (W.seen world.now) context job items.now slot) }
 {
     if world.live_of(job) >= MOST_CONTEXTS_OF_JOB {
         return Err(Refusal::TooManyContexts);
     }
-    let Some(slot) = world.lowest_empty(c) else {
+    let Some(slot) = world.lowest_empty(context) else {
         return Err(Refusal::NoSlot);
     };
-    if world.needs_group(c, items) && world.groups_of(job) >= MOST_GROUPS_OF_JOB {
+    if world.needs_group(context, items) && world.groups_of(job) >= MOST_GROUPS_OF_JOB {
         return Err(Refusal::TooManyGroups);
     }
-    if are_too_many(world.ranges_after_clone(c, items)) {
+    if are_too_many(world.ranges_after_clone(context, items)) {
         return Err(Refusal::TooManyRanges);
     }
     Ok(slot)

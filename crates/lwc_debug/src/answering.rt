@@ -66,16 +66,16 @@ fn move_line(out: &mut Vec<u8>, place: Option<usize>) -> Result<(), OutOfMemory>
 
 /// Appends the lines of a thread, or that there is no such thread.
 #[tactic(auto, using(crate::proofs::Living::no_view))]
-fn thread_answer<W: World>(out: &mut Vec<u8>, kernel: &Kernel<W>, t: u32) -> Result<(), OutOfMemory>
+fn thread_answer<W: World>(out: &mut Vec<u8>, kernel: &Kernel<W>, thread_number: u32) -> Result<(), OutOfMemory>
     ensures ok { OnOk result (out.new.items ≡ out.old.items
-        ++ option_map_or (lines.thread_lines t) (view_of (machine_of kernel.now) t)
+        ++ option_map_or (lines.thread_lines thread_number) (view_of (machine_of kernel.now) thread_number)
         (codes "no thread\n")) }
     ensures err { OnErr result (out.new.items ≡ out.old.items) }
 {
-    if t >= kernel.thread_count() {
+    if thread_number >= kernel.thread_count() {
         return append(out, "no thread\n");
     }
-    thread_lines(out, t, &kernel.thread(t))
+    thread_lines(out, thread_number, &kernel.thread(thread_number))
 }
 
 /// Appends the line of a context, or that it is not live.
@@ -96,30 +96,30 @@ fn page_answer<W: World>(
     out: &mut Vec<u8>,
     world: &W,
     name: Name,
-    p: u32,
+    page_number: u32,
 ) -> Result<(), OutOfMemory>
     ensures ok { OnOk result (out.new.items ≡ out.old.items
         ++ spec.of_live (W.seen world.now) name
-        (if nat_lt p (W.seen world.now).size.pages
-        then spec.page_line name p (load (W.seen world.now) name (p * PAGE_BYTES) PAGE_BYTES)
+        (if nat_lt page_number (W.seen world.now).size.pages
+        then spec.page_line name page_number (load (W.seen world.now) name (page_number * PAGE_BYTES) PAGE_BYTES)
         else codes "no page\n")) }
     ensures err { OnErr result (out.new.items ≡ out.old.items) }
 {
     if !is_live(world, name) {
         return append(out, "no context\n");
     }
-    if p >= u32::from(world.pages()) {
+    if page_number >= u32::from(world.pages()) {
         return append(out, "no page\n");
     }
     let alloc = *out.allocator();
     let mut bytes = [0; PAGE_BYTES];
-    let text = if world.bytes(name, p * PAGE_BYTES as u32, &mut bytes) {
+    let text = if world.bytes(name, page_number * PAGE_BYTES as u32, &mut bytes) {
         bytes_text(alloc, &bytes)?
     } else {
         String::from_str(alloc, "absent")?
     };
     let name = name_text(alloc, name)?;
-    let line = format!(in alloc; "page {name} {p} {text}\n")?;
+    let line = format!(in alloc; "page {name} {page_number} {text}\n")?;
     append(out, line.as_str())
 }
 
@@ -128,24 +128,24 @@ fn slot_answer<W: World>(
     out: &mut Vec<u8>,
     world: &W,
     name: Name,
-    n: u32,
+    slot_number: u32,
 ) -> Result<(), OutOfMemory>
     ensures ok { OnOk result (out.new.items ≡ out.old.items
         ++ spec.of_live (W.seen world.now) name
-        (if nat_lt n SLOTS then spec.slot_line name n (slot_at (W.seen world.now) name n)
-        else codes "no slot\n")) }
+        (if nat_lt slot_number SLOTS then spec.slot_line name slot_number (slot_at (W.seen world.now) name slot_number)
+        else codes "no slot\slot_number")) }
     ensures err { OnErr result (out.new.items ≡ out.old.items) }
 {
     if !is_live(world, name) {
-        return append(out, "no context\n");
+        return append(out, "no context\slot_number");
     }
-    if n >= u32::from(SLOTS) {
-        return append(out, "no slot\n");
+    if slot_number >= u32::from(SLOTS) {
+        return append(out, "no slot\slot_number");
     }
     let alloc = *out.allocator();
-    let text = slot_text(alloc, world.slot(name, n as SlotNumber))?;
+    let text = slot_text(alloc, world.slot(name, slot_number as SlotNumber))?;
     let name = name_text(alloc, name)?;
-    let line = format!(in alloc; "slot {name} {n} {text}\n")?;
+    let line = format!(in alloc; "slot {name} {slot_number} {text}\slot_number")?;
     append(out, line.as_str())
 }
 

@@ -73,10 +73,10 @@ impl Script {
     }
 
     /// Command `i`, from 0 on.
-    pub fn get(&self, i: usize) -> Command
-        requires { i < length self.now }
-        ensures { slice_get self.now i ≡ Some result }
+    pub fn get(&self, index: usize) -> Command
+        requires { index < length self.now }
+        ensures { slice_get self.now index ≡ Some result }
     {
-        self.commands[i]
+        self.commands[index]
     }
 }

@@ -12,13 +12,13 @@ use world_face::World;
 
 /// Whether the slot in r1 of context `c` names a context whose monitor is another one.
 #[tactic(auto, unfolding(crate::specs::Traps::names_anothers))]
-pub fn names_anothers<W: World>(traps: &Traps, world: &W, c: Name, regs: &Regs) -> bool
-    requires live { IsLive (W.seen world.now) c }
+pub fn names_anothers<W: World>(traps: &Traps, world: &W, context: Name, regs: &Regs) -> bool
+    requires live { IsLive (W.seen world.now) context }
     requires named { HasItsContexts (W.seen world.now) }
-    ensures { result ≡ spec.names_anothers traps.now (W.seen world.now) c regs.now }
+    ensures { result ≡ spec.names_anothers traps.now (W.seen world.now) context regs.now }
 {
-    match monitor_of_named(traps, world, c, regs) {
-        Some(monitor) => monitor != c,
+    match monitor_of_named(traps, world, context, regs) {
+        Some(monitor) => monitor != context,
         None => false,
     }
 }
@@ -26,35 +26,35 @@ pub fn names_anothers<W: World>(traps: &Traps, world: &W, c: Name, regs: &Regs) 
 /// Whether a trap forbids an overlay in context `c`: its items are in order, and the slot in r1 names a
 /// context whose monitor is another one, or a trapped one of which an item shares slots.
 #[tactic(auto, unfolding(crate::specs::Traps::forbids_overlay, crate::specs::Traps::names_anothers))]
-pub fn forbids_overlay<W: World>(traps: &Traps, world: &W, c: Name, regs: &Regs) -> bool
-    requires live { IsLive (W.seen world.now) c }
+pub fn forbids_overlay<W: World>(traps: &Traps, world: &W, context: Name, regs: &Regs) -> bool
+    requires live { IsLive (W.seen world.now) context }
     requires named { HasItsContexts (W.seen world.now) }
-    ensures { result ≡ spec.forbids_overlay traps.now (W.seen world.now) c regs.now }
+    ensures { result ≡ spec.forbids_overlay traps.now (W.seen world.now) context regs.now }
 {
-    let Some(monitor) = monitor_of_named(traps, world, c, regs) else {
+    let Some(monitor) = monitor_of_named(traps, world, context, regs) else {
         return false;
     };
     let mut items = Items::empty();
     match items_for(
         world,
-        c,
+        context,
         SpecCall::Overlay,
         regs.r[2],
         regs.r[3],
         &mut items,
     ) {
-        Ok(()) => monitor != c || share_slots(items.items()),
+        Ok(()) => monitor != context || share_slots(items.items()),
         Err(_) => false,
     }
 }
 
 /// The monitor of the context that the slot in r1 names, if it names a trapped one.
-fn monitor_of_named<W: World>(traps: &Traps, world: &W, c: Name, regs: &Regs) -> Option<Name>
-    requires live { IsLive (W.seen world.now) c }
+fn monitor_of_named<W: World>(traps: &Traps, world: &W, context: Name, regs: &Regs) -> Option<Name>
+    requires live { IsLive (W.seen world.now) context }
     requires named { HasItsContexts (W.seen world.now) }
-    ensures { result ≡ spec.monitor_of_named traps.now (W.seen world.now) c regs.now }
+    ensures { result ≡ spec.monitor_of_named traps.now (W.seen world.now) context regs.now }
 {
-    match context_for(world, c, regs.r[1]) {
+    match context_for(world, context, regs.r[1]) {
         Ok((target, _)) => traps.monitor_of(target),
         Err(_) => None,
     }

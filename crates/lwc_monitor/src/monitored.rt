@@ -120,32 +120,32 @@ impl<W: World> Monitored<W> {
     /// that lives on, unless the thread is in its monitor; and if the thread is trapped it makes no call but an exit.
     /// The only error is out of memory: then nothing has changed, and the world has not taken all its memory at
     /// opening.
-    pub fn step(&mut self, t: u32) -> Result<Turn, OutOfMemory>
-        requires within { t < thread_count self.old.inputs }
-        requires room { is_ended (state_of self.old).machine t ≡ false → 0 < self.old.room }
-        ensures step { OnOk result (self.new ≡ spec.stepped_under self.old t) }
-        ensures turn { IfOk result (λ turn. spec.turn_under self.new t ≡ Some turn) }
-        ensures trapped { OnOk result (LeavesEachTrapped (state_of self.old) t) }
+    pub fn step(&mut self, thread_number: u32) -> Result<Turn, OutOfMemory>
+        requires within { thread_number < thread_count self.old.inputs }
+        requires room { is_ended (state_of self.old).machine thread_number ≡ false → 0 < self.old.room }
+        ensures step { OnOk result (self.new ≡ spec.stepped_under self.old thread_number) }
+        ensures turn { IfOk result (λ turn. spec.turn_under self.new thread_number ≡ Some turn) }
+        ensures trapped { OnOk result (LeavesEachTrapped (state_of self.old) thread_number) }
         ensures err { OnErr result (self.new ≡ self.old) }
         ensures ample { W.roomy ≡ true → IsOk result }
     {
-        let mut thread = self.threads[t as usize];
+        let mut thread = self.threads[thread_number as usize];
         let Some(effect) = step_under(
             &mut self.traps,
             &mut self.world,
             &mut self.channels,
             &self.text,
-            t,
+            thread_number,
             &mut thread,
         )?
         else {
             return Ok(turn_of(&thread));
         };
-        self.threads[t as usize] = thread;
+        self.threads[thread_number as usize] = thread;
         drop_unreached(&mut self.world, self.threads.as_slice(), 0, effect.change);
         keep_reached(&mut self.traps, &self.world, effect.change);
         self.peak = peak_after(self.peak, &self.world, effect.change);
-        self.schedule.push_reserved(t as u8);
+        self.schedule.push_reserved(thread_number as u8);
         self.room -= 1;
         Ok(turn_of(&thread))
     }

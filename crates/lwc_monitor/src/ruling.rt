@@ -67,24 +67,24 @@ fn rule_on_instr<W: World>(
     traps: &Traps,
     world: &W,
     thread: &Thread,
-    i: &Instr,
+    instruction: &Instr,
 ) -> Option<(Ruling, u32)>
     requires live { IsLive (W.seen world.now) thread.now.context }
     requires named { HasItsContexts (W.seen world.now) }
     ensures outcome { (t : ℕ) (io : Channels) →
         shared_outcome (calls.calls_under traps.now) t (beside (W.seen world.now) io) thread.now
-        i.now i.now.op
-        ≡ spec.next_ruled result t (beside (W.seen world.now) io) thread.now (nexts.Shared i.now) }
+        instruction.now instruction.now.op
+        ≡ spec.next_ruled result t (beside (W.seen world.now) io) thread.now (nexts.Shared instruction.now) }
     ensures traps { calls.traps_after_call traps.now (W.seen world.now) thread.now
-        (call_in i.now.op i.now.imm)
+        (call_in instruction.now.op instruction.now.imm)
         ≡ spec.traps_by_or_not traps.now thread.now.context (option_map (λ r. r.0) result) }
     ensures ruling { IfSome result (λ r. IsRuling traps.now (W.seen world.now) r.0) }
 {
-    if i.op != Op::Sys {
+    if instruction.op != Op::Sys {
         return None;
     }
-    match rule_on(traps, world, thread, i.imm) {
-        Some(ruling) => Some((ruling, i.imm)),
+    match rule_on(traps, world, thread, instruction.imm) {
+        Some(ruling) => Some((ruling, instruction.imm)),
         None => None,
     }
 }

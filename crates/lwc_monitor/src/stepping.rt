@@ -33,17 +33,18 @@ pub fn step_under<W: World>(
     world: &mut W,
     io: &mut Channels,
     text: &Text,
-    t: u32,
+    thread_number: u32,
     thread: &mut Thread,
 ) -> Result<Option<Effect>, OutOfMemory>
-    requires number { t < MOST_THREADS }
+    requires number { thread_number < MOST_THREADS }
     requires ready { WhileRunning thread.old.status (CanAct (W.seen world.old) thread.old) }
     requires files { HasItsFiles io.old (W.seen world.old) }
     requires steps { WhileRunning thread.old.status (0 < thread.old.budget) }
     requires text { IsText text.now }
     requires room { fm.len traps.old < MOST_CONTEXTS }
     ensures outcome { IfOk result (λ effect.
-        steps.thread_outcome (calls_under traps.old) t (steps.beside (W.seen world.old) io.old) None text.now
+        steps.thread_outcome (calls_under traps.old) thread_number (steps.beside (W.seen world.old) io.old) None
+            text.now
         thread.old thread.old.status
         ≡ made effect (steps.beside (W.seen world.new) io.new) None thread.new) }
     ensures traps { OnOk result (traps.new ≡ traps_after_call traps.old (W.seen world.old)
@@ -57,8 +58,8 @@ pub fn step_under<W: World>(
     ensures ample { W.roomy ≡ true → IsOk result }
 {
     match thread.status {
-        ThreadStatus::Running => run_under(traps, world, io, text, t, thread),
-        _ => step_thread(world, io, &mut None, text, t, thread, None),
+        ThreadStatus::Running => run_under(traps, world, io, text, thread_number, thread),
+        _ => step_thread(world, io, &mut None, text, thread_number, thread, None),
     }
 }
 
@@ -68,10 +69,10 @@ fn run_under<W: World>(
     world: &mut W,
     io: &mut Channels,
     text: &Text,
-    t: u32,
+    thread_number: u32,
     thread: &mut Thread,
 ) -> Result<Option<Effect>, OutOfMemory>
-    requires number { t < MOST_THREADS }
+    requires number { thread_number < MOST_THREADS }
     requires running { thread.old.status ≡ ThreadStatus.Running }
     requires ready { CanAct (W.seen world.old) thread.old }
     requires files { HasItsFiles io.old (W.seen world.old) }
@@ -79,7 +80,8 @@ fn run_under<W: World>(
     requires text { IsText text.now }
     requires room { fm.len traps.old < MOST_CONTEXTS }
     ensures outcome { IfOk result (λ effect.
-        steps.thread_outcome (calls_under traps.old) t (steps.beside (W.seen world.old) io.old) None text.now
+        steps.thread_outcome (calls_under traps.old) thread_number (steps.beside (W.seen world.old) io.old) None
+            text.now
         thread.old ThreadStatus.Running
         ≡ made effect (steps.beside (W.seen world.new) io.new) None thread.new) }
     ensures traps { OnOk result (traps.new ≡ traps_after_call traps.old (W.seen world.old)
@@ -96,9 +98,17 @@ fn run_under<W: World>(
     let mut caller = *thread;
     caller.regs = advance.after;
     match rule_on_next(traps, world, &caller, &advance.next) {
-        None => step_thread(world, io, &mut None, text, t, thread, Some(&advance)),
+        None => step_thread(
+            world,
+            io,
+            &mut None,
+            text,
+            thread_number,
+            thread,
+            Some(&advance),
+        ),
         Some((ruling, number)) => {
-            let change = carry_out(traps, world, t, &mut caller, ruling, number);
+            let change = carry_out(traps, world, thread_number, &mut caller, ruling, number);
             caller.set_steps(thread.budget - 1);
             *thread = caller;
             Ok(Some(Effect {
@@ -114,16 +124,16 @@ fn run_under<W: World>(
 fn carry_out<W: World>(
     traps: &mut Traps,
     world: &mut W,
-    t: u32,
+    thread_number: u32,
     thread: &mut Thread,
     ruling: Ruling,
     number: u32,
 ) -> Change
-    requires number { t < MOST_THREADS }
+    requires number { thread_number < MOST_THREADS }
     requires ready { CanAct (W.seen world.old) thread.old }
     requires ruling { IsRuling traps.old (W.seen world.old) ruling }
     requires room { fm.len traps.old < MOST_CONTEXTS }
-    ensures outcome { Makes (λ e x. spec.ruled ruling number t e x)
+    ensures outcome { Makes (λ e x. spec.ruled ruling number thread_number e x)
         (W.seen world.old) thread.old (W.seen world.new) thread.new }
     ensures traps { traps.new ≡ spec.traps_by traps.old thread.old.context ruling }
     ensures kept { Keeps result (W.seen world.old) thread.old (W.seen world.new) thread.new }
@@ -140,7 +150,7 @@ fn carry_out<W: World>(
             Change::Thread
         }
         Ruling::Monitor { monitor, slot } => {
-            enter_monitor(world, t, thread, monitor, slot, number);
+            enter_monitor(world, thread_number, thread, monitor, slot, number);
             Change::World
         }
     }
@@ -149,28 +159,37 @@ fn carry_out<W: World>(
 /// Takes thread `t` to the monitor of its context, with the number of its call and that call's arguments.
 fn enter_monitor<W: World>(
     world: &mut W,
-    t: u32,
+    thread_number: u32,
     thread: &mut Thread,
     monitor: Name,
     slot: SlotNumber,
     number: u32,
 )
-    requires number { t < MOST_THREADS }
+    requires number { thread_number < MOST_THREADS }
     requires ready { CanAct (W.seen world.old) thread.old }
     requires live { IsLive (W.seen world.old) monitor }
     requires lowest { lowest_empty (W.seen world.old) monitor ≡ Some slot }
     ensures world { W.seen world.new
-        ≡ switching.switched (W.seen world.old) thread.old.context t thread.old.regs monitor slot }
+        ≡ switching.switched
+        (W.seen world.old) thread.old.context thread_number thread.old.regs monitor slot }
     ensures thread { thread.new ≡ record thread.old {
       context = monitor;
       regs = reporting thread.old.regs
-          (switching.entering (W.seen world.old) thread.old.context t thread.old.regs monitor slot number);
+          (switching.entering (W.seen world.old) thread.old.context thread_number thread.old.regs monitor slot number);
     } }
     ensures kept { LeavesNothing (W.seen world.old) thread.old.context (W.seen world.new) monitor }
 {
     let call = thread.regs;
     let argument = u64::from(number);
-    let arrived = enter(world, thread.context, t, &call, monitor, slot, argument);
+    let arrived = enter(
+        world,
+        thread.context,
+        thread_number,
+        &call,
+        monitor,
+        slot,
+        argument,
+    );
     thread.context = monitor;
     thread.regs = reporting(&call, &arrived);
 }

@@ -36,19 +36,19 @@ pub enum TrapRefusal {
 pub fn trap_target<W: World>(
     traps: &Traps,
     world: &W,
-    c: Name,
+    context: Name,
     regs: &Regs,
 ) -> Result<Name, TrapRefusal>
-    requires live { IsLive (W.seen world.now) c }
+    requires live { IsLive (W.seen world.now) context }
     requires named { HasItsContexts (W.seen world.now) }
     ensures refused { IfErr result (λ refusal.
-        first_refusal (spec.trap_rows traps.now (W.seen world.now) c regs.now) ≡ Some refusal) }
+        first_refusal (spec.trap_rows traps.now (W.seen world.now) context regs.now) ≡ Some refusal) }
     ensures passed { IfOk result (λ d.
-        first_refusal (spec.trap_rows traps.now (W.seen world.now) c regs.now) ≡ None) }
-    ensures target { IfOk result (λ d. d ≡ (link (W.seen world.now) c regs.now).0) }
+        first_refusal (spec.trap_rows traps.now (W.seen world.now) context regs.now) ≡ None) }
+    ensures target { IfOk result (λ d. d ≡ (link (W.seen world.now) context regs.now).0) }
     ensures new { IfOk result (λ d. spec.is_trapped traps.now d ≡ false) }
 {
-    let (target, keys) = match context_for(world, c, regs.r[1]) {
+    let (target, keys) = match context_for(world, context, regs.r[1]) {
         Ok(link) => link,
         Err(refusal) => return Err(TrapRefusal::Plain(refusal)),
     };
@@ -61,19 +61,19 @@ pub fn trap_target<W: World>(
     if traps.monitor_of(target).is_some() {
         return Err(TrapRefusal::Trapped);
     }
-    if target == c || has_common_slot(world, target) || traps.has_monitor(target) {
+    if target == context || has_common_slot(world, target) || traps.has_monitor(target) {
         return Err(TrapRefusal::NotFresh);
     }
     Ok(target)
 }
 
 /// Whether a context has a slot in common with others.
-fn has_common_slot<W: World>(world: &W, d: Name) -> bool
-    requires { IsLive (W.seen world.now) d }
-    ensures { result ≡ spec.has_common_slot (W.seen world.now) d }
+fn has_common_slot<W: World>(world: &W, target: Name) -> bool
+    requires { IsLive (W.seen world.now) target }
+    ensures { result ≡ spec.has_common_slot (W.seen world.now) target }
 {
     'slots: for n in 0..SLOTS {
-        if is_common(world, d, n) {
+        if is_common(world, target, n) {
             return true;
         }
     }
@@ -81,17 +81,17 @@ fn has_common_slot<W: World>(world: &W, d: Name) -> bool
 }
 
 /// Whether a slot of a context is common: then to share it needs no group.
-fn is_common<W: World>(world: &W, d: Name, n: u8) -> bool
-    requires live { IsLive (W.seen world.now) d }
-    requires within { n < SLOTS }
-    ensures { result ≡ spec.is_common ((context (W.seen world.now) d).cell (Slot n)) }
+fn is_common<W: World>(world: &W, target: Name, slot: u8) -> bool
+    requires live { IsLive (W.seen world.now) target }
+    requires within { slot < SLOTS }
+    ensures { result ≡ spec.is_common ((context (W.seen world.now) target).cell (Slot slot)) }
 {
     let mut spec = Items::empty();
     spec.push(Item {
         kind: Kind::Slot,
         mode: Mode::Share,
-        from: u32::from(n),
-        to: u32::from(n) + 1,
+        from: u32::from(slot),
+        to: u32::from(slot) + 1,
     });
-    !world.needs_group(d, &spec)
+    !world.needs_group(target, &spec)
 }

@@ -47,20 +47,20 @@ impl Traps {
     }
 
     /// The monitor of a context, if it is trapped.
-    pub fn monitor_of(&self, c: Name) -> Option<Name>
-        ensures { result ≡ fm.get self.now c }
+    pub fn monitor_of(&self, context: Name) -> Option<Name>
+        ensures { result ≡ fm.get self.now context }
     {
-        match pair_of(self.pairs.as_slice(), c) {
+        match pair_of(self.pairs.as_slice(), context) {
             Some(pair) => Some(pair.1),
             None => None,
         }
     }
 
     /// Whether a context is the monitor of a trapped one.
-    pub fn has_monitor(&self, c: Name) -> bool
-        ensures { result ≡ is_monitor self.now c }
+    pub fn has_monitor(&self, context: Name) -> bool
+        ensures { result ≡ is_monitor self.now context }
     {
-        is_second(self.pairs.as_slice(), c)
+        is_second(self.pairs.as_slice(), context)
     }
 
     /// The trapped contexts, each with its monitor, in the order of names.
@@ -71,13 +71,13 @@ impl Traps {
     }
 
     /// Traps a context that is not trapped yet, where fewer are than there may be contexts.
-    pub fn trap(&mut self, c: Name, monitor: Name)
-        requires free { is_trapped self.old c ≡ false }
+    pub fn trap(&mut self, context: Name, monitor: Name)
+        requires free { is_trapped self.old context ≡ false }
         requires room { fm.len self.old < MOST_CONTEXTS }
-        ensures { self.new ≡ fm.insert self.old c monitor }
+        ensures { self.new ≡ fm.insert self.old context monitor }
     {
-        let place = place_for(self.pairs.as_slice(), c);
-        self.pairs.insert(place, (c, monitor)).unwrap();
+        let place = place_for(self.pairs.as_slice(), context);
+        self.pairs.insert(place, (context, monitor)).unwrap();
     }
 
     /// Keeps the traps of live contexts alone.
@@ -89,25 +89,25 @@ impl Traps {
 }
 
 /// The first of some pairs that begins with this name.
-fn pair_of(pairs: &[(Name, Name)], c: Name) -> Option<(Name, Name)>
-    ensures { result ≡ find (λ pair. pair.0.job == c.job && pair.0.k == c.k) pairs.now }
+fn pair_of(pairs: &[(Name, Name)], context: Name) -> Option<(Name, Name)>
+    ensures { result ≡ find (λ pair. pair.0.job == context.job && pair.0.k == context.k) pairs.now }
 {
-    pairs.iter().copied().find(|pair| pair.0 == c)
+    pairs.iter().copied().find(|pair| pair.0 == context)
 }
 
 /// Whether one of some pairs ends with this name.
-fn is_second(pairs: &[(Name, Name)], c: Name) -> bool
-    ensures { result ≡ list_any (λ pair. pair.1.job == c.job && pair.1.k == c.k) pairs.now }
+fn is_second(pairs: &[(Name, Name)], context: Name) -> bool
+    ensures { result ≡ list_any (λ pair. pair.1.job == context.job && pair.1.k == context.k) pairs.now }
 {
-    pairs.iter().any(|pair| pair.1 == c)
+    pairs.iter().any(|pair| pair.1 == context)
 }
 
 /// Where a pair goes that begins with this name: before the first one that begins with a higher name.
-fn place_for(pairs: &[(Name, Name)], c: Name) -> usize
-    ensures { result ≡ position_or_len (λ pair. is_gt (name_cmp pair.0 c)) pairs.now }
+fn place_for(pairs: &[(Name, Name)], context: Name) -> usize
+    ensures { result ≡ position_or_len (λ pair. is_gt (name_cmp pair.0 context)) pairs.now }
 {
     pairs
         .iter()
-        .position(|pair| pair.0 > c)
+        .position(|pair| pair.0 > context)
         .unwrap_or(pairs.len())
 }

@@ -37,7 +37,8 @@ pub fn steps_are_the_same_under_other_numbers()
 /// then.
 pub fn a_request_alone_starts_as_request_0()
     ensures start { (image : Image) (frames budget r : ℕ) (bytes : List ℕ) →
-        start_alone image frames budget r bytes ≡ shifted_machine r (start_alone image frames budget 0 bytes) }
+        start_alone image frames budget r bytes
+        ≡ shifted_machine r (start_alone image frames budget 0 bytes) }
     ensures acts { (image : Image) (frames budget : ℕ) (bytes : List ℕ) →
         EachActsForItsJob (start_alone image frames budget 0 bytes) }
 {}

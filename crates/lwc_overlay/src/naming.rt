@@ -18,25 +18,25 @@ use world_face::World;
 #[tactic(auto, unfolding(crate::specs::Named::link))]
 pub(crate) fn named<'w, W: World>(
     world: &'w W,
-    c: Name,
+    context: Name,
     call: SpecCall,
     regs: &Regs,
 ) -> Result<((Name, Grant<'w>), Items), Refusal>
-    requires live { IsLive (W.seen world.now) c }
+    requires live { IsLive (W.seen world.now) context }
     requires named { HasItsContexts (W.seen world.now) }
     ensures refused { IfErr result (λ refusal. (rows : List (Bool × Refusal)) →
-        first_refusal (refusals_before (W.seen world.now) c call regs.now rows) ≡ Some refusal) }
+        first_refusal (refusals_before (W.seen world.now) context call regs.now rows) ≡ Some refusal) }
     ensures passed { IfOk result (λ found. (rows : List (Bool × Refusal)) →
-        first_refusal (refusals_before (W.seen world.now) c call regs.now rows) ≡ first_refusal rows) }
+        first_refusal (refusals_before (W.seen world.now) context call regs.now rows) ≡ first_refusal rows) }
     ensures within { IfOk result (λ found. slice_index regs.now.r 1 < SLOTS) }
     ensures link { IfOk result (λ found.
-        (found.0.0, keys_of found.0.1) ≡ link (W.seen world.now) c regs.now) }
+        (found.0.0, keys_of found.0.1) ≡ link (W.seen world.now) context regs.now) }
     ensures giver { IfOk result (λ found. IsLive (W.seen world.now) found.0.0) }
-    ensures items { IfOk result (λ found. found.1 ≡ items_of (W.seen world.now) c call regs.now) }
+    ensures items { IfOk result (λ found. found.1 ≡ items_of (W.seen world.now) context call regs.now) }
     ensures valid { IfOk result (λ found. IsSpec (W.seen world.now).size.pages found.1) }
 {
-    let link = context_for(world, c, regs.r[1])?;
+    let link = context_for(world, context, regs.r[1])?;
     let mut items = Items::empty();
-    items_for(world, c, call, regs.r[2], regs.r[3], &mut items)?;
+    items_for(world, context, call, regs.r[2], regs.r[3], &mut items)?;
     Ok((link, items))
 }

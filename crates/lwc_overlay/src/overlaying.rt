@@ -22,29 +22,29 @@ use world_face::World;
 #[tactic(auto, unfolding(crate::specs::OverlayCall::overlay, crate::specs::OverlayCall::refusals))]
 pub fn overlay<W: World>(
     world: &mut W,
-    c: Name,
+    context: Name,
     job: u32,
     regs: &Regs,
 ) -> Result<Answer, OutOfMemory>
-    requires live { IsLive (W.seen world.old) c }
+    requires live { IsLive (W.seen world.old) context }
     requires named { HasItsContexts (W.seen world.old) }
     requires may { MayName (W.seen world.old) job }
     requires place { groups_of (W.seen world.old) job < MOST_GROUPS_OF_JOB →
         HasGroupPlace (W.seen world.old) }
     ensures done { IfOk result (λ answer.
-        spec.overlay (W.seen world.old) c job regs.now ≡ (answer, W.seen world.new)) }
+        spec.overlay (W.seen world.old) context job regs.now ≡ (answer, W.seen world.new)) }
     ensures refused { IfOk result (λ answer. IfRefused answer (W.seen world.new ≡ W.seen world.old)) }
     ensures err { OnErr result (W.seen world.new ≡ W.seen world.old) }
     ensures ample { W.roomy ≡ true → IsOk result }
 {
-    let ((giver, keys), items) = match named(world, c, SpecCall::Overlay, regs) {
+    let ((giver, keys), items) = match named(world, context, SpecCall::Overlay, regs) {
         Ok(found) => found,
         Err(refusal) => return Ok(Answer::Refused(refusal)),
     };
-    if let Some(refusal) = refusal_of(world, c, job, giver, keys, &items) {
+    if let Some(refusal) = refusal_of(world, context, job, giver, keys, &items) {
         return Ok(Answer::Refused(refusal));
     }
-    world.overlay(c, giver, &items, job)?;
+    world.overlay(context, giver, &items, job)?;
     Ok(Answer::Done(with_answer(regs, 0)))
 }
 
@@ -52,18 +52,20 @@ pub fn overlay<W: World>(
 #[tactic(auto, unfolding(crate::specs::OverlayCall::giver_refusals))]
 fn refusal_of<W: World>(
     world: &W,
-    c: Name,
+    context: Name,
     job: u32,
     giver: Name,
     keys: Grant<'_>,
     items: &Items,
 ) -> Option<Refusal>
-    requires live { IsLive (W.seen world.now) c }
+    requires live { IsLive (W.seen world.now) context }
     requires giver { IsLive (W.seen world.now) giver }
     requires valid { IsSpec (W.seen world.now).size.pages items.now }
     ensures first { result
-        ≡ first_refusal (spec.giver_refusals (W.seen world.now) c job (giver, keys_of keys.entry) items.now) }
-    ensures none { IfNone result (MayTake (W.seen world.now) c job (giver, keys_of keys.entry) items.now) }
+        ≡ first_refusal
+        (spec.giver_refusals (W.seen world.now) context job (giver, keys_of keys.entry) items.now) }
+    ensures none { IfNone result
+        (MayTake (W.seen world.now) context job (giver, keys_of keys.entry) items.now) }
 {
     if !grants(keys, items, world.pages()) {
         return Some(Refusal::NotCovered);
@@ -71,7 +73,7 @@ fn refusal_of<W: World>(
     if world.needs_group(giver, items) && world.groups_of(job) >= MOST_GROUPS_OF_JOB {
         return Some(Refusal::TooManyGroups);
     }
-    if are_too_many(world.ranges_after_overlay(c, giver, items)) {
+    if are_too_many(world.ranges_after_overlay(context, giver, items)) {
         return Some(Refusal::TooManyRanges);
     }
     None

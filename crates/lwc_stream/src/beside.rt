@@ -107,7 +107,8 @@ fn serve_in_scope<
     workers: Vec<Worker<'a, W>>,
 ) -> (Vec<Worker<'a, W>>, A)
     requires fresh { All (λ w. IsFresh process.now w.pass w.turns.turns w.turns.puts) workers.items }
-    ensures served { HaveServed (λ w. w.pass) (λ w. w.turns.puts) process.now workers.entry.items result.0.items }
+    ensures served { HaveServed (λ w. w.pass)
+        (λ w. w.turns.puts) process.now workers.entry.items result.0.items }
     ensures gives { S.gives caller result.1 }
 {
     let promise = Served::<'a, W> {
@@ -118,7 +119,8 @@ fn serve_in_scope<
         promise,
         move || -> Vec<Worker<W>>
             requires { All (λ w. IsFresh process.now w.pass w.turns.turns w.turns.puts) workers.items }
-            ensures { HaveServed (λ w. w.pass) (λ w. w.turns.puts) process.entry.now workers.entry.items result.items }
+            ensures { HaveServed (λ w. w.pass)
+                (λ w. w.turns.puts) process.entry.now workers.entry.items result.items }
         { serve_in_threads(rt, process, gate, workers) },
     );
     match started {
@@ -150,7 +152,8 @@ fn serve_in_new_scope<
     workers: Vec<Worker<'a, W>>,
 ) -> (Vec<Worker<'a, W>>, A)
     requires fresh { All (λ w. IsFresh process.now w.pass w.turns.turns w.turns.puts) workers.items }
-    ensures served { HaveServed (λ w. w.pass) (λ w. w.turns.puts) process.now workers.entry.items result.0.items }
+    ensures served { HaveServed (λ w. w.pass)
+        (λ w. w.turns.puts) process.now workers.entry.items result.0.items }
     ensures gives { S.gives caller result.1 }
 {
     thread::scope(
@@ -158,15 +161,16 @@ fn serve_in_new_scope<
         rt,
         move |scope| -> (Vec<Worker<W>>, A)
             requires { All (λ w. IsFresh process.now w.pass w.turns.turns w.turns.puts) workers.items }
-            ensures { HaveServed (λ w. w.pass) (λ w. w.turns.puts) process.entry.now workers.entry.items result.0.items
+            ensures { HaveServed (λ w. w.pass)
+                (λ w. w.turns.puts) process.entry.now workers.entry.items result.0.items
                 × S.gives caller result.1 }
         { serve_in_scope(scope, rt, process, gate, caller, workers) },
     )
 }
 
 /// Ends a loan that was handed on.
-fn take_back<T>(x: &mut T)
-    ensures { x.new ≡ x.old }
+fn take_back<T>(lent: &mut T)
+    ensures { lent.new ≡ lent.old }
 {}
 
 /// Carries all threads to their ends, and shows replies to the sink meanwhile. It may wait.
@@ -180,8 +184,10 @@ pub(crate) fn serve_beside<'a, R: Threads + Wait + Sync, W: World, G: Gate, O: S
     workers: Vec<Worker<'a, W>>,
 ) -> (Vec<Worker<'a, W>>, Collector<'a>)
     requires fresh { All (λ w. IsFresh process.now w.pass w.turns.turns w.turns.puts) workers.items }
-    ensures served { HaveServed (λ w. w.pass) (λ w. w.turns.puts) process.now workers.entry.items result.0.items }
-    ensures queues { map (λ e. e.queue) result.1.takes.items ≡ map (λ e. e.queue) collector.entry.takes.items }
+    ensures served { HaveServed (λ w. w.pass)
+        (λ w. w.turns.puts) process.now workers.entry.items result.0.items }
+    ensures queues { map (λ e. e.queue) result.1.takes.items
+        ≡ map (λ e. e.queue) collector.entry.takes.items }
     ensures places { length result.1.waiting.places ≡ length collector.entry.waiting.places }
     ensures shown { (before : SinkView) →
         HasShown (map (λ e. e.values) collector.entry.takes.items)

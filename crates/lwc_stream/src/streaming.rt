@@ -156,10 +156,12 @@ fn finish<'a, R: Wait, W: World, O: Sink>(
     requires room_left { length workers.items ≤ vec_capacity left }
     ensures passes { result.passes.items ≡ map (λ w. w.pass) workers.entry.items }
     ensures written { (before : SinkView) →
-        HasShown (map (λ e. e.values) collector.entry.takes.items) collector.entry.waiting collector.entry.writer
+        HasShown (map
+        (λ e. e.values) collector.entry.takes.items) collector.entry.waiting collector.entry.writer
         before (O.seen out.old) →
         (shown : List Finished)
-        × AreShown (map (λ w. w.turns.puts.values) workers.entry.items) (length collector.entry.waiting.places) shown
+        × AreShown (map (λ w. w.turns.puts.values) workers.entry.items)
+        (length collector.entry.waiting.places) shown
         × IsWritten result.failed before (O.seen out.new) (lines_of shown) }
 {
     let Collector {

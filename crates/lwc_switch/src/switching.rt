@@ -17,20 +17,20 @@ use world_face::World;
 /// Takes a thread from context `c` to the context that the slot in r1 has a descriptor of, with r2 as the
 /// argument. The registers are those at the call (`switch`). A refusal changes nothing.
 #[tactic(auto, unfolding(crate::specs::Switch::switch))]
-pub fn switch<W: World>(world: &mut W, c: Name, t: u32, regs: &Regs) -> Moved
-    requires live { IsLive (W.seen world.old) c }
-    requires thread { t < MOST_THREADS }
+pub fn switch<W: World>(world: &mut W, of_context: Name, thread: u32, regs: &Regs) -> Moved
+    requires live { IsLive (W.seen world.old) of_context }
+    requires thread { thread < MOST_THREADS }
     requires named { HasItsContexts (W.seen world.old) }
-    ensures done { spec.switch (W.seen world.old) c t regs.now ≡ (result, W.seen world.new) }
+    ensures done { spec.switch (W.seen world.old) of_context thread regs.now ≡ (result, W.seen world.new) }
     ensures refused { IfRefused result (W.seen world.new ≡ W.seen world.old) }
 {
-    let (target, slot) = match allowed(world, c, regs) {
+    let (target, slot) = match allowed(world, of_context, regs) {
         Ok(found) => found,
         Err(refusal) => return Moved::Refused(refusal),
     };
     Moved::To {
         context: target,
-        regs: enter(world, c, t, regs, target, slot, regs.r[2]),
+        regs: enter(world, of_context, thread, regs, target, slot, regs.r[2]),
     }
 }
 
@@ -40,24 +40,24 @@ pub fn switch<W: World>(world: &mut W, c: Name, t: u32, regs: &Regs) -> Moved
 #[tactic(auto, using(crate::proofs::Saving::live_after_save))]
 pub fn enter<W: World>(
     world: &mut W,
-    c: Name,
-    t: u32,
+    context: Name,
+    thread: u32,
     regs: &Regs,
     target: Name,
     slot: SlotNumber,
     argument: u64,
 ) -> Regs
-    requires live { IsLive (W.seen world.old) c }
+    requires live { IsLive (W.seen world.old) context }
     requires there { IsLive (W.seen world.old) target }
-    requires thread { t < MOST_THREADS }
+    requires thread { thread < MOST_THREADS }
     requires within { slot < SLOTS }
-    ensures regs { result ≡ spec.entering (W.seen world.old) c t regs.now target slot argument }
-    ensures world { W.seen world.new ≡ spec.switched (W.seen world.old) c t regs.now target slot }
+    ensures regs { result ≡ spec.entering (W.seen world.old) context thread regs.now target slot argument }
+    ensures world { W.seen world.new ≡ spec.switched (W.seen world.old) context thread regs.now target slot }
 {
-    world.save(c, t, &with_answer(regs, 0));
-    let entered = entered(world, target, t);
+    world.save(context, thread, &with_answer(regs, 0));
+    let entered = entered(world, target, thread);
     let back = Lent::Ctx {
-        name: c,
+        name: context,
         keys: Grant::None,
     };
     world.set_slot(target, slot, back);
@@ -66,18 +66,18 @@ pub fn enter<W: World>(
 
 /// The target and its slot, or the first refusal.
 #[tactic(auto, unfolding(crate::specs::Switch::refusals, crate::specs::Switch::target))]
-fn allowed<W: World>(world: &W, c: Name, regs: &Regs) -> Result<(Name, u8), Refusal>
-    requires live { IsLive (W.seen world.now) c }
+fn allowed<W: World>(world: &W, context: Name, regs: &Regs) -> Result<(Name, u8), Refusal>
+    requires live { IsLive (W.seen world.now) context }
     requires named { HasItsContexts (W.seen world.now) }
     ensures refused { IfErr result (λ refusal.
-        first_refusal (spec.refusals (W.seen world.now) c regs.now) ≡ Some refusal) }
+        first_refusal (spec.refusals (W.seen world.now) context regs.now) ≡ Some refusal) }
     ensures passed { IfOk result (λ found.
-        first_refusal (spec.refusals (W.seen world.now) c regs.now) ≡ None) }
-    ensures target { IfOk result (λ found. found.0 ≡ spec.target (W.seen world.now) c regs.now) }
+        first_refusal (spec.refusals (W.seen world.now) context regs.now) ≡ None) }
+    ensures target { IfOk result (λ found. found.0 ≡ spec.target (W.seen world.now) context regs.now) }
     ensures live { IfOk result (λ found. IsLive (W.seen world.now) found.0) }
     ensures lowest { IfOk result (λ found. lowest_empty (W.seen world.now) found.0 ≡ Some found.1) }
 {
-    let (target, _) = context_for(world, c, regs.r[1])?;
+    let (target, _) = context_for(world, context, regs.r[1])?;
     match world.lowest_empty(target) {
         Some(slot) => Ok((target, slot)),
         None => Err(Refusal::NoSlotThere),
@@ -86,14 +86,14 @@ fn allowed<W: World>(world: &W, c: Name, regs: &Regs) -> Result<(Name, u8), Refu
 
 /// The registers that a thread enters a context with: those that the context keeps for it, else those that
 /// it begins with.
-fn entered<W: World>(world: &W, c: Name, t: u32) -> Regs
-    requires live { IsLive (W.seen world.now) c }
-    requires thread { t < MOST_THREADS }
-    ensures { result ≡ entered (context (W.seen world.now) c) t }
+fn entered<W: World>(world: &W, of_context: Name, thread: u32) -> Regs
+    requires live { IsLive (W.seen world.now) of_context }
+    requires thread { thread < MOST_THREADS }
+    ensures { result ≡ entered (context (W.seen world.now) of_context) thread }
 {
-    match world.saved(c, t) {
+    match world.saved(of_context, thread) {
         Some(saved) => saved,
-        None => world.entry(c),
+        None => world.entry(of_context),
     }
 }
 

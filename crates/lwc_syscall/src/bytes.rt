@@ -31,7 +31,7 @@ pub fn read<W: World>(
     io: &Channels,
     targets: &CallContexts,
     job: u32,
-    n: u64,
+    number: u64,
     at: u64,
     count: u64,
 ) -> Result<CallAnswer, OutOfMemory>
@@ -39,12 +39,13 @@ pub fn read<W: World>(
     requires slots { IsLive (W.seen world.old) targets.now.slots }
     requires may { MayName (W.seen world.old) job }
     requires files { HasItsFiles io.now (W.seen world.old) }
-    ensures done { IfOk result (λ answer. spec.reading (W.seen world.old) io.now targets.now job n at count
+    ensures done { IfOk result
+        (λ answer. spec.reading (W.seen world.old) io.now targets.now job number at count
         ≡ record { answer = answer; world = W.seen world.new; io = io.now }) }
     ensures err { OnErr result (W.seen world.new ≡ W.seen world.old) }
     ensures ample { W.roomy ≡ true → IsOk result }
 {
-    let Some((slot, value)) = filled_slot(world, targets.slots, n) else {
+    let Some((slot, value)) = filled_slot(world, targets.slots, number) else {
         return Ok(CallAnswer::Refused(Refusal::BadFd));
     };
     let Some(left) = left(io, value) else {
@@ -116,22 +117,22 @@ fn read_on(value: Lent<'_>, count: usize) -> Lent<'static>
 #[tactic(auto, unfolding(crate::specs::Plain::store_at, lwc_base::specs::Store::store))]
 fn store_at<W: World>(
     world: &mut W,
-    c: Name,
+    context: Name,
     at: u64,
     bytes: &[u8],
     job: u32,
 ) -> Result<(), StoreFault>
-    requires live { IsLive (W.seen world.old) c }
+    requires live { IsLive (W.seen world.old) context }
     requires short { length bytes.now ≤ PAGE_BYTES }
     requires may { MayName (W.seen world.old) job }
-    ensures done { OnOk result (spec.store_at (W.seen world.old) c job at bytes.now
+    ensures done { OnOk result (spec.store_at (W.seen world.old) context job at bytes.now
         ≡ stores.Done (W.seen world.new)) }
     ensures bad_address { (result ≡ Err StoreFault.BadAddress) ↔
-        (spec.store_at (W.seen world.old) c job at bytes.now ≡ stores.Absent) }
+        (spec.store_at (W.seen world.old) context job at bytes.now ≡ stores.Absent) }
     ensures read_only { (result ≡ Err StoreFault.ReadOnly) ↔
-        (spec.store_at (W.seen world.old) c job at bytes.now ≡ stores.ReadOnly) }
+        (spec.store_at (W.seen world.old) context job at bytes.now ≡ stores.ReadOnly) }
     ensures no_frame { (result ≡ Err StoreFault.NoFrame) ↔
-        (spec.store_at (W.seen world.old) c job at bytes.now ≡ stores.Full) }
+        (spec.store_at (W.seen world.old) context job at bytes.now ≡ stores.Full) }
     ensures err { OnErr result (W.seen world.new ≡ W.seen world.old) }
     ensures ample { W.roomy ≡ true → result ≢ Err StoreFault.OutOfMemory }
     ensures live { OnOk result ((d : names.Name) →
@@ -143,7 +144,7 @@ fn store_at<W: World>(
     if !is_within(world.pages(), at, bytes.len()) {
         return Err(StoreFault::BadAddress);
     }
-    world.store(c, at as u32, bytes, job)
+    world.store(context, at as u32, bytes, job)
 }
 
 /// Writes `count` bytes from the address `at` through the descriptor in slot `n`.
@@ -153,17 +154,17 @@ pub fn write<W: World>(
     world: &W,
     io: &mut Channels,
     targets: &CallContexts,
-    n: u64,
+    number: u64,
     at: u64,
     count: u64,
 ) -> CallAnswer
     requires memory { IsLive (W.seen world.now) targets.now.memory }
     requires slots { IsLive (W.seen world.now) targets.now.slots }
     requires files { HasItsFiles io.old (W.seen world.now) }
-    ensures { spec.writing (W.seen world.now) io.old targets.now n at count
+    ensures { spec.writing (W.seen world.now) io.old targets.now number at count
         ≡ record { answer = result; world = W.seen world.now; io = io.new } }
 {
-    let Some((_, value)) = filled_slot(world, targets.slots, n) else {
+    let Some((_, value)) = filled_slot(world, targets.slots, number) else {
         return CallAnswer::Refused(Refusal::BadFd);
     };
     if !is_written(value) {

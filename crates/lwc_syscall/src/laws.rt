@@ -63,11 +63,15 @@ pub fn a_syscall_changes_only_keys_of_its_capability()
 /// What a plain call does over live contexts keeps the world sound, with the contexts and files that its
 /// slots name. It makes and drops no context and no group, and takes at most two tags.
 pub fn a_plain_call_keeps_the_world_well()
-    ensures well { (w : World) (io : Channels) (targets : CallContexts) (job : ℕ) (v : World) (after : Channels) →
-        IsPlainChange w io targets job v after → is_live w targets.memory ≡ true → IsWell w io → IsWell v after }
-    ensures numbers { (w : World) (io : Channels) (targets : CallContexts) (job : ℕ) (v : World) (after : Channels) →
+    ensures well { (w : World) (io : Channels) (targets : CallContexts) (job : ℕ) (v : World)
+        (after : Channels) →
+        IsPlainChange w io targets job v after → is_live w targets.memory ≡ true → IsWell w io
+        → IsWell v after }
+    ensures numbers { (w : World) (io : Channels) (targets : CallContexts) (job : ℕ) (v : World)
+        (after : Channels) →
         IsPlainChange w io targets job v after → KeepsNumbers w v }
-    ensures inputs { (w : World) (io : Channels) (targets : CallContexts) (job : ℕ) (v : World) (after : Channels) →
+    ensures inputs { (w : World) (io : Channels) (targets : CallContexts) (job : ℕ) (v : World)
+        (after : Channels) →
         IsPlainChange w io targets job v after → (after.files ≡ io.files) × (after.requests ≡ io.requests) }
 {}
 
@@ -92,7 +96,8 @@ pub fn a_syscall_keeps_the_world_well()
 /// What a job's contexts and groups name is of that job after a plain call, and after a call over the
 /// contexts that a mask chooses, if it was so before.
 pub fn calls_keep_names_to_their_jobs()
-    ensures plain { (w : World) (io : Channels) (targets : CallContexts) (job : ℕ) (v : World) (after : Channels) →
+    ensures plain { (w : World) (io : Channels) (targets : CallContexts) (job : ℕ) (v : World)
+        (after : Channels) →
         IsPlainChange w io targets job v after → NamesKeepToJobs w → NamesKeepToJobs v }
     ensures syscall { (w : World) (io : Channels) (c : Name) (job : ℕ) (regs : Regs) → is_live w c ≡ true →
         IsWell w io → NamesKeepToJobs w → NamesKeepToJobs (lw_syscall w io c job regs).world }

@@ -20,21 +20,21 @@ use world_face::World;
 pub fn lw_syscall<W: World>(
     world: &mut W,
     io: &mut Channels,
-    c: Name,
+    context: Name,
     job: u32,
     regs: &Regs,
 ) -> Result<CallAnswer, OutOfMemory>
-    requires live { IsLive (W.seen world.old) c }
+    requires live { IsLive (W.seen world.old) context }
     requires named { HasItsContexts (W.seen world.old) }
     requires may { MayName (W.seen world.old) job }
     requires files { HasItsFiles io.old (W.seen world.old) }
-    ensures done { IfOk result (λ answer. spec.lw_syscall (W.seen world.old) io.old c job regs.now
+    ensures done { IfOk result (λ answer. spec.lw_syscall (W.seen world.old) io.old context job regs.now
         ≡ record { answer = answer; world = W.seen world.new; io = io.new }) }
     ensures err { OnErr result (W.seen world.new ≡ W.seen world.old) }
     ensures err_io { OnErr result (io.new ≡ io.old) }
     ensures ample { W.roomy ≡ true → IsOk result }
 {
-    let targets = match chosen(world, c, regs) {
+    let targets = match chosen(world, context, regs) {
         Ok(targets) => targets,
         Err(refusal) => return Ok(CallAnswer::Refused(refusal)),
     };
@@ -44,19 +44,19 @@ pub fn lw_syscall<W: World>(
 
 /// The contexts of the inner call, or the first refusal before it is looked at.
 #[tactic(auto, unfolding(crate::specs::Syscall::refusals))]
-fn chosen<W: World>(world: &W, c: Name, regs: &Regs) -> Result<CallContexts, Refusal>
-    requires live { IsLive (W.seen world.now) c }
+fn chosen<W: World>(world: &W, context: Name, regs: &Regs) -> Result<CallContexts, Refusal>
+    requires live { IsLive (W.seen world.now) context }
     requires named { HasItsContexts (W.seen world.now) }
     ensures refused { IfErr result (λ refusal.
-        first_refusal (spec.refusals (W.seen world.now) c regs.now) ≡ Some refusal) }
+        first_refusal (spec.refusals (W.seen world.now) context regs.now) ≡ Some refusal) }
     ensures passed { IfOk result (λ targets.
-        first_refusal (spec.refusals (W.seen world.now) c regs.now) ≡ None) }
-    ensures targets { IfOk result (λ targets. targets ≡ spec.targets_of (W.seen world.now) c regs.now) }
+        first_refusal (spec.refusals (W.seen world.now) context regs.now) ≡ None) }
+    ensures targets { IfOk result (λ targets. targets ≡ spec.targets_of (W.seen world.now) context regs.now) }
     ensures memory { IfOk result (λ targets. IsLive (W.seen world.now) targets.memory) }
     ensures slots { IfOk result (λ targets. IsLive (W.seen world.now) targets.slots) }
     ensures cred { IfOk result (λ targets. IsLive (W.seen world.now) targets.cred) }
 {
-    let (d, keys) = context_for(world, c, regs.r[1])?;
+    let (d, keys) = context_for(world, context, regs.r[1])?;
     let Some(mask) = Mask::of(regs.r[2]) else {
         return Err(Refusal::BadMode);
     };
@@ -66,7 +66,7 @@ fn chosen<W: World>(world: &W, c: Name, regs: &Regs) -> Result<CallContexts, Ref
     if regs.r[3] < 1 || regs.r[3] > 9 {
         return Err(Refusal::BadCall);
     }
-    let taken = |kind| if mask.chooses(kind) { d } else { c };
+    let taken = |kind| if mask.chooses(kind) { d } else { context };
     Ok(CallContexts {
         memory: taken(Kind::Page),
         slots: taken(Kind::Slot),

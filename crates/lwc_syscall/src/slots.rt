@@ -39,12 +39,12 @@ pub fn open<W: World>(
 }
 
 /// Empties a slot.
-pub fn close<W: World>(world: &mut W, slots: Name, n: u64) -> CallAnswer
+pub fn close<W: World>(world: &mut W, slots: Name, number: u64) -> CallAnswer
     requires { IsLive (W.seen world.old) slots }
-    ensures { (io : Channels) → spec.closing (W.seen world.old) io slots n
+    ensures { (io : Channels) → spec.closing (W.seen world.old) io slots number
         ≡ record { answer = result; world = W.seen world.new; io = io } }
 {
-    let Some((slot, _)) = filled_slot(world, slots, n) else {
+    let Some((slot, _)) = filled_slot(world, slots, number) else {
         return CallAnswer::Refused(Refusal::BadFd);
     };
     world.set_slot(slots, slot, Lent::Empty);
@@ -53,12 +53,12 @@ pub fn close<W: World>(world: &mut W, slots: Name, n: u64) -> CallAnswer
 
 /// Copies what is in a slot into the lowest empty one.
 #[tactic(auto, unfolding(guest_call::specs::Guest::descriptor_for))]
-pub fn dup<W: World>(world: &mut W, slots: Name, n: u64) -> CallAnswer
+pub fn dup<W: World>(world: &mut W, slots: Name, number: u64) -> CallAnswer
     requires { IsLive (W.seen world.old) slots }
-    ensures { (io : Channels) → spec.copying (W.seen world.old) io slots n
+    ensures { (io : Channels) → spec.copying (W.seen world.old) io slots number
         ≡ record { answer = result; world = W.seen world.new; io = io } }
 {
-    let Some((from, _)) = filled_slot(world, slots, n) else {
+    let Some((from, _)) = filled_slot(world, slots, number) else {
         return CallAnswer::Refused(Refusal::BadFd);
     };
     let Some(to) = world.lowest_empty(slots) else {
@@ -73,18 +73,19 @@ pub fn dup<W: World>(world: &mut W, slots: Name, n: u64) -> CallAnswer
 pub(crate) fn filled_slot<W: World>(
     world: &W,
     slots: Name,
-    n: u64,
+    number: u64,
 ) -> Option<(SlotNumber, Lent<'_>)>
     requires { IsLive (W.seen world.now) slots }
-    ensures empty { is_none result ≡ is_empty (descriptor_for (W.seen world.now) slots n) }
-    ensures slot { IfSome result (λ found. (found.0 ≡ n) × (n < SLOTS)) }
-    ensures value { IfSome result (λ found. descriptor_of found.1 ≡ descriptor_for (W.seen world.now) slots n) }
+    ensures empty { is_none result ≡ is_empty (descriptor_for (W.seen world.now) slots number) }
+    ensures slot { IfSome result (λ found. (found.0 ≡ number) × (number < SLOTS)) }
+    ensures value { IfSome result
+        (λ found. descriptor_of found.1 ≡ descriptor_for (W.seen world.now) slots number) }
     ensures range { IfSome result (λ found. (io : Channels) → HasItsFiles io (W.seen world.now) →
         IsInRange io (descriptor_of found.1)) }
 {
-    match descriptor_for(world, slots, n) {
+    match descriptor_for(world, slots, number) {
         Lent::Empty => None,
-        value => Some((n as SlotNumber, value)),
+        value => Some((number as SlotNumber, value)),
     }
 }
 

@@ -17,11 +17,11 @@ use snapshot_host::FinishedView;
 use std::alloc::Global;
 
 /// Appends the two lines of a thread (`thread_lines`). The only error is out of memory.
-pub fn thread_lines(out: &mut Vec<u8>, t: u32, view: &ThreadView) -> Result<(), OutOfMemory>
-    ensures ok { OnOk result (out.new.items ≡ out.old.items ++ thread_lines t view.now) }
+pub fn thread_lines(out: &mut Vec<u8>, thread: u32, view: &ThreadView) -> Result<(), OutOfMemory>
+    ensures ok { OnOk result (out.new.items ≡ out.old.items ++ thread_lines thread view.now) }
     ensures err { OnErr result (out.new.items ≡ out.old.items) }
 {
-    let lines = thread_texts(*out.allocator(), t, view)?;
+    let lines = thread_texts(*out.allocator(), thread, view)?;
     append(out, lines.as_str())
 }
 
@@ -74,17 +74,17 @@ pub const MOST_REPLY_LINE_BYTES: usize = 2 * MOST_REPLY_BYTES + 95;
 #[tactic(auto, unfolding(crate::specs::Lines::reply_line))]
 pub fn reply_line(
     out: &mut Vec<u8>,
-    r: u16,
+    request: u16,
     finished: Option<FinishedView<'_>>,
 ) -> Result<(), OutOfMemory>
-    ensures ok { OnOk result (out.new.items ≡ out.old.items ++ reply_line r finished.entry) }
+    ensures ok { OnOk result (out.new.items ≡ out.old.items ++ reply_line request finished.entry) }
     ensures err { OnErr result (out.new.items ≡ out.old.items) }
     ensures room { length out.old.items + MOST_REPLY_LINE_BYTES ≤ vec_capacity out.old → IsOk result }
     ensures capacity { vec_capacity out.old ≤ vec_capacity out.new }
 {
     out.reserve(MOST_REPLY_LINE_BYTES)?;
     append_reserved(out, b"reply ");
-    append_number(out, u64::from(r));
+    append_number(out, u64::from(request));
     append_reserved(out, b" ");
     append_reply(out, finished);
     append_reserved(out, b"\n");
@@ -117,11 +117,11 @@ pub fn tail_lines(
 
 /// The two lines of a thread.
 #[tactic(auto, unfolding(crate::specs::Lines::thread_lines))]
-fn thread_texts(alloc: Global, t: u32, view: &ThreadView) -> Result<String, OutOfMemory>
-    ensures { IfOk result (λ lines. string_bytes lines ≡ thread_lines t view.now) }
+fn thread_texts(alloc: Global, thread: u32, view: &ThreadView) -> Result<String, OutOfMemory>
+    ensures { IfOk result (λ lines. string_bytes lines ≡ thread_lines thread view.now) }
 {
-    let mut lines = thread_text(alloc, t, view.status, view.context, view.regs.pc)?;
-    let registers = registers_text(alloc, t, &view.regs.r)?;
+    let mut lines = thread_text(alloc, thread, view.status, view.context, view.regs.pc)?;
+    let registers = registers_text(alloc, thread, &view.regs.r)?;
     lines.push_str(registers.as_str())?;
     Ok(lines)
 }
@@ -130,24 +130,24 @@ fn thread_texts(alloc: Global, t: u32, view: &ThreadView) -> Result<String, OutO
 #[tactic(auto, unfolding(crate::specs::Lines::thread_line))]
 fn thread_text(
     alloc: Global,
-    t: u32,
+    thread: u32,
     status: ThreadStatus,
     context: Name,
     pc: u64,
 ) -> Result<String, OutOfMemory>
-    ensures { IfOk result (λ line. string_bytes line ≡ thread_line t status context pc) }
+    ensures { IfOk result (λ line. string_bytes line ≡ thread_line thread status context pc) }
 {
     let status = status_text(alloc, status)?;
     let context = name_text(alloc, context)?;
-    Ok(format!(in alloc; "thread {t} {status} ctx {context} pc {pc}\n")?)
+    Ok(format!(in alloc; "thread {thread} {status} ctx {context} pc {pc}\n")?)
 }
 
 /// The line of a thread's registers.
 #[tactic(auto, unfolding(crate::specs::Lines::regs_line))]
-fn registers_text(alloc: Global, t: u32, registers: &[u64; 16]) -> Result<String, OutOfMemory>
-    ensures { IfOk result (λ line. string_bytes line ≡ regs_line t registers.now) }
+fn registers_text(alloc: Global, thread: u32, registers: &[u64; 16]) -> Result<String, OutOfMemory>
+    ensures { IfOk result (λ line. string_bytes line ≡ regs_line thread registers.now) }
 {
-    let mut line = format!(in alloc; "regs {t}")?;
+    let mut line = format!(in alloc; "regs {thread}")?;
     'registers: for value in registers {
         write!(line, " {value}")?;
     }

@@ -18,61 +18,61 @@ use world_face::World;
 /// replies to its requests, what was written to the console, the frames in use and the most that were,
 /// and the steps that were kept. The only error is out of memory.
 #[tactic(auto, unfolding(crate::specs::Report::report_of, kernel_core::specs::Kernel::machine_of))]
-pub fn report<W: World>(alloc: Global, k: &Kernel<W>) -> Result<Vec<u8>, OutOfMemory>
-    ensures exact { IfOk result (λ text. text.items ≡ report_after k.now.inputs k.now.steps) }
+pub fn report<W: World>(alloc: Global, kernel: &Kernel<W>) -> Result<Vec<u8>, OutOfMemory>
+    ensures exact { IfOk result (λ text. text.items ≡ report_after kernel.now.inputs kernel.now.steps) }
 {
-    let mut text = world_text(alloc, k)?;
-    reply_lines(&mut text, k)?;
-    last_lines(&mut text, k)?;
+    let mut text = world_text(alloc, kernel)?;
+    reply_lines(&mut text, kernel)?;
+    last_lines(&mut text, kernel)?;
     Ok(text)
 }
 
 /// The report of a run without the lines of replies. The only error is out of memory.
 #[tactic(auto, unfolding(crate::specs::Report::rest_of, kernel_core::specs::Kernel::machine_of))]
-pub fn rest_of_report<W: World>(alloc: Global, k: &Kernel<W>) -> Result<Vec<u8>, OutOfMemory>
-    ensures exact { IfOk result (λ text. text.items ≡ rest_after k.now.inputs k.now.steps) }
+pub fn rest_of_report<W: World>(alloc: Global, kernel: &Kernel<W>) -> Result<Vec<u8>, OutOfMemory>
+    ensures exact { IfOk result (λ text. text.items ≡ rest_after kernel.now.inputs kernel.now.steps) }
 {
-    let mut text = world_text(alloc, k)?;
-    last_lines(&mut text, k)?;
+    let mut text = world_text(alloc, kernel)?;
+    last_lines(&mut text, kernel)?;
     Ok(text)
 }
 
 /// The lines of all threads and contexts, and that of the groups.
-fn world_text<W: World>(alloc: Global, k: &Kernel<W>) -> Result<Vec<u8>, OutOfMemory>
-    ensures { IfOk result (λ text. text.items ≡ threads_text (machine_of k.now)
-        ++ contexts_text (machine_of k.now).environment.world
-        ++ groups_line (fm.len (machine_of k.now).environment.world.groups)) }
+fn world_text<W: World>(alloc: Global, kernel: &Kernel<W>) -> Result<Vec<u8>, OutOfMemory>
+    ensures { IfOk result (λ text. text.items ≡ threads_text (machine_of kernel.now)
+        ++ contexts_text (machine_of kernel.now).environment.world
+        ++ groups_line (fm.len (machine_of kernel.now).environment.world.groups)) }
 {
-    let world = k.world();
-    let mut text = threads_text(alloc, k)?;
+    let world = kernel.world();
+    let mut text = threads_text(alloc, kernel)?;
     context_lines(&mut text, world)?;
     groups_line(&mut text, world.group_count())?;
     Ok(text)
 }
 
 /// Appends the last five lines.
-fn last_lines<W: World>(out: &mut Vec<u8>, k: &Kernel<W>) -> Result<(), OutOfMemory>
+fn last_lines<W: World>(out: &mut Vec<u8>, kernel: &Kernel<W>) -> Result<(), OutOfMemory>
     ensures { OnOk result (out.new.items ≡ out.old.items
-        ++ tail_lines (machine_of k.now).environment.channels.console (frames_of (machine_of k.now))
-        (peak (start k.now.inputs) k.now.steps) k.now.steps) }
+        ++ tail_lines (machine_of kernel.now).environment.channels.console (frames_of (machine_of kernel.now))
+        (peak (start kernel.now.inputs) kernel.now.steps) kernel.now.steps) }
 {
     tail_lines(
         out,
-        k.channels().console(),
-        k.world().used(),
-        k.peak(),
-        k.schedule(),
+        kernel.channels().console(),
+        kernel.world().used(),
+        kernel.peak(),
+        kernel.schedule(),
     )
 }
 
 /// The lines of all threads.
 #[tactic(auto, using(crate::proofs::Machines::more_threads), unfolding(crate::specs::Report::threads_text))]
-fn threads_text<W: World>(alloc: Global, k: &Kernel<W>) -> Result<Vec<u8>, OutOfMemory>
-    ensures { IfOk result (λ text. text.items ≡ threads_text (machine_of k.now)) }
+fn threads_text<W: World>(alloc: Global, kernel: &Kernel<W>) -> Result<Vec<u8>, OutOfMemory>
+    ensures { IfOk result (λ text. text.items ≡ threads_text (machine_of kernel.now)) }
 {
     let mut text = Vec::new(alloc);
     'threads: for t in 0..k.thread_count() {
-        thread_lines(&mut text, t, &k.thread(t))?;
+        thread_lines(&mut text, t, &kernel.thread(t))?;
     }
     Ok(text)
 }
@@ -108,11 +108,11 @@ fn each_context_line<W: World>(out: &mut Vec<u8>, world: &W) -> Result<(), OutOf
 
 /// Appends the lines of the replies to all requests.
 #[tactic(auto, using(crate::proofs::Machines::more_replies), unfolding(crate::specs::Report::replies_text))]
-fn reply_lines<W: World>(out: &mut Vec<u8>, k: &Kernel<W>) -> Result<(), OutOfMemory>
-    ensures { OnOk result (out.new.items ≡ out.old.items ++ replies_text (machine_of k.now)) }
+fn reply_lines<W: World>(out: &mut Vec<u8>, kernel: &Kernel<W>) -> Result<(), OutOfMemory>
+    ensures { OnOk result (out.new.items ≡ out.old.items ++ replies_text (machine_of kernel.now)) }
 {
     'requests: for r in 0..k.request_count() as u16 {
-        reply_line(out, r, k.reply(r))?;
+        reply_line(out, r, kernel.reply(r))?;
     }
     Ok(())
 }

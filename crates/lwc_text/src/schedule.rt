@@ -62,12 +62,12 @@ impl Schedule {
     }
 
     /// The thread that makes step `i`.
-    pub fn get(&self, i: usize) -> &u8
-        requires { i < length self.now }
-        ensures step { slice_get self.now i ≡ Some result.now }
+    pub fn get(&self, index: usize) -> &u8
+        requires { index < length self.now }
+        ensures step { slice_get self.now index ≡ Some result.now }
         ensures thread { result.now < MOST_THREADS }
     {
-        &self.steps[i]
+        &self.steps[index]
     }
 }
 

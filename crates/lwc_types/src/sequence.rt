@@ -51,10 +51,10 @@ impl<T> Sequence<T> {
     }
 
     /// The value at a place.
-    pub fn get(&self, i: usize) -> &T
-        requires { i < length self.now }
-        ensures { slice_get self.now i ≡ Some result.now }
+    pub fn get(&self, index: usize) -> &T
+        requires { index < length self.now }
+        ensures { slice_get self.now index ≡ Some result.now }
     {
-        &self.items[i]
+        &self.items[index]
     }
 }

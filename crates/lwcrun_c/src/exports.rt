@@ -64,7 +64,8 @@ pub extern "C" fn lwcrun_c_line(
     answer: &mut Answer<'_>,
 ) -> u32
     ensures answered { result < 8 → result ≢ 1
-        → IsAnswer (line_of words.now) (map named files.now) result answer.new.output.now answer.new.message.now }
+        → IsAnswer (line_of words.now)
+        (map named files.now) result answer.new.output.now answer.new.message.now }
     ensures statuses { result ≤ 9 }
     ensures threads { result ≡ 8 → IfSome (command_of (line_of words.now)) RunsThreads }
     ensures text { result ≡ 9 → AreText words.now files.now → ⊥ }

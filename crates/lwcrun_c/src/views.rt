@@ -31,15 +31,16 @@ pub fn totals_of_run<W: World>(alloc: Global, run: &Run<'_>) -> Result<Totals, R
 pub fn thread_of_run<W: World>(
     alloc: Global,
     run: &Run<'_>,
-    t: u32,
+    thread_number: u32,
 ) -> Result<ThreadState, RunError>
     ensures state { IfOk result (λ state.
-        Sees run.now (λ k. option_map state_of (view_of (machine_of k) t) ≡ Some state)) }
-    ensures missing { result ≡ Err RunError.Missing → Sees run.now (λ k. view_of (machine_of k) t ≡ None) }
+        Sees run.now (λ k. option_map state_of (view_of (machine_of k) thread_number) ≡ Some state)) }
+    ensures missing { result ≡ Err RunError.Missing
+        → Sees run.now (λ k. view_of (machine_of k) thread_number ≡ None) }
     ensures refused { IfErr result (λ error. error ≢ RunError.Missing → MayRefuse run.now error) }
 {
     let kernel = run.kernel::<W>(alloc)?;
-    thread(&kernel, t)
+    thread(&kernel, thread_number)
 }
 
 /// Copies the bytes of a page of a context of a run.
@@ -75,15 +76,16 @@ pub fn slot_of_run<W: World>(
     alloc: Global,
     run: &Run<'_>,
     name: Name,
-    n: u32,
+    slot_number: u32,
 ) -> Result<SlotState, RunError>
     ensures state { IfOk result (λ state.
-        Sees run.now (λ k. option_map slot_of (slot_in (world_of k) name n) ≡ Some state)) }
-    ensures missing { result ≡ Err RunError.Missing → Sees run.now (λ k. slot_in (world_of k) name n ≡ None) }
+        Sees run.now (λ k. option_map slot_of (slot_in (world_of k) name slot_number) ≡ Some state)) }
+    ensures missing { result ≡ Err RunError.Missing
+        → Sees run.now (λ k. slot_in (world_of k) name slot_number ≡ None) }
     ensures refused { IfErr result (λ error. error ≢ RunError.Missing → MayRefuse run.now error) }
 {
     let kernel = run.kernel::<W>(alloc)?;
-    slot(&kernel, name, n)
+    slot(&kernel, name, slot_number)
 }
 
 /// The totals.
@@ -106,15 +108,16 @@ fn totals<W: World>(kernel: &Kernel<W>) -> Totals
 ///
 /// `Missing` where there is none.
 #[tactic(auto, using(lwc_debug::proofs::Living::no_view))]
-fn thread<W: World>(kernel: &Kernel<W>, t: u32) -> Result<ThreadState, RunError>
-    ensures state { IfOk result (λ state. option_map state_of (view_of (machine_of kernel.now) t) ≡ Some state) }
+fn thread<W: World>(kernel: &Kernel<W>, thread_number: u32) -> Result<ThreadState, RunError>
+    ensures state { IfOk result
+        (λ state. option_map state_of (view_of (machine_of kernel.now) thread_number) ≡ Some state) }
     ensures missing { IfErr result (λ error.
-        (error ≡ RunError.Missing) × (view_of (machine_of kernel.now) t ≡ None)) }
+        (error ≡ RunError.Missing) × (view_of (machine_of kernel.now) thread_number ≡ None)) }
 {
-    if t >= kernel.thread_count() {
+    if thread_number >= kernel.thread_count() {
         return Err(RunError::Missing);
     }
-    Ok(ThreadState::of(&kernel.thread(t)))
+    Ok(ThreadState::of(&kernel.thread(thread_number)))
 }
 
 /// Copies the bytes of a page of the context of this name.
@@ -154,14 +157,15 @@ fn copy_page<W: World>(
 /// # Errors
 ///
 /// `Missing` where the context is not live, or a context has no slot of this number.
-fn slot<W: World>(kernel: &Kernel<W>, name: Name, n: u32) -> Result<SlotState, RunError>
-    ensures state { IfOk result (λ state. option_map slot_of (slot_in (world_of kernel.now) name n) ≡ Some state) }
+fn slot<W: World>(kernel: &Kernel<W>, name: Name, slot_number: u32) -> Result<SlotState, RunError>
+    ensures state { IfOk result
+        (λ state. option_map slot_of (slot_in (world_of kernel.now) name slot_number) ≡ Some state) }
     ensures missing { IfErr result (λ error.
-        (error ≡ RunError.Missing) × (slot_in (world_of kernel.now) name n ≡ None)) }
+        (error ≡ RunError.Missing) × (slot_in (world_of kernel.now) name slot_number ≡ None)) }
 {
     let world = kernel.world();
-    if !is_live(world, name) || n >= u32::from(SLOTS) {
+    if !is_live(world, name) || slot_number >= u32::from(SLOTS) {
         return Err(RunError::Missing);
     }
-    Ok(SlotState::of(world.slot(name, n as u8)))
+    Ok(SlotState::of(world.slot(name, slot_number as u8)))
 }

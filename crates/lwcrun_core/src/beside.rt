@@ -28,7 +28,8 @@ pub fn fitting_vault_in<'a, F: Files>(
     frames: u32,
 ) -> Result<Vault, Ending<'a>>
     requires { IsImage image.now }
-    ensures reads { ReadsBy (fitting_vault_for frames image.now) (F.seen files.old) (F.seen files.new) name.now
+    ensures reads { ReadsBy (fitting_vault_for frames image.now) (F.seen files.old)
+        (F.seen files.new) name.now
         (found (λ vault. vault) result) }
     ensures valid { IfOk result (IsVault (length image.now.text) (pages_of image.now.form)) }
     ensures free { OnOk result (All (λ s. s.slot ≢ VAULT_SLOT) image.now.slots) }

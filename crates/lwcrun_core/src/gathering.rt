@@ -41,10 +41,12 @@ pub fn replay_files<'a, F: Files>(
 ) -> Result<(Image, Schedule, Requests), Ending<'a>>
     requires settings { AreReplaySettings requests settings.now }
     ensures gathers { (work : Inputs → List ℕ → Work) → Gathers (F.seen files.old) (F.seen files.new)
-        (plan_by (replay_task work image.now schedule.now (option_map (λ s. s.now) requests.entry) settings.now))
+        (plan_by (replay_task work image.now schedule.now
+        (option_map (λ s. s.now) requests.entry) settings.now))
         (found (λ read. work (inputs_of read.0 read.2 settings.now) read.1) result) }
     ensures fetches { (work : Inputs → List ℕ → Work) → Fetched (AreFetchesOf (F.seen files.old).contents
-        (plan_by (replay_task work image.now schedule.now (option_map (λ s. s.now) requests.entry) settings.now)))
+        (plan_by (replay_task work image.now schedule.now
+        (option_map (λ s. s.now) requests.entry) settings.now)))
         (F.seen files.old).fetches (F.seen files.new).fetches }
     ensures image { IfOk result (λ read. IsImage read.0) }
     ensures fits { IfOk result (λ read. length read.0.pages ≤ settings.now.frames) }
@@ -68,11 +70,13 @@ fn named_requests<'a, F: Files>(
 ) -> Result<Requests, Ending<'a>>
     ensures gathers { (settings : Settings) (work : Parts → Work) (image : Image) (steps : List ℕ)
         → Gathers (F.seen files.old) (F.seen files.new)
-        (read_files (requests_named (option_map (λ s. s.now) name.entry)) settings work (scheduled image steps))
+        (read_files (requests_named (option_map (λ s. s.now) name.entry)) settings work
+        (scheduled image steps))
         (found (λ asked. work (record (scheduled image steps) { requests = asked })) result) }
     ensures fetches { (settings : Settings) (work : Parts → Work) (image : Image) (steps : List ℕ)
         → Fetched (AreFetchesOf (F.seen files.old).contents
-        (read_files (requests_named (option_map (λ s. s.now) name.entry)) settings work (scheduled image steps)))
+        (read_files (requests_named (option_map (λ s. s.now) name.entry)) settings work
+        (scheduled image steps)))
         (F.seen files.old).fetches (F.seen files.new).fetches }
     ensures limits { IfOk result AreRequests }
     ensures none { option_map (λ s. s.now) name.entry ≡ None → IfOk result (λ asked. asked ≡ []) }

@@ -158,7 +158,8 @@ fn history_text<R: Threads + Wait + Sync, G: Gate>(
 ) -> Result<Vec<u8>, OutOfMemory>
     requires can { CanOpen (inputs_of image.now requests settings.now) }
     requires few { work (start (inputs_of image.now requests settings.now)) ≤ MOST_STEPS }
-    ensures { IfOk result (λ text. IsText (works.Running (inputs_of image.now requests settings.now)) text.items) }
+    ensures { IfOk result
+        (λ text. IsText (works.Running (inputs_of image.now requests settings.now)) text.items) }
 {
     match open_process(alloc, image, requests, settings) {
         Ok((process, passes)) => report_of(rt, alloc, gate, process, passes),

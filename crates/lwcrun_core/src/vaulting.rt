@@ -67,7 +67,8 @@ fn vault_text(
     requires threads { All (λ t. t < threads_for image.now settings.now.job) schedule.now }
     requires short { length schedule.now ≤ MOST_STEPS }
     ensures { IfOk result (λ text.
-        text.items ≡ report_of_schedule (beside (inputs_of image.now [] settings.now) vault.now) schedule.now) }
+        text.items ≡ report_of_schedule
+        (beside (inputs_of image.now [] settings.now) vault.now) schedule.now) }
 {
     match vault_replay::<LazyWorld>(alloc, image, vault, schedule, settings) {
         Ok(text) => Ok(text),

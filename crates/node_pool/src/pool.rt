@@ -74,7 +74,8 @@ impl NodePool {
         ensures full_same { IfNone result (self.new.all ≡ self.old.all) }
         ensures inside { IfSome result (λ node. node.n < length self.old.all) }
         ensures was_free { IfSome result (λ node. count_of self.old.all node.n ≡ 0) }
-        ensures taken { IfSome result (λ node. self.new.all ≡ slice_set self.old.all node.n (empty_node 1 level)) }
+        ensures taken { IfSome result
+            (λ node. self.new.all ≡ slice_set self.old.all node.n (empty_node 1 level)) }
         ensures one_step { self.new.steps ≡ next_step self.old.steps }
     {
         self.steps = self.steps.saturating_add(1);
@@ -117,14 +118,14 @@ impl NodePool {
     }
 
     /// One entry of a node.
-    pub fn entry(&self, node: NodeNo, i: usize) -> u32
+    pub fn entry(&self, node: NodeNo, index: usize) -> u32
         requires node { node.n < length self.now.all }
-        requires entry { i < NODE_ENTRIES }
-        ensures { result ≡ entry_of self.now.all node.n i }
+        requires entry { index < NODE_ENTRIES }
+        ensures { result ≡ entry_of self.now.all node.n index }
     {
         let n = node.n as usize;
         if n < self.contents.len() {
-            self.contents[n].entries[i]
+            self.contents[n].entries[index]
         } else {
             0
         }
@@ -139,13 +140,13 @@ impl NodePool {
     }
 
     /// Writes one entry of a node that is held once.
-    pub fn set_entry(&mut self, node: NodeNo, i: usize, value: u32)
+    pub fn set_entry(&mut self, node: NodeNo, index: usize, value: u32)
         requires once { count_of self.old.all node.n ≡ 1 }
-        requires entry { i < NODE_ENTRIES }
-        ensures entered { self.new.all ≡ enter self.old.all node.n i value }
+        requires entry { index < NODE_ENTRIES }
+        ensures entered { self.new.all ≡ enter self.old.all node.n index value }
         ensures no_step { self.new.steps ≡ self.old.steps }
     {
-        self.contents[node.n as usize].entries[i] = value;
+        self.contents[node.n as usize].entries[index] = value;
     }
 
     /// How often a node is held.

@@ -37,12 +37,12 @@ impl Store {
     /// Lets an entry of an owned node be a link, or a cell, that is held once more for it. The one that was
     /// there is given up.
     #[cycle(parts)]
-    pub(crate) fn put(&mut self, node: NodeNo, i: usize, link: u32, level: u8)
+    pub(crate) fn put(&mut self, node: NodeNo, index: usize, link: u32, level: u8)
         requires low { LEAF_LEVEL ≤ level }
         requires sound { IsSoundTo level self.old.nodes.all self.old.frames }
         requires own { IsOwned self.old.nodes.all level node.n }
-        requires place { i < NODE_ENTRIES }
-        requires narrow { level ≡ ROOT_LEVEL → ROOT_ENTRIES ≤ i → link ≡ 0 }
+        requires place { index < NODE_ENTRIES }
+        requires narrow { level ≡ ROOT_LEVEL → ROOT_ENTRIES ≤ index → link ≡ 0 }
         requires cell { level ≡ LEAF_LEVEL → (f : ℕ) → link ≡ f + 2 → 0 < frame_count self.old.frames f }
         requires held { LEAF_LEVEL < level → (n : ℕ) → link ≡ n + 1 →
             (level_of self.old.nodes.all n ≡ level - 1) × (0 < count_of self.old.nodes.all n) }
@@ -50,36 +50,36 @@ impl Store {
         ensures own { IsOwned self.new.nodes.all level node.n }
         ensures moves { Moves level self.old.nodes.all self.new.nodes.all self.old.frames self.new.frames
             (is_root (node.n + 1)) (is_root (node.n + 1)) }
-        ensures here { entry_of self.new.nodes.all node.n i ≡ link }
-        ensures others { (k : ℕ) → k ≢ i
+        ensures here { entry_of self.new.nodes.all node.n index ≡ link }
+        ensures others { (k : ℕ) → k ≢ index
             → entry_of self.new.nodes.all node.n k ≡ entry_of self.old.nodes.all node.n k }
-        ensures there { (k q : ℕ) → k ≢ i
+        ensures there { (k q : ℕ) → k ≢ index
             → entry_below self.new.nodes.all (level - 1) (entry_of self.new.nodes.all node.n k) q
             ≡ entry_below self.old.nodes.all (level - 1) (entry_of self.old.nodes.all node.n k) q }
         ensures peers { (x : ℕ) → x ≢ node.n → 0 < count_of self.old.nodes.all x
             → level ≤ level_of self.old.nodes.all x
             → node_at self.new.nodes.all x ≡ node_at self.old.nodes.all x }
         ensures free { free_of self.old.nodes.all ≤ free_of self.new.nodes.all }
-        ensures grows { entry_of self.old.nodes.all node.n i ≡ 0 → (f : ℕ) →
+        ensures grows { entry_of self.old.nodes.all node.n index ≡ 0 → (f : ℕ) →
             frame_count self.old.frames f ≤ frame_count self.new.frames f }
         ensures cost { self.new.nodes.steps ≤ self.old.nodes.steps + (1 + most_nodes (level - 1)) }
         ensures lone { KeepsLone self.old.nodes.all self.new.nodes.all (is_root (node.n + 1))
             (λ m. (LEAF_LEVEL < level) × leads_to link m) }
-        ensures rest { (k from to : ℕ) → k ≢ i
+        ensures rest { (k from to : ℕ) → k ≢ index
             → ((m : ℕ) → IsWay (λ x. count_of self.old.nodes.all x ≡ 1) self.old.nodes.all (level - 1)
             (entry_of self.old.nodes.all node.n k) m → leads_to link m → ⊥)
             → range_below self.new.nodes.all (level - 1) (entry_of self.new.nodes.all node.n k) from to
             ≤ range_below self.old.nodes.all (level - 1) (entry_of self.old.nodes.all node.n k) from to }
         ensures cost_leaf { level ≡ LEAF_LEVEL → self.new.nodes.steps ≡ self.old.nodes.steps }
         ensures cost_none { link ≡ 0 → self.new.nodes.steps ≤ self.old.nodes.steps + most_nodes (level - 1) }
-        ensures cost_absent { entry_of self.old.nodes.all node.n i ≡ 0
+        ensures cost_absent { entry_of self.old.nodes.all node.n index ≡ 0
             → self.new.nodes.steps ≤ self.old.nodes.steps + 1 }
     {
         if level == LEAF_LEVEL {
-            self.write(node, i, cell_from(link));
+            self.write(node, index, cell_from(link));
         } else {
             self.hold_link(link, level - 1);
-            let old = self.swap(node, i, link, level);
+            let old = self.swap(node, index, link, level);
             self.release(old, level - 1);
         }
     }

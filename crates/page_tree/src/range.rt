@@ -17,15 +17,15 @@ use node_pool::{NODE_ENTRIES, NodeNo};
 
 impl Store {
     /// An entry of what a link leads to.
-    fn link_at(&self, link: u32, i: usize) -> u32
+    fn link_at(&self, link: u32, index: usize) -> u32
         requires inside { (n : ℕ) → link ≡ n + 1 → n < length self.now.nodes.all }
-        requires place { i < NODE_ENTRIES }
-        ensures { result ≡ link_of self.now.nodes.all link i }
+        requires place { index < NODE_ENTRIES }
+        ensures { result ≡ link_of self.now.nodes.all link index }
     {
         if link == 0 {
             0
         } else {
-            self.nodes.entry(node_of(link), i)
+            self.nodes.entry(node_of(link), index)
         }
     }
 
@@ -137,7 +137,7 @@ impl Store {
     fn share_entry(
         &mut self,
         node: NodeNo,
-        i: usize,
+        index: usize,
         level: u8,
         first: usize,
         end: usize,
@@ -147,68 +147,70 @@ impl Store {
         requires high { level ≤ ROOT_LEVEL }
         requires sound { IsSoundTo level self.old.nodes.all self.old.frames }
         requires own { IsOwned self.old.nodes.all level node.n }
-        requires place { i < NODE_ENTRIES }
-        requires narrow { level ≡ ROOT_LEVEL → i < ROOT_ENTRIES }
+        requires place { index < NODE_ENTRIES }
+        requires narrow { level ≡ ROOT_LEVEL → index < ROOT_ENTRIES }
         requires order { first < end }
         requires page { end ≤ NODE_ENTRIES ^ (level - 1) }
         requires cell { level ≡ LEAF_LEVEL → (f : ℕ) → link ≡ f + 2 → 0 < frame_count self.old.frames f }
         requires beside { LEAF_LEVEL < level → IsBeside self.old.nodes.all (is_root (node.n + 1))
             (level - 1) link }
         requires free { part_below self.old.nodes.all (level - 1)
-            (entry_of self.old.nodes.all node.n i) first end ≤ free_of self.old.nodes.all }
+            (entry_of self.old.nodes.all node.n index) first end ≤ free_of self.old.nodes.all }
         ensures sound { IsSoundTo level self.new.nodes.all self.new.frames }
         ensures own { IsOwned self.new.nodes.all level node.n }
         ensures moves { Moves level self.old.nodes.all self.new.nodes.all self.old.frames self.new.frames
             (is_root (node.n + 1)) (is_root (node.n + 1)) }
         ensures within { (q : ℕ) → first ≤ q → q < end →
-            entry_below self.new.nodes.all (level - 1) (entry_of self.new.nodes.all node.n i) q
+            entry_below self.new.nodes.all (level - 1) (entry_of self.new.nodes.all node.n index) q
             ≡ entry_below self.old.nodes.all (level - 1) link q }
         ensures outside { (q : ℕ) → q < NODE_ENTRIES ^ (level - 1) → (q < first) ⊎ (end ≤ q) →
-            entry_below self.new.nodes.all (level - 1) (entry_of self.new.nodes.all node.n i) q
-            ≡ entry_below self.old.nodes.all (level - 1) (entry_of self.old.nodes.all node.n i) q }
-        ensures there { (k q : ℕ) → k ≢ i
+            entry_below self.new.nodes.all (level - 1) (entry_of self.new.nodes.all node.n index) q
+            ≡ entry_below self.old.nodes.all (level - 1) (entry_of self.old.nodes.all node.n index) q }
+        ensures there { (k q : ℕ) → k ≢ index
             → entry_below self.new.nodes.all (level - 1) (entry_of self.new.nodes.all node.n k) q
             ≡ entry_below self.old.nodes.all (level - 1) (entry_of self.old.nodes.all node.n k) q }
-        ensures others { (k : ℕ) → k ≢ i
+        ensures others { (k : ℕ) → k ≢ index
             → entry_of self.new.nodes.all node.n k ≡ entry_of self.old.nodes.all node.n k }
         ensures free { free_of self.old.nodes.all ≤ free_of self.new.nodes.all
-            + part_below self.old.nodes.all (level - 1) (entry_of self.old.nodes.all node.n i) first end }
+            + part_below self.old.nodes.all (level - 1) (entry_of self.old.nodes.all node.n index) first end }
         ensures lone { KeepsLone self.old.nodes.all self.new.nodes.all (is_root (node.n + 1))
             (λ m. (LEAF_LEVEL < level) × IsBelow self.old.nodes.all (level - 1) link m) }
-        ensures rest { (k from to : ℕ) → k ≢ i
+        ensures rest { (k from to : ℕ) → k ≢ index
             → range_below self.new.nodes.all (level - 1) (entry_of self.new.nodes.all node.n k) from to
             ≤ range_below self.old.nodes.all (level - 1) (entry_of self.old.nodes.all node.n k) from to }
         ensures cost { self.new.nodes.steps
             ≤ self.old.nodes.steps + (entry_steps level + share_steps (level - 1)) }
         ensures cost_whole { first ≡ 0 → end ≡ NODE_ENTRIES ^ (level - 1)
             → self.new.nodes.steps ≤ self.old.nodes.steps + entry_steps level }
-        ensures open { IsOpenBelow self.old.nodes.all (level - 1) (entry_of self.old.nodes.all node.n i) first
+        ensures open { IsOpenBelow self.old.nodes.all (level - 1)
+            (entry_of self.old.nodes.all node.n index) first
             → end ≢ NODE_ENTRIES ^ (level - 1)
-            → IsOpenBelow self.new.nodes.all (level - 1) (entry_of self.new.nodes.all node.n i) end }
-        ensures edge { IsOpenBelow self.old.nodes.all (level - 1) (entry_of self.old.nodes.all node.n i) first
+            → IsOpenBelow self.new.nodes.all (level - 1) (entry_of self.new.nodes.all node.n index) end }
+        ensures edge { IsOpenBelow self.old.nodes.all (level - 1)
+            (entry_of self.old.nodes.all node.n index) first
             → end ≢ NODE_ENTRIES ^ (level - 1)
-            → edge_below self.new.nodes.all (level - 1) (entry_of self.new.nodes.all node.n i) end ≡ 0 }
+            → edge_below self.new.nodes.all (level - 1) (entry_of self.new.nodes.all node.n index) end ≡ 0 }
         ensures free_open { IsOpenBelow self.old.nodes.all (level - 1)
-            (entry_of self.old.nodes.all node.n i) first
+            (entry_of self.old.nodes.all node.n index) first
             → free_of self.old.nodes.all ≤ free_of self.new.nodes.all
-            + open_cuts self.old.nodes.all (level - 1) (entry_of self.old.nodes.all node.n i) first end }
+            + open_cuts self.old.nodes.all (level - 1) (entry_of self.old.nodes.all node.n index) first end }
         ensures free_whole { first ≡ 0 → end ≡ NODE_ENTRIES ^ (level - 1)
             → free_of self.old.nodes.all ≤ free_of self.new.nodes.all }
         ensures cost_open { IsOpenBelow self.old.nodes.all (level - 1)
-            (entry_of self.old.nodes.all node.n i) first
+            (entry_of self.old.nodes.all node.n index) first
             → self.new.nodes.steps + passed_below (level - 1) first
             ≤ self.old.nodes.steps + passed_below (level - 1) end + open_steps (level - 1) }
         ensures cost_open_whole { IsOpenBelow self.old.nodes.all (level - 1)
-            (entry_of self.old.nodes.all node.n i) first → first ≡ 0 → end ≡ NODE_ENTRIES ^ (level - 1)
+            (entry_of self.old.nodes.all node.n index) first → first ≡ 0 → end ≡ NODE_ENTRIES ^ (level - 1)
             → self.new.nodes.steps ≤ self.old.nodes.steps + 1 }
         ensures cost_leaf { level ≡ LEAF_LEVEL → self.new.nodes.steps ≡ self.old.nodes.steps }
     {
         if first == 0 && end == width(level) {
-            self.put(node, i, link, level);
+            self.put(node, index, link, level);
         } else {
-            let child = self.swap(node, i, 0, level);
+            let child = self.swap(node, index, 0, level);
             let child = self.share_at(child, level - 1, first, end, link);
-            self.swap(node, i, child.n + 1, level);
+            self.swap(node, index, child.n + 1, level);
         }
     }
 }

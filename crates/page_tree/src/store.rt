@@ -142,48 +142,48 @@ impl Store {
     }
 
     /// Puts a link into an entry of an owned node above the leaves, and takes the one that was there out.
-    pub(crate) fn swap(&mut self, node: NodeNo, i: usize, link: u32, level: u8) -> u32
+    pub(crate) fn swap(&mut self, node: NodeNo, index: usize, link: u32, level: u8) -> u32
         requires inner { LEAF_LEVEL < level }
         requires sound { IsSoundTo (level - 1) self.old.nodes.all self.old.frames }
         requires own { IsOwned self.old.nodes.all level node.n }
-        requires place { i < NODE_ENTRIES }
-        requires narrow { level ≡ ROOT_LEVEL → ROOT_ENTRIES ≤ i → link ≡ 0 }
+        requires place { index < NODE_ENTRIES }
+        requires narrow { level ≡ ROOT_LEVEL → ROOT_ENTRIES ≤ index → link ≡ 0 }
         requires loose { IsLoose self.old.nodes.all (level - 1) link }
-        ensures was { result ≡ entry_of self.old.nodes.all node.n i }
+        ensures was { result ≡ entry_of self.old.nodes.all node.n index }
         ensures sound { IsSoundTo (level - 1) self.new.nodes.all self.new.frames }
         ensures own { IsOwned self.new.nodes.all level node.n }
         ensures loose { IsLoose self.new.nodes.all (level - 1) result }
         ensures moves { Moves level self.old.nodes.all self.new.nodes.all self.old.frames self.new.frames
             (λ n. is_root (node.n + 1) n + is_root link n) (λ n. is_root (node.n + 1) n + is_root result n) }
-        ensures nodes { self.new.nodes.all ≡ enter self.old.nodes.all node.n i link }
+        ensures nodes { self.new.nodes.all ≡ enter self.old.nodes.all node.n index link }
         ensures no_step { self.new.nodes.steps ≡ self.old.nodes.steps }
         ensures free { free_of self.new.nodes.all ≡ free_of self.old.nodes.all }
         ensures frames { self.new.frames ≡ self.old.frames }
     {
-        let old = self.nodes.entry(node, i);
-        self.nodes.set_entry(node, i, link);
+        let old = self.nodes.entry(node, index);
+        self.nodes.set_entry(node, index, link);
         old
     }
 
     /// Writes a cell of an owned leaf: its frame is held once more, and that of the old cell once less.
-    pub(crate) fn write(&mut self, leaf: NodeNo, j: usize, cell: PageCell)
+    pub(crate) fn write(&mut self, leaf: NodeNo, other: usize, cell: PageCell)
         requires sound { IsSoundTo LEAF_LEVEL self.old.nodes.all self.old.frames }
         requires own { IsOwned self.old.nodes.all LEAF_LEVEL leaf.n }
-        requires place { j < NODE_ENTRIES }
+        requires place { other < NODE_ENTRIES }
         requires held { (f : ℕ) → entry_for cell ≡ f + 2 → 0 < frame_count self.old.frames f }
         ensures sound { IsSoundTo LEAF_LEVEL self.new.nodes.all self.new.frames }
         ensures own { IsOwned self.new.nodes.all LEAF_LEVEL leaf.n }
         ensures moves { Moves LEAF_LEVEL self.old.nodes.all self.new.nodes.all self.old.frames self.new.frames
             (is_root (leaf.n + 1)) (is_root (leaf.n + 1)) }
-        ensures nodes { self.new.nodes.all ≡ enter self.old.nodes.all leaf.n j (entry_for cell) }
+        ensures nodes { self.new.nodes.all ≡ enter self.old.nodes.all leaf.n other (entry_for cell) }
         ensures no_step { self.new.nodes.steps ≡ self.old.nodes.steps }
         ensures holds { (f : ℕ)
-            → frame_count self.new.frames f + one_if (entry_of self.old.nodes.all leaf.n j == f + 2)
+            → frame_count self.new.frames f + one_if (entry_of self.old.nodes.all leaf.n other == f + 2)
             ≡ frame_count self.old.frames f + one_if (entry_for cell == f + 2) }
     {
-        let old = cell_from(self.nodes.entry(leaf, j));
+        let old = cell_from(self.nodes.entry(leaf, other));
         hold_cell(&mut self.frames, cell);
-        self.nodes.set_entry(leaf, j, entry_from(cell));
+        self.nodes.set_entry(leaf, other, entry_from(cell));
         drop_cell(&mut self.frames, old);
     }
 }

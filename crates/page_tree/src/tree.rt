@@ -61,50 +61,50 @@ impl PageTree {
     }
 
     /// What the tree has for a page.
-    pub fn get(&self, store: &Store, p: PageNumber) -> PageCell
+    pub fn get(&self, store: &Store, page_number: PageNumber) -> PageCell
         requires sound { IsSound store.now.nodes.all store.now.frames }
         requires tree { IsTree store.now.nodes.all self.now }
-        requires page { p < PAGES }
-        ensures { result ≡ page store.now.nodes.all self.now p }
+        requires page { page_number < PAGES }
+        ensures { result ≡ page store.now.nodes.all self.now page_number }
     {
-        cell_from(store.look_at(self.root, p as usize).0)
+        cell_from(store.look_at(self.root, page_number as usize).0)
     }
 
     /// Whether nobody else holds the nodes on the way to a page, and all of them are there.
-    pub fn is_alone(&self, store: &Store, p: PageNumber) -> bool
+    pub fn is_alone(&self, store: &Store, page: PageNumber) -> bool
         requires sound { IsSound store.now.nodes.all store.now.frames }
         requires tree { IsTree store.now.nodes.all self.now }
-        requires page { p < PAGES }
-        ensures { (result ≡ true) ↔ (page_short store.now.nodes.all self.now p ≡ 0) }
+        requires page { page < PAGES }
+        ensures { (result ≡ true) ↔ (page_short store.now.nodes.all self.now page ≡ 0) }
     {
-        store.look_at(self.root, p as usize).1
+        store.look_at(self.root, page as usize).1
     }
 
     /// What the tree has for a page, and whether nobody else holds the nodes on the way there, and all of
     /// them are there.
     #[inline(always)]
-    pub fn look(&self, store: &Store, p: PageNumber) -> (PageCell, bool)
+    pub fn look(&self, store: &Store, page_number: PageNumber) -> (PageCell, bool)
         requires sound { IsSound store.now.nodes.all store.now.frames }
         requires tree { IsTree store.now.nodes.all self.now }
-        requires page { p < PAGES }
-        ensures cell { result.0 ≡ page store.now.nodes.all self.now p }
-        ensures alone { (result.1 ≡ true) ↔ (page_short store.now.nodes.all self.now p ≡ 0) }
+        requires page { page_number < PAGES }
+        ensures cell { result.0 ≡ page store.now.nodes.all self.now page_number }
+        ensures alone { (result.1 ≡ true) ↔ (page_short store.now.nodes.all self.now page_number ≡ 0) }
     {
-        let (entry, alone) = store.look_at(self.root, p as usize);
+        let (entry, alone) = store.look_at(self.root, page_number as usize);
         (cell_from(entry), alone)
     }
 
     /// Makes a page of the tree that cell. Its frame is held once more, and that of the old cell once less.
-    pub fn set(&mut self, store: &mut Store, p: PageNumber, cell: PageCell)
+    pub fn set(&mut self, store: &mut Store, page_number: PageNumber, cell: PageCell)
         requires sound { IsSound store.old.nodes.all store.old.frames }
         requires tree { IsTree store.old.nodes.all self.old }
-        requires page { p < PAGES }
+        requires page { page_number < PAGES }
         requires held { (f : ℕ) → entry_for cell ≡ f + 2 → 0 < frame_count store.old.frames f }
-        requires free { page_short store.old.nodes.all self.old p ≤ free_of store.old.nodes.all }
+        requires free { page_short store.old.nodes.all self.old page_number ≤ free_of store.old.nodes.all }
 
-        ensures page { page store.new.nodes.all self.new p ≡ cell }
-        ensures alone { page_short store.new.nodes.all self.new p ≡ 0 }
-        ensures pages { (q : ℕ) → q ≢ p → q < PAGES
+        ensures page { page store.new.nodes.all self.new page_number ≡ cell }
+        ensures alone { page_short store.new.nodes.all self.new page_number ≡ 0 }
+        ensures pages { (q : ℕ) → q ≢ page_number → q < PAGES
             → page store.new.nodes.all self.new q ≡ page store.old.nodes.all self.old q }
 
         ensures sound { IsSound store.new.nodes.all store.new.frames }
@@ -113,23 +113,23 @@ impl PageTree {
         ensures maps { KeepsMaps store.old.nodes.all store.new.nodes.all self.old }
         ensures frames { KeepsFrames store.old.nodes.all store.new.nodes.all store.old.frames store.new.frames }
         ensures free { free_of store.old.nodes.all
-            ≤ free_of store.new.nodes.all + page_short store.old.nodes.all self.old p }
-        ensures grows { page store.old.nodes.all self.old p ≡ cell
+            ≤ free_of store.new.nodes.all + page_short store.old.nodes.all self.old page_number }
+        ensures grows { page store.old.nodes.all self.old page_number ≡ cell
             → (f : ℕ) → frame_count store.old.frames f ≤ frame_count store.new.frames f }
         ensures cost { store.new.nodes.steps ≤ store.old.nodes.steps + 54 }
     {
-        let root = store.set_at(self.root, ROOT_LEVEL, p as usize, cell);
+        let root = store.set_at(self.root, ROOT_LEVEL, page_number as usize, cell);
         self.root = root.n + 1;
     }
 
     /// Lets nobody else hold the nodes on the way to a page. No page changes.
-    pub fn unshare_path(&mut self, store: &mut Store, p: PageNumber)
+    pub fn unshare_path(&mut self, store: &mut Store, page_number: PageNumber)
         requires sound { IsSound store.old.nodes.all store.old.frames }
         requires tree { IsTree store.old.nodes.all self.old }
-        requires page { p < PAGES }
-        requires free { page_short store.old.nodes.all self.old p ≤ free_of store.old.nodes.all }
+        requires page { page_number < PAGES }
+        requires free { page_short store.old.nodes.all self.old page_number ≤ free_of store.old.nodes.all }
 
-        ensures alone { page_short store.new.nodes.all self.new p ≡ 0 }
+        ensures alone { page_short store.new.nodes.all self.new page_number ≡ 0 }
         ensures pages { (q : ℕ) → q < PAGES
             → page store.new.nodes.all self.new q ≡ page store.old.nodes.all self.old q }
 
@@ -139,12 +139,12 @@ impl PageTree {
         ensures maps { KeepsMaps store.old.nodes.all store.new.nodes.all self.old }
         ensures frames { KeepsFrames store.old.nodes.all store.new.nodes.all store.old.frames store.new.frames }
         ensures free { free_of store.old.nodes.all
-            ≤ free_of store.new.nodes.all + page_short store.old.nodes.all self.old p }
+            ≤ free_of store.new.nodes.all + page_short store.old.nodes.all self.old page_number }
         ensures grows { (f : ℕ) → frame_count store.old.frames f ≤ frame_count store.new.frames f }
         ensures cost { store.new.nodes.steps ≤ store.old.nodes.steps + 54 }
     {
-        let cell = self.get(store, p);
-        self.set(store, p, cell);
+        let cell = self.get(store, page_number);
+        self.set(store, page_number, cell);
     }
 
     /// Makes the pages of a range those of another tree. Whole nodes are shared, and take no node. A walk

@@ -57,38 +57,38 @@ impl Store {
     }
 
     /// Lets a link at a level, which is given up, have a cell for a page.
-    pub(crate) fn set_at(&mut self, link: u32, level: u8, p: usize, cell: PageCell) -> NodeNo
+    pub(crate) fn set_at(&mut self, link: u32, level: u8, page: usize, cell: PageCell) -> NodeNo
         requires low { LEAF_LEVEL ≤ level }
         requires high { level ≤ ROOT_LEVEL }
         requires sound { IsSoundTo level self.old.nodes.all self.old.frames }
         requires loose { IsLoose self.old.nodes.all level link }
-        requires page { p < NODE_ENTRIES ^ level }
-        requires inside { level ≡ ROOT_LEVEL → p < PAGES }
+        requires page { page < NODE_ENTRIES ^ level }
+        requires inside { level ≡ ROOT_LEVEL → page < PAGES }
         requires held { (f : ℕ) → entry_for cell ≡ f + 2 → 0 < frame_count self.old.frames f }
-        requires free { short_below self.old.nodes.all level link p ≤ free_of self.old.nodes.all }
+        requires free { short_below self.old.nodes.all level link page ≤ free_of self.old.nodes.all }
         ensures sound { IsSoundTo level self.new.nodes.all self.new.frames }
         ensures own { IsOwned self.new.nodes.all level result.n }
         ensures moves { Moves level self.old.nodes.all self.new.nodes.all self.old.frames self.new.frames
             (is_root link) (is_root (result.n + 1)) }
-        ensures page { entry_below self.new.nodes.all level (result.n + 1) p ≡ entry_for cell }
-        ensures pages { (q : ℕ) → q < NODE_ENTRIES ^ level → q ≢ p
+        ensures page { entry_below self.new.nodes.all level (result.n + 1) page ≡ entry_for cell }
+        ensures pages { (q : ℕ) → q < NODE_ENTRIES ^ level → q ≢ page
             → entry_below self.new.nodes.all level (result.n + 1) q
             ≡ entry_below self.old.nodes.all level link q }
-        ensures alone { short_below self.new.nodes.all level (result.n + 1) p ≡ 0 }
+        ensures alone { short_below self.new.nodes.all level (result.n + 1) page ≡ 0 }
         ensures free { free_of self.old.nodes.all
-            ≤ free_of self.new.nodes.all + short_below self.old.nodes.all level link p }
-        ensures grows { entry_for cell ≡ entry_below self.old.nodes.all level link p
+            ≤ free_of self.new.nodes.all + short_below self.old.nodes.all level link page }
+        ensures grows { entry_for cell ≡ entry_below self.old.nodes.all level link page
             → (f : ℕ) → frame_count self.old.frames f ≤ frame_count self.new.frames f }
         ensures cost { self.new.nodes.steps ≤ self.old.nodes.steps + way_steps level }
     {
         let node = self.own(link, level);
         if level == LEAF_LEVEL {
-            self.write(node, p, cell);
+            self.write(node, page, cell);
         } else {
             let width = width(level);
-            let child = self.swap(node, p / width, 0, level);
-            let child = self.set_at(child, level - 1, p % width, cell);
-            self.swap(node, p / width, child.n + 1, level);
+            let child = self.swap(node, page / width, 0, level);
+            let child = self.set_at(child, level - 1, page % width, cell);
+            self.swap(node, page / width, child.n + 1, level);
         }
         node
     }

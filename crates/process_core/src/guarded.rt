@@ -44,24 +44,24 @@ impl<W: World> Turned for Guarded<W> {
 /// A step of a thread that has not ended, with room for it. Notes in `last` what it left.
 fn step_kernel<W: World>(
     kernel: &mut Kernel<W>,
-    t: u32,
+    thread: u32,
     proposal: Option<&Advance>,
     last: &mut Turn,
 )
     requires roomy { W.roomy ≡ true }
-    requires within { t < thread_count kernel.old.inputs }
-    requires going { is_ended (machine_of kernel.old) t ≡ false }
+    requires within { thread < thread_count kernel.old.inputs }
+    requires going { is_ended (machine_of kernel.old) thread ≡ false }
     requires room { work (machine_of kernel.old) ≤ kernel.old.room }
     requires proposal { IfSome proposal (λ a. a.now ≡ advanced kernel.old.inputs.image.text a.now.before) }
-    ensures step { kernel.new ≡ stepped kernel.old t }
-    ensures turn { turn kernel.new t ≡ Some last.new }
+    ensures step { kernel.new ≡ stepped kernel.old thread }
+    ensures turn { turn kernel.new thread ≡ Some last.new }
     ensures some { 0 < kernel.old.room }
     ensures room { kernel.new.room + 1 ≡ kernel.old.room }
     ensures work { work (machine_of kernel.new) < work (machine_of kernel.old) }
 {
     kernel.was_opened();
-    match kernel.make_step(t, proposal) {
-        Ok(finished) => kernel.note_turn(t, finished, last),
+    match kernel.make_step(thread, proposal) {
+        Ok(finished) => kernel.note_turn(thread, finished, last),
         Err(OutOfMemory) => unreachable!(),
     }
 }
@@ -83,20 +83,20 @@ impl<W: World> Guarded<W> {
     /// A step of a thread that has not ended. What it left is noted in the box, which comes back.
     pub(crate) fn make_step(
         &mut self,
-        t: u32,
+        thread: u32,
         proposal: Option<&Advance>,
         mut last: Box<Turn>,
     ) -> Box<Turn>
-        requires within { t < thread_count self.old.kernel.value.inputs }
-        requires going { is_ended (machine_of self.old.kernel.value) t ≡ false }
+        requires within { thread < thread_count self.old.kernel.value.inputs }
+        requires going { is_ended (machine_of self.old.kernel.value) thread ≡ false }
         requires proposal { IfSome proposal (λ a. a.now
             ≡ advanced self.old.kernel.value.inputs.image.text a.now.before) }
         ensures inputs { self.new.kernel.value.inputs ≡ self.old.kernel.value.inputs }
         ensures room { self.new.first_room ≡ self.old.first_room }
-        ensures steps { self.new.kernel.value.steps ≡ self.old.kernel.value.steps ++ t ∷ [] }
-        ensures turn { turn self.new.kernel.value t ≡ Some result.value }
+        ensures steps { self.new.kernel.value.steps ≡ self.old.kernel.value.steps ++ thread ∷ [] }
+        ensures turn { turn self.new.kernel.value thread ≡ Some result.value }
     {
-        step_kernel(&mut self.kernel, t, proposal, &mut last);
+        step_kernel(&mut self.kernel, thread, proposal, &mut last);
         last
     }
 

@@ -181,7 +181,8 @@ impl<W: World> Process<W> {
         proposal: Option<&Advance>,
     ) -> Turn
         requires ours { IsPassOf self.now pass.old }
-        requires proposal { IfSome proposal (λ a. a.now ≡ advanced self.now.name.inputs.image.text a.now.before) }
+        requires proposal { IfSome proposal
+            (λ a. a.now ≡ advanced self.now.name.inputs.image.text a.now.before) }
         ensures makes { MakesTurn self.now pass.old pass.new }
         ensures last { pass.new.last ≡ result }
     {
@@ -220,7 +221,8 @@ impl<W: World> Process<W> {
     #[inline(always)]
     fn turn_inside<R: Wait>(&self, rt: &R, pass: &mut ProcessPass<W>, proposal: Option<&Advance>)
         requires ours { IsPassOf self.now pass.old }
-        requires proposal { IfSome proposal (λ a. a.now ≡ advanced self.now.name.inputs.image.text a.now.before) }
+        requires proposal { IfSome proposal
+            (λ a. a.now ≡ advanced self.now.name.inputs.image.text a.now.before) }
         ensures makes { MakesTurn self.now pass.old pass.new }
     {
         if pass.last().has_ended() {

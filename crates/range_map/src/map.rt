@@ -82,41 +82,43 @@ impl RangeMap {
 
     /// The state of a page; `None` where it is absent, as are all past the last one.
     #[inline(always)]
-    pub fn state_at(&self, p: PageNumber) -> Option<PageState>
-        ensures state { result ≡ spec.state_at self.now p }
-        ensures past { MOST_PAGES ≤ p → result ≡ None }
+    pub fn state_at(&self, page: PageNumber) -> Option<PageState>
+        ensures state { result ≡ spec.state_at self.now page }
+        ensures past { MOST_PAGES ≤ page → result ≡ None }
     {
-        runs::state_at(self.segments.as_slice(), p)
+        runs::state_at(self.segments.as_slice(), page)
     }
 
     /// The kind of a page; `None` where it is absent.
-    pub fn kind_at(&self, p: PageNumber) -> Option<SegmentKind>
-        ensures kind { result ≡ spec.kind_at self.now p }
-        ensures past { MOST_PAGES ≤ p → result ≡ None }
+    pub fn kind_at(&self, page: PageNumber) -> Option<SegmentKind>
+        ensures kind { result ≡ spec.kind_at self.now page }
+        ensures past { MOST_PAGES ≤ page → result ≡ None }
     {
-        self.state_at(p).map(|state| state.kind)
+        self.state_at(page).map(|state| state.kind)
     }
 
     /// The right of a page; `None` where it is absent.
-    pub fn right_at(&self, p: PageNumber) -> Option<Right>
-        ensures right { result ≡ spec.right_at self.now p }
-        ensures past { MOST_PAGES ≤ p → result ≡ None }
+    pub fn right_at(&self, page: PageNumber) -> Option<Right>
+        ensures right { result ≡ spec.right_at self.now page }
+        ensures past { MOST_PAGES ≤ page → result ≡ None }
     {
-        self.state_at(p).map(|state| state.right)
+        self.state_at(page).map(|state| state.right)
     }
 
     /// The state of a page, and the first page after it that has another one, or the end of all pages. There
     /// are at most 64 ranges, so that a walk from run to run is short.
-    pub fn run_at(&self, p: PageNumber) -> (Option<PageState>, PageNumber)
-        requires { p < MOST_PAGES }
-        ensures state { result.0 ≡ spec.state_at self.now p }
-        ensures past { p < result.1 }
+    pub fn run_at(&self, page: PageNumber) -> (Option<PageState>, PageNumber)
+        requires { page < MOST_PAGES }
+        ensures state { result.0 ≡ spec.state_at self.now page }
+        ensures past { page < result.1 }
         ensures within { result.1 ≤ MOST_PAGES }
-        ensures alike { (q : ℕ) → p ≤ q → q < result.1 → spec.state_at self.now q ≡ spec.state_at self.now p }
-        ensures other { result.1 < MOST_PAGES → spec.state_at self.now result.1 ≢ spec.state_at self.now p }
+        ensures alike { (q : ℕ) → page ≤ q → q < result.1
+            → spec.state_at self.now q ≡ spec.state_at self.now page }
+        ensures other { result.1 < MOST_PAGES
+            → spec.state_at self.now result.1 ≢ spec.state_at self.now page }
         ensures few { ranges MOST_PAGES (spec.state_at self.now) ≤ MOST_RANGES }
     {
-        runs::run_at(self.segments.as_slice(), p)
+        runs::run_at(self.segments.as_slice(), page)
     }
 
     /// Gives a state to the pages from `from` up to and without `to`, where no page from `from` on is

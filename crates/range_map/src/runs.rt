@@ -11,12 +11,12 @@ use lwc_base::{MOST_PAGES, PageNumber};
 
 /// The state of a page; `None` where it is absent. Its segment is searched by halving.
 #[inline(always)]
-pub(crate) fn state_at(segments: &[Segment], p: PageNumber) -> Option<PageState>
+pub(crate) fn state_at(segments: &[Segment], page: PageNumber) -> Option<PageState>
     requires { IsCanonical segments.now }
-    ensures { result ≡ spec.state_at segments.now p }
+    ensures { result ≡ spec.state_at segments.now page }
 {
-    let segment = segments.get(ended_by(segments, p))?;
-    if segment.from <= p {
+    let segment = segments.get(ended_by(segments, page))?;
+    if segment.from <= page {
         Some(segment.state())
     } else {
         None
@@ -26,32 +26,32 @@ pub(crate) fn state_at(segments: &[Segment], p: PageNumber) -> Option<PageState>
 /// The number of segments that end at a page or before it. The next one, if there is one, has the page or begins
 /// past it. Most spaces have one range, so the first segment is looked at before all are halved.
 #[inline(always)]
-pub fn ended_by(segments: &[Segment], p: PageNumber) -> usize
+pub fn ended_by(segments: &[Segment], page: PageNumber) -> usize
     requires { IsCanonical segments.now }
     ensures within { result ≤ length segments.now }
-    ensures before { (k : ℕ) (d : Segment) → k < result → (slice_index_or segments.now k d).to ≤ p }
+    ensures before { (k : ℕ) (d : Segment) → k < result → (slice_index_or segments.now k d).to ≤ page }
     ensures after { (d : Segment) → result < length segments.now
-        → p < (slice_index_or segments.now result d).to }
+        → page < (slice_index_or segments.now result d).to }
 {
     match segments.first() {
-        Some(first) if p < first.to => 0,
-        _ => ended_by_halving(segments, p),
+        Some(first) if page < first.to => 0,
+        _ => ended_by_halving(segments, page),
     }
 }
 
 /// The number of segments that end at a page or before it, by halving.
 #[inline(never)]
-fn ended_by_halving(segments: &[Segment], p: PageNumber) -> usize
+fn ended_by_halving(segments: &[Segment], page: PageNumber) -> usize
     requires { IsCanonical segments.now }
     ensures within { result ≤ length segments.now }
-    ensures before { (k : ℕ) (d : Segment) → k < result → (slice_index_or segments.now k d).to ≤ p }
+    ensures before { (k : ℕ) (d : Segment) → k < result → (slice_index_or segments.now k d).to ≤ page }
     ensures after { (d : Segment) → result < length segments.now
-        → p < (slice_index_or segments.now result d).to }
+        → page < (slice_index_or segments.now result d).to }
 {
     segments.partition_point(
         |segment: &Segment| -> bool
-            ensures { result ≡ nat_le segment.now.to p }
-        { segment.to <= p },
+            ensures { result ≡ nat_le segment.now.to page }
+        { segment.to <= page },
     )
 }
 
@@ -60,40 +60,40 @@ fn ended_by_halving(segments: &[Segment], p: PageNumber) -> usize
 pub(crate) fn state_after(
     segments: &[Segment],
     changes: &[Change],
-    p: PageNumber,
+    page: PageNumber,
 ) -> Option<PageState>
     requires { IsCanonical segments.now }
-    ensures { result ≡ spec.state_after changes.now segments.now p }
+    ensures { result ≡ spec.state_after changes.now segments.now page }
 {
-    match change_at(changes, p) {
+    match change_at(changes, page) {
         Some(change) => change.state(),
-        None => state_at(segments, p),
+        None => state_at(segments, page),
     }
 }
 
 /// The first change that has a page.
-fn change_at(changes: &[Change], p: PageNumber) -> Option<&Change>
-    ensures { option_copied result ≡ find (λ c. is_between c.from c.to p) changes.now }
+fn change_at(changes: &[Change], page: PageNumber) -> Option<&Change>
+    ensures { option_copied result ≡ find (λ c. is_between c.from c.to page) changes.now }
 {
     changes
         .iter()
-        .find(|change| change.from <= p && p < change.to)
+        .find(|change| change.from <= page && page < change.to)
 }
 
 /// The first page past a page at which the state after the changes is another one; the end of all pages
 /// where there is none.
-pub(crate) fn run_end(segments: &[Segment], changes: &[Change], p: PageNumber) -> PageNumber
+pub(crate) fn run_end(segments: &[Segment], changes: &[Change], page: PageNumber) -> PageNumber
     requires canonical { IsCanonical segments.now }
-    requires page { p < MOST_PAGES }
-    ensures past { p < result }
+    requires page { page < MOST_PAGES }
+    ensures past { page < result }
     ensures within { result ≤ MOST_PAGES }
-    ensures alike { (q : ℕ) → p ≤ q → q < result
-        → spec.state_after changes.now segments.now q ≡ spec.state_after changes.now segments.now p }
+    ensures alike { (q : ℕ) → page ≤ q → q < result
+        → spec.state_after changes.now segments.now q ≡ spec.state_after changes.now segments.now page }
     ensures begins { result < MOST_PAGES → begins_range (spec.state_after changes.now segments.now) result
         ≡ is_some (spec.state_after changes.now segments.now result) }
 {
-    let state = state_after(segments, changes, p);
-    let mut end = next_edge(segments, changes, p);
+    let state = state_after(segments, changes, page);
+    let mut end = next_edge(segments, changes, page);
     'runs: while end < MOST_PAGES && state == state_after(segments, changes, end) {
         end = next_edge(segments, changes, end);
     }
@@ -101,37 +101,37 @@ pub(crate) fn run_end(segments: &[Segment], changes: &[Change], p: PageNumber) -
 }
 
 /// Where the first segment or change after a page begins or ends, or the end of all pages.
-fn next_edge(segments: &[Segment], changes: &[Change], p: PageNumber) -> PageNumber
+fn next_edge(segments: &[Segment], changes: &[Change], page: PageNumber) -> PageNumber
     requires canonical { IsCanonical segments.now }
-    requires page { p < MOST_PAGES }
-    ensures past { p < result }
+    requires page { page < MOST_PAGES }
+    ensures past { page < result }
     ensures within { result ≤ MOST_PAGES }
-    ensures alike { (q : ℕ) → p ≤ q → q < result
-        → spec.state_after changes.now segments.now q ≡ spec.state_after changes.now segments.now p }
+    ensures alike { (q : ℕ) → page ≤ q → q < result
+        → spec.state_after changes.now segments.now q ≡ spec.state_after changes.now segments.now page }
     ensures edge { result < MOST_PAGES → (is_edge segments.now result
         || list_any (λ c. (c.from == result) || (c.to == result)) changes.now) ≡ true }
 {
-    let mut edge = run_at(segments, p).1;
+    let mut edge = run_at(segments, page).1;
     for change in changes {
-        edge = sooner_edge(change.from, change.to, p, edge);
+        edge = sooner_edge(change.from, change.to, page, edge);
     }
     edge
 }
 
 /// The state of a page, and where the first segment after it begins or ends, or the end of all pages. The segment
 /// is searched by halving.
-pub(crate) fn run_at(segments: &[Segment], p: PageNumber) -> (Option<PageState>, PageNumber)
+pub(crate) fn run_at(segments: &[Segment], page: PageNumber) -> (Option<PageState>, PageNumber)
     requires canonical { IsCanonical segments.now }
-    requires page { p < MOST_PAGES }
-    ensures state { result.0 ≡ spec.state_at segments.now p }
-    ensures past { p < result.1 }
+    requires page { page < MOST_PAGES }
+    ensures state { result.0 ≡ spec.state_at segments.now page }
+    ensures past { page < result.1 }
     ensures within { result.1 ≤ MOST_PAGES }
-    ensures alike { (q : ℕ) → p ≤ q → q < result.1
-        → spec.state_at segments.now q ≡ spec.state_at segments.now p }
+    ensures alike { (q : ℕ) → page ≤ q → q < result.1
+        → spec.state_at segments.now q ≡ spec.state_at segments.now page }
     ensures edge { result.1 < MOST_PAGES → is_edge segments.now result.1 ≡ true }
 {
-    match segments.get(ended_by(segments, p)) {
-        Some(segment) if p < segment.from => (None, segment.from),
+    match segments.get(ended_by(segments, page)) {
+        Some(segment) if page < segment.from => (None, segment.from),
         Some(segment) => (Some(segment.state()), segment.to),
         None => (None, MOST_PAGES),
     }
@@ -139,25 +139,30 @@ pub(crate) fn run_at(segments: &[Segment], p: PageNumber) -> (Option<PageState>,
 
 /// Where the pages from one up to and without another first begin or end past a page, if that is before the
 /// edge; else the edge.
-pub fn sooner_edge(from: PageNumber, to: PageNumber, p: PageNumber, edge: PageNumber) -> PageNumber
-    requires { p < edge }
-    ensures past { p < result }
+pub fn sooner_edge(
+    from: PageNumber,
+    to: PageNumber,
+    page: PageNumber,
+    edge: PageNumber,
+) -> PageNumber
+    requires { page < edge }
+    ensures past { page < result }
     ensures within { result ≤ edge }
-    ensures alike { (q : ℕ) → p ≤ q → q < result → is_between from to q ≡ is_between from to p }
+    ensures alike { (q : ℕ) → page ≤ q → q < result → is_between from to q ≡ is_between from to page }
     ensures one { result < edge → (result ≡ from) ⊎ (result ≡ to) }
 {
-    sooner(p, sooner(p, edge, from), to)
+    sooner(page, sooner(page, edge, from), to)
 }
 
 /// The lesser of an edge and another number, if that lies past the page.
-fn sooner(p: PageNumber, edge: PageNumber, other: PageNumber) -> PageNumber
-    requires { p < edge }
-    ensures past { p < result }
+fn sooner(page: PageNumber, edge: PageNumber, other: PageNumber) -> PageNumber
+    requires { page < edge }
+    ensures past { page < result }
     ensures within { result ≤ edge }
-    ensures other { p < other → result ≤ other }
+    ensures other { page < other → result ≤ other }
     ensures one { result < edge → result ≡ other }
 {
-    if p < other && other < edge {
+    if page < other && other < edge {
         other
     } else {
         edge

@@ -72,13 +72,13 @@ impl Search {
     }
 
     /// Finds the places that the i-th place of the order links to, if the order has one there.
-    pub(crate) fn expand<K: Links>(&mut self, links: &K, i: usize)
-        requires { i < length self.old.order → slice_index self.old.order i < MOST_CONTEXTS }
-        ensures found { self.new ≡ spec.expanded (K.link_of links.now) self.old i }
-        ensures within { i < length self.old.order →
-            spec.LinksWithin (K.link_of links.now) (slice_index self.old.order i) SLOTS }
+    pub(crate) fn expand<K: Links>(&mut self, links: &K, index: usize)
+        requires { index < length self.old.order → slice_index self.old.order index < MOST_CONTEXTS }
+        ensures found { self.new ≡ spec.expanded (K.link_of links.now) self.old index }
+        ensures within { index < length self.old.order →
+            spec.LinksWithin (K.link_of links.now) (slice_index self.old.order index) SLOTS }
     {
-        let place = self.order.as_slice().get(i).copied();
+        let place = self.order.as_slice().get(index).copied();
         if let Some(place) = place {
             self.visit_links(links, place);
         }

@@ -190,10 +190,10 @@ fn all_within(pages: PageNumber, items: &[Item]) -> bool
 }
 
 /// Whether two items have a key in common.
-fn overlaps(a: &Item, b: &Item) -> bool
-    ensures { result ≡ modes.overlaps a.now b.now }
+fn overlaps(one: &Item, other: &Item) -> bool
+    ensures { result ≡ modes.overlaps one.now other.now }
 {
-    a.kind == b.kind && a.from < b.to && b.from < a.to
+    one.kind == other.kind && one.from < other.to && other.from < one.to
 }
 
 /// Whether one of the others has a key in common with an item.

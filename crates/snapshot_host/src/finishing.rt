@@ -139,13 +139,14 @@ impl<'a> FinishedView<'a> {
 
 /// What is recorded of request `r`, whose thread has ended with a status: the bytes are those written so far.
 /// It takes no memory.
-pub fn finish(io: &Channels, r: u16, status: ThreadStatus) -> Finished
-    requires { r < length io.now.requests }
-    ensures { result ≡ record { request = r; status = status; bytes = bytes_in io.now.replies r } }
+pub fn finish(io: &Channels, request_number: u16, status: ThreadStatus) -> Finished
+    requires { request_number < length io.now.requests }
+    ensures { result
+        ≡ record { request = request_number; status = status; bytes = bytes_in io.now.replies request_number } }
 {
     Finished {
-        request: r,
+        request: request_number,
         status,
-        bytes: ReplyBytes::of(io.reply(r)),
+        bytes: ReplyBytes::of(io.reply(request_number)),
     }
 }

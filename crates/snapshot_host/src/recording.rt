@@ -37,14 +37,15 @@ impl Model for Recorded {
 impl Recorded {
     /// What is kept of request `r`, whose thread has ended with a status: the bytes are those written so far.
     /// It copies none of them.
-    pub fn of(io: &Channels, r: u16, status: ThreadStatus) -> Recorded
-        requires { r < length io.now.requests }
-        ensures { result ≡ record { request = r; status = status; bytes = bytes_in io.now.replies r } }
+    pub fn of(io: &Channels, request_number: u16, status: ThreadStatus) -> Recorded
+        requires { request_number < length io.now.requests }
+        ensures { result
+            ≡ record { request = request_number; status = status; bytes = bytes_in io.now.replies request_number } }
     {
         Recorded {
-            request: r,
+            request: request_number,
             status,
-            count: io.reply(r).len() as u16,
+            count: io.reply(request_number).len() as u16,
             at_end: Snapshot::of(io),
         }
     }

@@ -16,14 +16,14 @@ use std::test::Fail;
 fn steps_so_far(
     process: &Process<LazyWorld>,
     passes: &mut ProcessPasses<LazyWorld>,
-    i: usize,
+    index: usize,
 ) -> u64
     requires all { AreAllOf process.now passes.old.items }
-    requires within { i < length passes.old.items }
+    requires within { index < length passes.old.items }
     ensures all { AreAllOf process.now passes.new.items }
     ensures count { length passes.new.items ≡ length passes.old.items }
 {
-    process.steps_seen(&mut passes[i])
+    process.steps_seen(&mut passes[index])
 }
 
 /// How a turn left its thread, and the thread's register 6.
@@ -34,14 +34,14 @@ fn turned<R: Wait>(
     rt: &R,
     process: &Process<LazyWorld>,
     passes: &mut ProcessPasses<LazyWorld>,
-    i: usize,
+    index: usize,
 ) -> Left
     requires all { AreAllOf process.now passes.old.items }
-    requires within { i < length passes.old.items }
+    requires within { index < length passes.old.items }
     ensures all { AreAllOf process.now passes.new.items }
     ensures count { length passes.new.items ≡ length passes.old.items }
 {
-    let pass = &mut passes[i];
+    let pass = &mut passes[index];
     let turn = process.turn(rt, pass, None);
     (turn.status, turn.regs.r[6])
 }

@@ -38,10 +38,10 @@ fn far_page() -> Items {
 }
 
 /// Three words of the pages of a capability.
-fn words_from(cap: &Cap, i: usize) -> [u64; 3]
-    requires { i + 2 < 256 }
+fn words_from(cap: &Cap, index: usize) -> [u64; 3]
+    requires { index + 2 < 256 }
 {
-    [cap.pages[i], cap.pages[i + 1], cap.pages[i + 2]]
+    [cap.pages[index], cap.pages[index + 1], cap.pages[index + 2]]
 }
 
 #[test]

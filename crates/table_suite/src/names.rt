@@ -46,14 +46,14 @@ fn a_place_that_was_given_back_is_taken_again(rt: HostRuntime) -> Result<(), Fai
 }
 
 /// Saves registers of a thread for the next name: what was saved before, and after.
-fn saved(rt: &impl Abort, table: &mut CtxTable<char>, t: u32, regs: &Regs) -> [Option<Regs>; 2]
-    requires { t < MOST_THREADS }
+fn saved(rt: &impl Abort, table: &mut CtxTable<char>, thread: u32, regs: &Regs) -> [Option<Regs>; 2]
+    requires { thread < MOST_THREADS }
 {
     assert!(rt; table.place(NEXT).is_some());
-    let before = table.saved(NEXT, t);
-    table.save(NEXT, t, regs);
+    let before = table.saved(NEXT, thread);
+    table.save(NEXT, thread, regs);
     assert!(rt; table.place(NEXT).is_some());
-    [before, table.saved(NEXT, t)]
+    [before, table.saved(NEXT, thread)]
 }
 
 /// Gives the next name another value: its value and its registers after.

@@ -23,15 +23,15 @@ fn page_run(from: u16, to: u16, origin: Origin) -> PageRun
 }
 
 /// Changes a place, whose ranges stay few.
-fn change(rt: &impl Abort, places: &mut PageCells, i: usize, page_runs: &[PageRun])
-    requires place { i < length (cells places.old) }
-    requires page_runs { All (IsPageRun (length (cells places.old)) i) page_runs.now }
+fn change(rt: &impl Abort, places: &mut PageCells, index: usize, page_runs: &[PageRun])
+    requires place { index < length (cells places.old) }
+    requires page_runs { All (IsPageRun (length (cells places.old)) index) page_runs.now }
     ensures { cells places.new
-        ≡ slice_set (cells places.old) i (changed_place (cells places.old) i page_runs.now) }
+        ≡ slice_set (cells places.old) index (changed_place (cells places.old) index page_runs.now) }
 {
-    let count = places.count_after(i, page_runs, &[]);
+    let count = places.count_after(index, page_runs, &[]);
     assert!(rt; count <= MOST_RANGES);
-    places.change(i, page_runs, &[]);
+    places.change(index, page_runs, &[]);
 }
 
 /// Writes three bytes over the end of page 5 of the first place, which has none: whether the page is to part, and the

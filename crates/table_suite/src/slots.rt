@@ -24,11 +24,11 @@ fn link(keys: Grant<'_>) -> Lent<'_>
 const GROUP: Name = Name { job: 1, k: 1 };
 
 /// The capability of a slot's descriptor; none where it has no descriptor of a context of its own.
-fn keys_at(slots: &Slots, i: usize, n: u8) -> Option<Cap>
-    requires place { i < length (seen slots.now) }
-    requires slot { n < SLOTS }
+fn keys_at(slots: &Slots, index: usize, slot: u8) -> Option<Cap>
+    requires place { index < length (seen slots.now) }
+    requires slot { slot < SLOTS }
 {
-    match slots.cell(i, n) {
+    match slots.cell(index, slot) {
         Cell::Own(value) => match owned(value) {
             Descriptor::Ctx { cap, .. } => Some(cap),
             _ => None,
@@ -38,10 +38,14 @@ fn keys_at(slots: &Slots, i: usize, n: u8) -> Option<Cap>
 }
 
 /// The filled slots of a place and its common ones, as bits, and how many are filled.
-fn bits_of(slots: &Slots, i: usize) -> (u64, u64, u32)
-    requires { i < length (seen slots.now) }
+fn bits_of(slots: &Slots, index: usize) -> (u64, u64, u32)
+    requires { index < length (seen slots.now) }
 {
-    (slots.filled(i), slots.common(i), slots.count_filled(i))
+    (
+        slots.filled(index),
+        slots.common(index),
+        slots.count_filled(index),
+    )
 }
 
 /// The lowest filled slots from 0 and from 6, the lowest from 5 that is not filled, and the lowest common one from 64.
@@ -120,20 +124,20 @@ fn pages_of(word: u64) -> Cap {
 }
 
 /// Puts the context into a slot of the first place, with these keys.
-fn put_keys(slots: &mut Slots, n: u8, keys: Grant<'_>)
+fn put_keys(slots: &mut Slots, slot: u8, keys: Grant<'_>)
     requires place { 0 < length (seen slots.old) }
-    requires slot { n < SLOTS }
+    requires slot { slot < SLOTS }
     ensures { length (seen slots.new) ≡ length (seen slots.old) }
 {
-    slots.put(0, n, Cell::Own(link(keys)), Some(2));
+    slots.put(0, slot, Cell::Own(link(keys)), Some(2));
 }
 
 /// Whether a slot of the first place has these keys.
-fn has_keys(slots: &Slots, n: u8, keys: &Cap) -> bool
+fn has_keys(slots: &Slots, slot: u8, keys: &Cap) -> bool
     requires place { 0 < length (seen slots.now) }
-    requires slot { n < SLOTS }
+    requires slot { slot < SLOTS }
 {
-    keys_at(slots, 0, n) == Some(*keys)
+    keys_at(slots, 0, slot) == Some(*keys)
 }
 
 /// Puts some keys, and all of 70 pages, beside each other: whether both are kept.

@@ -20,10 +20,10 @@ const APART: usize = 97;
 const PRESENT: usize = PAGES / APART + 1;
 
 /// Pages that are far apart are present, as zeros.
-fn cell_at_page(p: u16) -> PageCell
+fn cell_at_page(page: u16) -> PageCell
     ensures { (f : ℕ) → entry_for result ≡ f + 2 → ⊥ }
 {
-    if p as usize % APART == 0 {
+    if page as usize % APART == 0 {
         PageCell::Zero
     } else {
         PageCell::Absent

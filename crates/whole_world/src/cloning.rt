@@ -55,64 +55,64 @@ impl WholeWorld {
     /// `rest`, which is copy or unmap. The only error is out of memory.
     pub(crate) fn cloned_row(
         &self,
-        c: Name,
+        context: Name,
         spec: &Items,
         job: u32,
         rest: Mode,
         entry: &Regs,
     ) -> Result<ContextRow, OutOfMemory>
-        requires live { IsTrue (is_live (seen self.now) c) }
+        requires live { IsTrue (is_live (seen self.now) context) }
         requires within { IsSpec (seen self.now).size.pages spec.now }
         requires known { job < (seen self.now).size.jobs }
         requires rest { rest ≢ Share }
         ensures whole { IfOk result (IsWhole (seen self.now).size.pages) }
         ensures context { IfOk result (λ row. context_of row
             ≡ record (new_context NOBODY entry.now) {
-              cell = clone_cells (seen self.now) c job spec.now rest;
-              right = clone_rights (seen self.now) c job spec.now rest;
+              cell = clone_cells (seen self.now) context job spec.now rest;
+              right = clone_rights (seen self.now) context job spec.now rest;
             }) }
     {
         let mut row = ContextRow::new(self.alloc, self.page_count(), NOBODY, entry)?;
-        self.clone_pages(c, spec, job, rest, &mut row)?;
-        self.clone_slots(c, spec, job, rest, &mut row)?;
-        self.clone_key(c, spec, job, rest, Key::Cred, &mut row)?;
-        self.clone_rights(c, spec, rest, &mut row);
+        self.clone_pages(context, spec, job, rest, &mut row)?;
+        self.clone_slots(context, spec, job, rest, &mut row)?;
+        self.clone_key(context, spec, job, rest, Key::Cred, &mut row)?;
+        self.clone_rights(context, spec, rest, &mut row);
         Ok(row)
     }
 
     /// Gives each page of the new context its right.
-    fn clone_rights(&self, c: Name, spec: &Items, rest: Mode, row: &mut ContextRow)
-        requires live { IsTrue (is_live (seen self.now) c) }
+    fn clone_rights(&self, context: Name, spec: &Items, rest: Mode, row: &mut ContextRow)
+        requires live { IsTrue (is_live (seen self.now) context) }
         requires whole { IsWhole (seen self.now).size.pages row.old }
         ensures whole { IsWhole (seen self.now).size.pages row.new }
         ensures context { context_of row.new ≡ with_rights (seen self.now).size.pages
-            (λ p. cloned_right (seen self.now) c p (unwrap_or (mode spec.now (Page p)) rest))
+            (λ p. cloned_right (seen self.now) context p (unwrap_or (mode spec.now (Page p)) rest))
             (context_of row.old) }
     {
         for p in 0..self.page_count() {
             let mode = mode_or(spec, Key::Page(p), rest);
-            row.set_right(p, self.cloned_right(c, p, mode));
+            row.set_right(p, self.cloned_right(context, p, mode));
         }
     }
 
     /// The right that a page of a new context gets by its mode.
-    pub(crate) fn cloned_right(&self, c: Name, p: PageNumber, mode: Mode) -> Right
-        requires { IsTrue (is_live (seen self.now) c) }
-        ensures { result ≡ cloned_right (seen self.now) c p mode }
+    pub(crate) fn cloned_right(&self, context: Name, page: PageNumber, mode: Mode) -> Right
+        requires { IsTrue (is_live (seen self.now) context) }
+        ensures { result ≡ cloned_right (seen self.now) context page mode }
     {
         match mode {
-            Mode::Copy | Mode::Share => self.right(c, p),
+            Mode::Copy | Mode::Share => self.right(context, page),
             Mode::Unmap => Right::Write,
-            Mode::CopyRead => self.read_right(c, p),
+            Mode::CopyRead => self.read_right(context, page),
         }
     }
 
     /// The right of a page that is copied to be read alone: Read where it is present.
-    fn read_right(&self, c: Name, p: PageNumber) -> Right
-        requires { IsTrue (is_live (seen self.now) c) }
-        ensures { result ≡ read_right (has_page (context (seen self.now) c) p) }
+    fn read_right(&self, of_context: Name, page: PageNumber) -> Right
+        requires { IsTrue (is_live (seen self.now) of_context) }
+        ensures { result ≡ read_right (has_page (context (seen self.now) of_context) page) }
     {
-        if self.row(c).has_page(p) {
+        if self.row(of_context).has_page(page) {
             Right::Read
         } else {
             Right::Write
@@ -122,13 +122,13 @@ impl WholeWorld {
     /// Gives each page of the new context its cell. The only error is out of memory.
     fn clone_pages(
         &self,
-        c: Name,
+        context: Name,
         spec: &Items,
         job: u32,
         rest: Mode,
         row: &mut ContextRow,
     ) -> Result<(), OutOfMemory>
-        requires live { IsTrue (is_live (seen self.now) c) }
+        requires live { IsTrue (is_live (seen self.now) context) }
         requires within { IsSpec (seen self.now).size.pages spec.now }
         requires known { job < (seen self.now).size.jobs }
         requires rest { rest ≢ Share }
@@ -136,10 +136,10 @@ impl WholeWorld {
         ensures whole { IsWhole (seen self.now).size.pages row.new }
         ensures context { OnOk result (context_of row.new
             ≡ with_cells (is_below kind.Page (seen self.now).size.pages)
-            (clone_cells (seen self.now) c job spec.now rest) (context_of row.old)) }
+            (clone_cells (seen self.now) context job spec.now rest) (context_of row.old)) }
     {
         for p in 0..self.page_count() {
-            self.clone_key(c, spec, job, rest, Key::Page(p), row)?;
+            self.clone_key(context, spec, job, rest, Key::Page(p), row)?;
         }
         Ok(())
     }
@@ -147,23 +147,23 @@ impl WholeWorld {
     /// Gives each slot of the new context its cell. The only error is out of memory.
     fn clone_slots(
         &self,
-        c: Name,
+        context: Name,
         spec: &Items,
         job: u32,
         rest: Mode,
         row: &mut ContextRow,
     ) -> Result<(), OutOfMemory>
-        requires live { IsTrue (is_live (seen self.now) c) }
+        requires live { IsTrue (is_live (seen self.now) context) }
         requires within { IsSpec (seen self.now).size.pages spec.now }
         requires known { job < (seen self.now).size.jobs }
         requires rest { rest ≢ Share }
         requires whole { IsWhole (seen self.now).size.pages row.old }
         ensures whole { IsWhole (seen self.now).size.pages row.new }
         ensures context { OnOk result (context_of row.new ≡ with_cells (is_below kind.Slot SLOTS)
-            (clone_cells (seen self.now) c job spec.now rest) (context_of row.old)) }
+            (clone_cells (seen self.now) context job spec.now rest) (context_of row.old)) }
     {
         for n in 0..SLOTS {
-            self.clone_key(c, spec, job, rest, Key::Slot(n), row)?;
+            self.clone_key(context, spec, job, rest, Key::Slot(n), row)?;
         }
         Ok(())
     }
@@ -171,14 +171,14 @@ impl WholeWorld {
     /// Gives a key of the new context its cell, as after the sharing. The only error is out of memory.
     fn clone_key(
         &self,
-        c: Name,
+        context: Name,
         spec: &Items,
         job: u32,
         rest: Mode,
         key: Key,
         row: &mut ContextRow,
     ) -> Result<(), OutOfMemory>
-        requires live { IsTrue (is_live (seen self.now) c) }
+        requires live { IsTrue (is_live (seen self.now) context) }
         requires within { IsSpec (seen self.now).size.pages spec.now }
         requires known { job < (seen self.now).size.jobs }
         requires rest { rest ≢ Share }
@@ -186,11 +186,11 @@ impl WholeWorld {
         requires whole { IsWhole (seen self.now).size.pages row.old }
         ensures size { HasSizeOf row.old row.new }
         ensures context { OnOk result (context_of row.new ≡ with_cell key
-            (clone_cells (seen self.now) c job spec.now rest key) (context_of row.old)) }
+            (clone_cells (seen self.now) context job spec.now rest key) (context_of row.old)) }
     {
         match mode_or(spec, key, rest) {
-            Mode::Copy | Mode::CopyRead => row.put(self.copied_value(c, key)?),
-            Mode::Share => match self.row(c).holder(key) {
+            Mode::Copy | Mode::CopyRead => row.put(self.copied_value(context, key)?),
+            Mode::Share => match self.row(context).holder(key) {
                 Holder::Own => row.join(key, self.next_group(job)),
                 Holder::Group(g) => row.join(key, g),
                 Holder::Nobody | Holder::NewGroup => row.put(KeyValue::nothing(key)),
@@ -201,19 +201,19 @@ impl WholeWorld {
     }
 
     /// A copy of the value under a key of a context. The only error is out of memory.
-    fn copied_value(&self, c: Name, key: Key) -> Result<KeyValue, OutOfMemory>
-        requires live { IsTrue (is_live (seen self.now) c) }
+    fn copied_value(&self, context: Name, key: Key) -> Result<KeyValue, OutOfMemory>
+        requires live { IsTrue (is_live (seen self.now) context) }
         requires within { HasSlot SLOTS key }
         ensures key { IfOk result (λ copy. key_in copy ≡ key) }
-        ensures value { IfOk result (λ copy. value_in copy ≡ value_at (seen self.now) c (key_in copy)) }
+        ensures value { IfOk result (λ copy. value_in copy ≡ value_at (seen self.now) context (key_in copy)) }
     {
         match key {
             Key::Page(p) => {
-                let copy = copied_page(self.alloc, self.page_value(c, p))?;
+                let copy = copied_page(self.alloc, self.page_value(context, p))?;
                 Ok(KeyValue::Page(p, copy))
             }
-            Key::Slot(n) => Ok(KeyValue::Slot(n, owned(self.slot_value(c, n)))),
-            Key::Cred => Ok(KeyValue::Cred(self.uid_value(c))),
+            Key::Slot(n) => Ok(KeyValue::Slot(n, owned(self.slot_value(context, n)))),
+            Key::Cred => Ok(KeyValue::Cred(self.uid_value(context))),
         }
     }
 }

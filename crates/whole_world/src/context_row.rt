@@ -63,12 +63,13 @@ impl ContextRow {
 
     /// The cell of a page; `None` past the last page.
     #[tactic(auto, unfolding(crate::specs::Rows::context_of, crate::specs::Rows::cell_of))]
-    pub fn page(&self, p: PageNumber) -> Option<&Cell<Option<PageValue>>>
-        ensures { unwrap_or (option_copied result) (Own None) ≡ (context_of self.now).cell (Page p) }
+    pub fn page(&self, page_number: PageNumber) -> Option<&Cell<Option<PageValue>>>
+        ensures { unwrap_or (option_copied result) (Own None)
+            ≡ (context_of self.now).cell (Page page_number) }
     {
-        let p = p as usize;
-        if p < self.pages.len() {
-            Some(&self.pages[p])
+        let page_number = page_number as usize;
+        if page_number < self.pages.len() {
+            Some(&self.pages[page_number])
         } else {
             None
         }
@@ -76,22 +77,22 @@ impl ContextRow {
 
     /// The right of a page; Write past the last page.
     #[tactic(auto, unfolding(crate::specs::Rows::context_of))]
-    pub fn right(&self, p: PageNumber) -> Right
-        ensures { result ≡ (context_of self.now).right p }
+    pub fn right(&self, page: PageNumber) -> Right
+        ensures { result ≡ (context_of self.now).right page }
     {
-        let p = p as usize;
-        if p < self.rights.len() {
-            self.rights[p]
+        let page = page as usize;
+        if page < self.rights.len() {
+            self.rights[page]
         } else {
             Right::Write
         }
     }
 
     /// Whether there is a page.
-    pub fn has_page(&self, p: PageNumber) -> bool
-        ensures { result ≡ has_page (context_of self.now) p }
+    pub fn has_page(&self, page: PageNumber) -> bool
+        ensures { result ≡ has_page (context_of self.now) page }
     {
-        match self.page(p) {
+        match self.page(page) {
             Some(Cell::Own(value)) => value.is_some(),
             Some(Cell::Common(_)) => true,
             None => false,
@@ -100,11 +101,11 @@ impl ContextRow {
 
     /// The cell of a slot.
     #[tactic(auto, unfolding(crate::specs::Rows::context_of, crate::specs::Rows::cell_of))]
-    pub fn slot(&self, n: SlotNumber) -> &Cell<Descriptor>
-        requires { n < vec_len self.now.slots }
-        ensures { result.now ≡ (context_of self.now).cell (Slot n) }
+    pub fn slot(&self, slot_number: SlotNumber) -> &Cell<Descriptor>
+        requires { slot_number < vec_len self.now.slots }
+        ensures { result.now ≡ (context_of self.now).cell (Slot slot_number) }
     {
-        &self.slots[n as usize]
+        &self.slots[slot_number as usize]
     }
 
     /// The cell of the credential.
@@ -116,10 +117,10 @@ impl ContextRow {
     }
 
     /// Who has the value of a page.
-    fn page_holder(&self, p: PageNumber) -> Holder
-        ensures { result ≡ holder_of (Page p) ((context_of self.now).cell (Page p)) }
+    fn page_holder(&self, page: PageNumber) -> Holder
+        ensures { result ≡ holder_of (Page page) ((context_of self.now).cell (Page page)) }
     {
-        match self.page(p) {
+        match self.page(page) {
             Some(Cell::Own(Some(_))) => Holder::Own,
             Some(Cell::Common(g)) => Holder::Group(*g),
             _ => Holder::Nobody,
@@ -194,20 +195,20 @@ impl ContextRow {
 
     /// The registers that are kept for a thread.
     #[tactic(auto, unfolding(crate::specs::Rows::context_of))]
-    pub fn saved(&self, t: u32) -> Option<Regs>
-        requires { t < MOST_THREADS }
-        ensures { result ≡ (context_of self.now).saved t }
+    pub fn saved(&self, thread: u32) -> Option<Regs>
+        requires { thread < MOST_THREADS }
+        ensures { result ≡ (context_of self.now).saved thread }
     {
-        self.saved[t as usize]
+        self.saved[thread as usize]
     }
 
     /// Keeps registers for a thread.
-    pub fn save(&mut self, t: u32, regs: &Regs)
-        requires { t < MOST_THREADS }
+    pub fn save(&mut self, thread: u32, regs: &Regs)
+        requires { thread < MOST_THREADS }
         ensures size { HasSizeOf self.old self.new }
-        ensures context { context_of self.new ≡ with_saved t regs.now (context_of self.old) }
+        ensures context { context_of self.new ≡ with_saved thread regs.now (context_of self.old) }
     {
-        self.saved[t as usize] = Some(*regs);
+        self.saved[thread as usize] = Some(*regs);
     }
 
     /// Makes each page of a range present, as zeros of the context's own, or absent, with the right Write.
@@ -225,12 +226,12 @@ impl ContextRow {
     }
 
     /// Gives a page another right.
-    pub fn set_right(&mut self, p: PageNumber, right: Right)
-        requires { p < vec_len self.old.rights }
+    pub fn set_right(&mut self, page: PageNumber, right: Right)
+        requires { page < vec_len self.old.rights }
         ensures size { HasSizeOf self.old self.new }
-        ensures context { context_of self.new ≡ with_right p right (context_of self.old) }
+        ensures context { context_of self.new ≡ with_right page right (context_of self.old) }
     {
-        self.rights[p as usize] = right;
+        self.rights[page as usize] = right;
     }
 }
 

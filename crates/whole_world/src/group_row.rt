@@ -37,12 +37,12 @@ impl GroupRow {
 
     /// The value under a page, if there is one.
     #[tactic(auto, unfolding(crate::specs::Rows::group_of, crate::specs::Rows::value_of))]
-    pub fn page(&self, p: PageNumber) -> Option<&PageValue>
-        ensures { option_copied result ≡ (group_of self.now).value (Page p) }
+    pub fn page(&self, page_number: PageNumber) -> Option<&PageValue>
+        ensures { option_copied result ≡ (group_of self.now).value (Page page_number) }
     {
-        let p = p as usize;
-        if p < self.pages.len() {
-            self.pages[p].as_ref()
+        let page_number = page_number as usize;
+        if page_number < self.pages.len() {
+            self.pages[page_number].as_ref()
         } else {
             None
         }
@@ -50,11 +50,11 @@ impl GroupRow {
 
     /// The descriptor under a slot.
     #[tactic(auto, unfolding(crate::specs::Rows::group_of, crate::specs::Rows::value_of))]
-    pub fn slot(&self, n: SlotNumber) -> &Descriptor
-        requires { n < vec_len self.now.slots }
-        ensures { result.now ≡ (group_of self.now).value (Slot n) }
+    pub fn slot(&self, slot_number: SlotNumber) -> &Descriptor
+        requires { slot_number < vec_len self.now.slots }
+        ensures { result.now ≡ (group_of self.now).value (Slot slot_number) }
     {
-        &self.slots[n as usize]
+        &self.slots[slot_number as usize]
     }
 
     /// The credential.

@@ -12,13 +12,13 @@ use lwc_base::{Items, Key, Kind, Name, PageNumber, SlotNumber};
 use res_spec::mode_of;
 
 /// The key of a kind that has a number.
-fn key_of(kind: Kind, n: usize) -> Key
-    requires { n < limit MOST_PAGES kind }
-    ensures { result ≡ key_of kind n }
+fn key_of(kind: Kind, number: usize) -> Key
+    requires { number < limit MOST_PAGES kind }
+    ensures { result ≡ key_of kind number }
 {
     match kind {
-        Kind::Page => Key::Page(n as PageNumber),
-        Kind::Slot => Key::Slot(n as SlotNumber),
+        Kind::Page => Key::Page(number as PageNumber),
+        Kind::Slot => Key::Slot(number as SlotNumber),
         Kind::Cred => Key::Cred,
     }
 }
@@ -67,15 +67,15 @@ impl WholeWorld {
     ghost use Rattle.whole_world.specs.Worlds.{seen};
 
     /// A context takes the cells of the keys that a spec names, and the rights of its pages, out of a row.
-    pub(crate) fn take_over(&mut self, c: Name, spec: &Items, row: ContextRow)
-        requires live { IsTrue (is_live (seen self.old) c) }
+    pub(crate) fn take_over(&mut self, context: Name, spec: &Items, row: ContextRow)
+        requires live { IsTrue (is_live (seen self.old) context) }
         requires whole { IsWhole (seen self.old).size.pages row }
-        requires old_groups { InContext (named_groups (seen self.old).next) c.job (context_of row) }
-        ensures { seen self.new ≡ change_context (seen self.old) c
+        requires old_groups { InContext (named_groups (seen self.old).next) context.job (context_of row) }
+        ensures { seen self.new ≡ change_context (seen self.old) context
             (with_taken (is_named spec.now) (context_of row)) }
     {
         let pages = self.page_count();
-        match self.contexts.position(c) {
+        match self.contexts.position(context) {
             Some(i) => self.contexts.rows[i].1.take_named(pages, spec, row),
             None => unreachable!(),
         }

@@ -29,13 +29,16 @@ fn byte_with(at: usize, piece: &[u8], place: usize, old: u8) -> u8
 }
 
 /// Puts what a piece has of a page into the page's bytes.
-fn put_piece(page: &mut PageBytes, p: PageNumber, at: usize, piece: &[u8])
-    ensures { page.new ≡ bytes_after (record { at = at; bytes = piece.now }) p page.old }
+fn put_piece(page: &mut PageBytes, page_number: PageNumber, at: usize, piece: &[u8])
+    ensures { page.new ≡ bytes_after (record { at = at; bytes = piece.now }) page_number page.old }
 {
     let count = page.as_slice().len();
     for i in 0..count {
         let old = page.as_slice()[i];
-        page.put(i, byte_with(at, piece, p as usize * PAGE_BYTES + i, old));
+        page.put(
+            i,
+            byte_with(at, piece, page_number as usize * PAGE_BYTES + i, old),
+        );
     }
 }
 
@@ -55,17 +58,17 @@ pub fn new_value(
     alloc: Global,
     parting: bool,
     new: Tag,
-    p: PageNumber,
+    page: PageNumber,
     at: usize,
     piece: &[u8],
     old: Option<&PageValue>,
 ) -> Result<PageValue, OutOfMemory>
     ensures { IfOk result (λ value. value
         ≡ stored_value parting new (unwrap_or (option_copied old.entry) Zero)
-        (bytes_after (record { at = at; bytes = piece.now }) p
+        (bytes_after (record { at = at; bytes = piece.now }) page
         (bytes_of (unwrap_or (option_copied old.entry) Zero)))) }
 {
     let mut bytes = copied_bytes(alloc, old)?;
-    put_piece(&mut bytes, p, at, piece);
+    put_piece(&mut bytes, page, at, piece);
     Ok(retagged(parting, new, old, bytes))
 }

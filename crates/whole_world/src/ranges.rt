@@ -75,15 +75,15 @@ impl WholeWorld {
     ghost use Rattle.whole_world.specs.Worlds.{seen};
 
     /// The numbers of ranges that the context and the new one would have after a clone, in this order.
-    pub(crate) fn clone_ranges(&self, c: Name, spec: &Items) -> (u32, u32)
-        requires live { IsTrue (is_live (seen self.now) c) }
+    pub(crate) fn clone_ranges(&self, context: Name, spec: &Items) -> (u32, u32)
+        requires live { IsTrue (is_live (seen self.now) context) }
         requires within { IsSpec (seen self.now).size.pages spec.now }
-        ensures { (job : ℕ) → result ≡ ranges_after_clone (seen self.now) c job spec.now }
+        ensures { (job : ℕ) → result ≡ ranges_after_clone (seen self.now) context job spec.now }
     {
         let pages = self.page_count();
         (
-            count_ranges(pages, |p| self.side_after_clone(c, spec, p)),
-            count_ranges(pages, |p| self.side_in_clone(c, spec, p)),
+            count_ranges(pages, |p| self.side_after_clone(context, spec, p)),
+            count_ranges(pages, |p| self.side_in_clone(context, spec, p)),
         )
     }
 
@@ -104,145 +104,152 @@ impl WholeWorld {
     }
 
     /// The number of ranges that the context would have once the pages of a range are present or absent.
-    pub(crate) fn map_ranges(&self, c: Name, range: Range, present: bool) -> u32
-        requires { IsTrue (is_live (seen self.now) c) }
-        ensures { result ≡ ranges_of (mapped_or_not (seen self.now) c range.from range.to present) c }
+    pub(crate) fn map_ranges(&self, context: Name, range: Range, present: bool) -> u32
+        requires { IsTrue (is_live (seen self.now) context) }
+        ensures { result
+            ≡ ranges_of (mapped_or_not (seen self.now) context range.from range.to present) context }
     {
         count_ranges(self.page_count(), |p| {
-            self.side_after_map(c, range, present, p)
+            self.side_after_map(context, range, present, p)
         })
     }
 
     /// Who has the value of a page of a context.
     #[tactic(auto, unfolding(crate::specs::Holders::page_holder))]
-    fn page_holder(&self, c: Name, p: PageNumber) -> Holder
-        requires { IsTrue (is_live (seen self.now) c) }
-        ensures { result ≡ page_holder (seen self.now) c p }
+    fn page_holder(&self, context: Name, page: PageNumber) -> Holder
+        requires { IsTrue (is_live (seen self.now) context) }
+        ensures { result ≡ page_holder (seen self.now) context page }
     {
-        self.row(c).holder(Key::Page(p))
+        self.row(context).holder(Key::Page(page))
     }
 
     /// The holder of a page of the context after it has been cloned.
     #[tactic(auto, unfolding(crate::specs::Holders::holder_after_clone))]
-    fn holder_after_clone(&self, c: Name, spec: &Items, p: PageNumber) -> Holder
-        requires { IsTrue (is_live (seen self.now) c) }
-        ensures { result ≡ holder_after_clone (seen self.now) c spec.now p }
+    fn holder_after_clone(&self, context: Name, spec: &Items, page: PageNumber) -> Holder
+        requires { IsTrue (is_live (seen self.now) context) }
+        ensures { result ≡ holder_after_clone (seen self.now) context spec.now page }
     {
-        let mode = mode_or_copy(spec, Key::Page(p));
-        moved_holder(mode, self.page_holder(c, p))
+        let mode = mode_or_copy(spec, Key::Page(page));
+        moved_holder(mode, self.page_holder(context, page))
     }
 
     /// The holder of a page of the clone.
     #[tactic(auto, unfolding(crate::specs::Holders::holder_in_clone))]
-    fn holder_in_clone(&self, c: Name, spec: &Items, p: PageNumber) -> Holder
-        requires { IsTrue (is_live (seen self.now) c) }
-        ensures { result ≡ holder_in_clone (seen self.now) c spec.now p }
+    fn holder_in_clone(&self, context: Name, spec: &Items, page: PageNumber) -> Holder
+        requires { IsTrue (is_live (seen self.now) context) }
+        ensures { result ≡ holder_in_clone (seen self.now) context spec.now page }
     {
-        match mode_or_copy(spec, Key::Page(p)) {
-            Mode::Copy | Mode::CopyRead => own_if(self.is_present(c, p)),
-            Mode::Share => moved_holder(Mode::Share, self.page_holder(c, p)),
+        match mode_or_copy(spec, Key::Page(page)) {
+            Mode::Copy | Mode::CopyRead => own_if(self.is_present(context, page)),
+            Mode::Share => moved_holder(Mode::Share, self.page_holder(context, page)),
             Mode::Unmap => Holder::Nobody,
         }
     }
 
     /// The holder of a page of the context `to` once it has taken over from the context `from`.
     #[tactic(auto, unfolding(crate::specs::Holders::holder_after_overlay))]
-    fn holder_after_overlay(&self, to: Name, from: Name, spec: &Items, p: PageNumber) -> Holder
+    fn holder_after_overlay(&self, to: Name, from: Name, spec: &Items, page: PageNumber) -> Holder
         requires to { IsTrue (is_live (seen self.now) to) }
         requires from { IsTrue (is_live (seen self.now) from) }
-        ensures { result ≡ holder_after_overlay (seen self.now) to from spec.now p }
+        ensures { result ≡ holder_after_overlay (seen self.now) to from spec.now page }
     {
-        match mode_of(spec, Key::Page(p)) {
-            Some(Mode::Copy | Mode::CopyRead) => own_if(self.is_present(from, p)),
-            Some(Mode::Share) => moved_holder(Mode::Share, self.page_holder(from, p)),
+        match mode_of(spec, Key::Page(page)) {
+            Some(Mode::Copy | Mode::CopyRead) => own_if(self.is_present(from, page)),
+            Some(Mode::Share) => moved_holder(Mode::Share, self.page_holder(from, page)),
             Some(Mode::Unmap) => Holder::Nobody,
-            None => self.page_holder(to, p),
+            None => self.page_holder(to, page),
         }
     }
 
     /// The holder of a page of the context after the pages of a range are made present or absent.
     #[tactic(auto, unfolding(crate::specs::Holders::holder_after_map))]
-    fn holder_after_map(&self, c: Name, range: Range, present: bool, p: PageNumber) -> Holder
-        requires { IsTrue (is_live (seen self.now) c) }
-        ensures { result ≡ holder_after_map (seen self.now) c range.from range.to present p }
+    fn holder_after_map(
+        &self,
+        context: Name,
+        range: Range,
+        present: bool,
+        page: PageNumber,
+    ) -> Holder
+        requires { IsTrue (is_live (seen self.now) context) }
+        ensures { result ≡ holder_after_map (seen self.now) context range.from range.to present page }
     {
-        if range.from <= p && p < range.to {
+        if range.from <= page && page < range.to {
             own_if(present)
         } else {
-            self.page_holder(c, p)
+            self.page_holder(context, page)
         }
     }
     /// A page of the context after it has been cloned.
     #[tactic(auto, unfolding(crate::specs::Holders::side_after_clone))]
-    fn side_after_clone(&self, c: Name, spec: &Items, p: PageNumber) -> Side
-        requires { IsTrue (is_live (seen self.now) c) }
-        ensures { result ≡ side_after_clone (seen self.now) c spec.now p }
+    fn side_after_clone(&self, context: Name, spec: &Items, page: PageNumber) -> Side
+        requires { IsTrue (is_live (seen self.now) context) }
+        ensures { result ≡ side_after_clone (seen self.now) context spec.now page }
     {
         Side {
-            holder: self.holder_after_clone(c, spec, p),
-            right: self.right(c, p),
+            holder: self.holder_after_clone(context, spec, page),
+            right: self.right(context, page),
         }
     }
 
     /// A page of the clone.
     #[tactic(auto, unfolding(crate::specs::Holders::side_in_clone))]
-    fn side_in_clone(&self, c: Name, spec: &Items, p: PageNumber) -> Side
-        requires { IsTrue (is_live (seen self.now) c) }
-        ensures { result ≡ side_in_clone (seen self.now) c spec.now p }
+    fn side_in_clone(&self, context: Name, spec: &Items, page: PageNumber) -> Side
+        requires { IsTrue (is_live (seen self.now) context) }
+        ensures { result ≡ side_in_clone (seen self.now) context spec.now page }
     {
         Side {
-            holder: self.holder_in_clone(c, spec, p),
-            right: self.cloned_right(c, p, mode_or_copy(spec, Key::Page(p))),
+            holder: self.holder_in_clone(context, spec, page),
+            right: self.cloned_right(context, page, mode_or_copy(spec, Key::Page(page))),
         }
     }
 
     /// A page of the context `to` once it has taken over from the context `from`.
     #[tactic(auto, unfolding(crate::specs::Holders::side_after_overlay))]
-    fn side_after_overlay(&self, to: Name, from: Name, spec: &Items, p: PageNumber) -> Side
+    fn side_after_overlay(&self, to: Name, from: Name, spec: &Items, page: PageNumber) -> Side
         requires to { IsTrue (is_live (seen self.now) to) }
         requires from { IsTrue (is_live (seen self.now) from) }
-        ensures { result ≡ side_after_overlay (seen self.now) to from spec.now p }
+        ensures { result ≡ side_after_overlay (seen self.now) to from spec.now page }
     {
         Side {
-            holder: self.holder_after_overlay(to, from, spec, p),
-            right: self.overlaid_right(to, from, spec, p),
+            holder: self.holder_after_overlay(to, from, spec, page),
+            right: self.overlaid_right(to, from, spec, page),
         }
     }
 
     /// The right of a page of the context `to` once it has taken over from the context `from`.
-    fn overlaid_right(&self, to: Name, from: Name, spec: &Items, p: PageNumber) -> Right
+    fn overlaid_right(&self, to: Name, from: Name, spec: &Items, page: PageNumber) -> Right
         requires to { IsTrue (is_live (seen self.now) to) }
         requires from { IsTrue (is_live (seen self.now) from) }
-        ensures { result ≡ overlaid_right (seen self.now) from p (mode spec.now (Page p))
-            (right_at (seen self.now) to p) }
+        ensures { result ≡ overlaid_right (seen self.now) from page (mode spec.now (Page page))
+            (right_at (seen self.now) to page) }
     {
-        match mode_of(spec, Key::Page(p)) {
-            Some(mode) => self.cloned_right(from, p, mode),
-            None => self.right(to, p),
+        match mode_of(spec, Key::Page(page)) {
+            Some(mode) => self.cloned_right(from, page, mode),
+            None => self.right(to, page),
         }
     }
 
     /// A page of the context after the pages of a range are made present or absent.
     #[tactic(auto, unfolding(crate::specs::Holders::side_after_map))]
-    fn side_after_map(&self, c: Name, range: Range, present: bool, p: PageNumber) -> Side
-        requires { IsTrue (is_live (seen self.now) c) }
-        ensures { result ≡ side_after_map (seen self.now) c range.from range.to present p }
+    fn side_after_map(&self, context: Name, range: Range, present: bool, page: PageNumber) -> Side
+        requires { IsTrue (is_live (seen self.now) context) }
+        ensures { result ≡ side_after_map (seen self.now) context range.from range.to present page }
     {
         Side {
-            holder: self.holder_after_map(c, range, present, p),
-            right: self.right_after_map(c, range, p),
+            holder: self.holder_after_map(context, range, present, page),
+            right: self.right_after_map(context, range, page),
         }
     }
 
     /// The right of a page of the context after the pages of a range are made present or absent.
-    fn right_after_map(&self, c: Name, range: Range, p: PageNumber) -> Right
-        requires { IsTrue (is_live (seen self.now) c) }
-        ensures { result ≡ writable_in range.from range.to (context (seen self.now) c).right p }
+    fn right_after_map(&self, of_context: Name, range: Range, page: PageNumber) -> Right
+        requires { IsTrue (is_live (seen self.now) of_context) }
+        ensures { result ≡ writable_in range.from range.to (context (seen self.now) of_context).right page }
     {
-        if range.from <= p && p < range.to {
+        if range.from <= page && page < range.to {
             Right::Write
         } else {
-            self.right(c, p)
+            self.right(of_context, page)
         }
     }
 }

@@ -32,52 +32,52 @@ impl WholeWorld {
     }
 
     /// The row of a live context.
-    pub(crate) fn row(&self, c: Name) -> &ContextRow
-        requires { IsTrue (is_live (seen self.now) c) }
-        ensures context { context (seen self.now) c ≡ context_of result.now }
+    pub(crate) fn row(&self, of_context: Name) -> &ContextRow
+        requires { IsTrue (is_live (seen self.now) of_context) }
+        ensures context { context (seen self.now) of_context ≡ context_of result.now }
         ensures whole { IsWhole (seen self.now).size.pages result.now }
     {
-        match self.contexts.get(c) {
+        match self.contexts.get(of_context) {
             Some(row) => row,
             None => unreachable!(),
         }
     }
 
     /// The row of a group, if it is live.
-    fn group(&self, g: Name) -> Option<&GroupRow>
-        ensures found { IfSome result (λ row. group (seen self.now) g ≡ group_of row.now) }
+    fn group(&self, group_name: Name) -> Option<&GroupRow>
+        ensures found { IfSome result (λ row. group (seen self.now) group_name ≡ group_of row.now) }
         ensures whole { IfSome result (λ row. IsWholeGroup (seen self.now).size.pages row.now) }
-        ensures missed { IfNone result (group (seen self.now) g ≡ new_group) }
+        ensures missed { IfNone result (group (seen self.now) group_name ≡ new_group) }
     {
-        self.groups.get(g)
+        self.groups.get(group_name)
     }
 
     /// The value of a group's page.
-    fn group_page(&self, g: Name, p: PageNumber) -> Option<&PageValue>
-        ensures { option_copied result ≡ (group (seen self.now) g).value (Page p) }
+    fn group_page(&self, group_name: Name, page: PageNumber) -> Option<&PageValue>
+        ensures { option_copied result ≡ (group (seen self.now) group_name).value (Page page) }
     {
-        match self.group(g) {
-            Some(row) => row.page(p),
+        match self.group(group_name) {
+            Some(row) => row.page(page),
             None => None,
         }
     }
 
     /// The value of a group's slot, lent.
-    fn group_slot(&self, g: Name, n: SlotNumber) -> Lent<'_>
-        requires { n < SLOTS }
-        ensures { descriptor_of result ≡ (group (seen self.now) g).value (Slot n) }
+    fn group_slot(&self, group_name: Name, slot: SlotNumber) -> Lent<'_>
+        requires { slot < SLOTS }
+        ensures { descriptor_of result ≡ (group (seen self.now) group_name).value (Slot slot) }
     {
-        match self.group(g) {
-            Some(row) => row.slot(n).lend(),
+        match self.group(group_name) {
+            Some(row) => row.slot(slot).lend(),
             None => Lent::Empty,
         }
     }
 
     /// The credential of a group.
-    fn group_uid(&self, g: Name) -> u32
-        ensures { result ≡ (group (seen self.now) g).value Cred }
+    fn group_uid(&self, group_name: Name) -> u32
+        ensures { result ≡ (group (seen self.now) group_name).value Cred }
     {
-        match self.group(g) {
+        match self.group(group_name) {
             Some(row) => row.uid(),
             None => NOBODY,
         }
@@ -85,138 +85,140 @@ impl WholeWorld {
 
     /// The value of a page of a context.
     #[tactic(auto, unfolding(lwc_base::specs::Cells::value_at))]
-    pub(crate) fn page_value(&self, c: Name, p: PageNumber) -> Option<&PageValue>
-        requires { IsTrue (is_live (seen self.now) c) }
-        ensures { option_copied result ≡ page_at (seen self.now) c p }
+    pub(crate) fn page_value(&self, context: Name, page: PageNumber) -> Option<&PageValue>
+        requires { IsTrue (is_live (seen self.now) context) }
+        ensures { option_copied result ≡ page_at (seen self.now) context page }
     {
-        match self.row(c).page(p) {
+        match self.row(context).page(page) {
             Some(Cell::Own(value)) => value.as_ref(),
-            Some(Cell::Common(g)) => self.group_page(*g, p),
+            Some(Cell::Common(g)) => self.group_page(*g, page),
             None => None,
         }
     }
 
     /// The descriptor in a slot of a context, lent.
     #[tactic(auto, unfolding(lwc_base::specs::Cells::value_at))]
-    pub(crate) fn slot_value(&self, c: Name, n: SlotNumber) -> Lent<'_>
-        requires live { IsTrue (is_live (seen self.now) c) }
-        requires within { n < SLOTS }
-        ensures { descriptor_of result ≡ slot_at (seen self.now) c n }
+    pub(crate) fn slot_value(&self, context: Name, slot: SlotNumber) -> Lent<'_>
+        requires live { IsTrue (is_live (seen self.now) context) }
+        requires within { slot < SLOTS }
+        ensures { descriptor_of result ≡ slot_at (seen self.now) context slot }
     {
-        match self.row(c).slot(n) {
+        match self.row(context).slot(slot) {
             Cell::Own(value) => value.lend(),
-            Cell::Common(g) => self.group_slot(*g, n),
+            Cell::Common(g) => self.group_slot(*g, slot),
         }
     }
 
     /// The credential of a context.
     #[tactic(auto, unfolding(lwc_base::specs::Cells::value_at))]
-    pub(crate) fn uid_value(&self, c: Name) -> u32
-        requires { IsTrue (is_live (seen self.now) c) }
-        ensures { result ≡ uid_at (seen self.now) c }
+    pub(crate) fn uid_value(&self, context: Name) -> u32
+        requires { IsTrue (is_live (seen self.now) context) }
+        ensures { result ≡ uid_at (seen self.now) context }
     {
-        match self.row(c).uid() {
+        match self.row(context).uid() {
             Cell::Own(value) => *value,
             Cell::Common(g) => self.group_uid(*g),
         }
     }
 
     /// Whether a page is present.
-    pub(crate) fn is_present(&self, c: Name, p: PageNumber) -> bool
-        requires { IsTrue (is_live (seen self.now) c) }
-        ensures { result ≡ is_some (page_at (seen self.now) c p) }
+    pub(crate) fn is_present(&self, context: Name, page: PageNumber) -> bool
+        requires { IsTrue (is_live (seen self.now) context) }
+        ensures { result ≡ is_some (page_at (seen self.now) context page) }
     {
-        self.page_value(c, p).is_some()
+        self.page_value(context, page).is_some()
     }
 
     /// Whether all of some pages are present.
-    pub(crate) fn are_present(&self, c: Name, pages: Range) -> bool
-        requires { IsTrue (is_live (seen self.now) c) }
-        ensures { result ≡ list_all (λ p. is_some (page_at (seen self.now) c p))
+    pub(crate) fn are_present(&self, context: Name, pages: Range) -> bool
+        requires { IsTrue (is_live (seen self.now) context) }
+        ensures { result ≡ list_all (λ p. is_some (page_at (seen self.now) context p))
             (range_with_len pages.from (pages.to - pages.from)) }
     {
-        (pages.from..pages.to).all(|p| self.is_present(c, p))
+        (pages.from..pages.to).all(|p| self.is_present(context, p))
     }
 
     /// The right of a page.
-    pub(crate) fn right(&self, c: Name, p: PageNumber) -> Right
-        requires { IsTrue (is_live (seen self.now) c) }
-        ensures { result ≡ right_at (seen self.now) c p }
+    pub(crate) fn right(&self, context: Name, page: PageNumber) -> Right
+        requires { IsTrue (is_live (seen self.now) context) }
+        ensures { result ≡ right_at (seen self.now) context page }
     {
-        self.row(c).right(p)
+        self.row(context).right(page)
     }
 
     /// Whether bytes may be stored to a page.
-    fn may_write(&self, c: Name, p: PageNumber) -> bool
-        requires { IsTrue (is_live (seen self.now) c) }
-        ensures { result ≡ may_write (right_at (seen self.now) c p) }
+    fn may_write(&self, context: Name, page: PageNumber) -> bool
+        requires { IsTrue (is_live (seen self.now) context) }
+        ensures { result ≡ may_write (right_at (seen self.now) context page) }
     {
-        matches!(self.right(c, p), Right::Write)
+        matches!(self.right(context, page), Right::Write)
     }
 
     /// Whether bytes may be stored to all of some pages.
-    pub(crate) fn are_writable(&self, c: Name, pages: Range) -> bool
-        requires { IsTrue (is_live (seen self.now) c) }
-        ensures { result ≡ list_all (λ p. may_write (right_at (seen self.now) c p))
+    pub(crate) fn are_writable(&self, context: Name, pages: Range) -> bool
+        requires { IsTrue (is_live (seen self.now) context) }
+        ensures { result ≡ list_all (λ p. may_write (right_at (seen self.now) context p))
             (range_with_len pages.from (pages.to - pages.from)) }
     {
-        (pages.from..pages.to).all(|p| self.may_write(c, p))
+        (pages.from..pages.to).all(|p| self.may_write(context, p))
     }
 
     /// Whether a slot of a context is empty.
-    pub(crate) fn is_slot_empty(&self, c: Name, n: SlotNumber) -> bool
-        requires live { IsTrue (is_live (seen self.now) c) }
-        requires within { n < SLOTS }
-        ensures { result ≡ is_empty (slot_at (seen self.now) c n) }
+    pub(crate) fn is_slot_empty(&self, context: Name, slot: SlotNumber) -> bool
+        requires live { IsTrue (is_live (seen self.now) context) }
+        requires within { slot < SLOTS }
+        ensures { result ≡ is_empty (slot_at (seen self.now) context slot) }
     {
-        matches!(self.slot_value(c, n), Lent::Empty)
+        matches!(self.slot_value(context, slot), Lent::Empty)
     }
 
     /// The number of pages of a context that are present.
     #[tactic(auto, using(lwc_types::proofs::Small::count_of_range))]
-    pub(crate) fn present_count(&self, c: Name) -> usize
-        requires { IsTrue (is_live (seen self.now) c) }
-        ensures present { result ≡ count_by (λ p. is_some (page_at (seen self.now) c p))
+    pub(crate) fn present_count(&self, context: Name) -> usize
+        requires { IsTrue (is_live (seen self.now) context) }
+        ensures present { result ≡ count_by (λ p. is_some (page_at (seen self.now) context p))
             (range_with_len 0 (seen self.now).size.pages) }
         ensures few { result < 2 ^ 32 }
     {
         (0..self.page_count())
-            .filter(|p| self.is_present(c, *p))
+            .filter(|p| self.is_present(context, *p))
             .count()
     }
 
     /// The number of slots of a context that are not empty.
     #[tactic(auto, using(lwc_types::proofs::Small::count_of_range))]
-    pub(crate) fn filled_count(&self, c: Name) -> usize
-        requires { IsTrue (is_live (seen self.now) c) }
-        ensures filled { result ≡ count_by (λ n. not (is_empty (slot_at (seen self.now) c n)))
+    pub(crate) fn filled_count(&self, context: Name) -> usize
+        requires { IsTrue (is_live (seen self.now) context) }
+        ensures filled { result ≡ count_by (λ n. not (is_empty (slot_at (seen self.now) context n)))
             (range_with_len 0 SLOTS) }
         ensures few { result ≤ SLOTS }
     {
-        (0..SLOTS).filter(|n| !self.is_slot_empty(c, *n)).count()
+        (0..SLOTS)
+            .filter(|n| !self.is_slot_empty(context, *n))
+            .count()
     }
 
     /// The byte at an address, 0 where its page is absent.
     #[tactic(auto, unfolding(lwc_base::specs::Memory::byte_at), using(lwc_types::proofs::Small::zeros_at))]
-    fn byte(&self, c: Name, at: usize) -> u8
-        requires live { IsTrue (is_live (seen self.now) c) }
+    fn byte(&self, context: Name, at: usize) -> u8
+        requires live { IsTrue (is_live (seen self.now) context) }
         requires within { at < 2 ^ 28 }
-        ensures { result ≡ byte_at (seen self.now) c at }
+        ensures { result ≡ byte_at (seen self.now) context at }
     {
-        match self.page_value(c, (at / PAGE_BYTES) as PageNumber) {
+        match self.page_value(context, (at / PAGE_BYTES) as PageNumber) {
             Some(PageValue::Data(_, bytes)) => bytes.as_slice()[at % PAGE_BYTES],
             _ => 0,
         }
     }
 
     /// Copies the bytes from an address on.
-    pub(crate) fn copy_to(&self, c: Name, at: usize, out: &mut [u8])
-        requires live { IsTrue (is_live (seen self.now) c) }
+    pub(crate) fn copy_to(&self, context: Name, at: usize, out: &mut [u8])
+        requires live { IsTrue (is_live (seen self.now) context) }
         requires within { at + length out.old ≤ 2 ^ 28 }
-        ensures { out.new ≡ map (byte_at (seen self.now) c) (range_with_len at (length out.old)) }
+        ensures { out.new ≡ map (byte_at (seen self.now) context) (range_with_len at (length out.old)) }
     {
         for (i, byte) in out.iter_mut().enumerate() {
-            *byte = self.byte(c, at + i);
+            *byte = self.byte(context, at + i);
         }
     }
 }

@@ -133,67 +133,68 @@ impl WholeWorld {
 
     /// Whether a clone moves a value into a new group.
     #[tactic(auto, unfolding(lwc_base::specs::Sharing::needs_group))]
-    pub(crate) fn moves_any(&self, c: Name, spec: &Items) -> bool
-        requires { IsTrue (is_live (seen self.now) c) }
-        ensures { result ≡ needs_group (seen self.now) c spec.now }
+    pub(crate) fn moves_any(&self, context: Name, spec: &Items) -> bool
+        requires { IsTrue (is_live (seen self.now) context) }
+        ensures { result ≡ needs_group (seen self.now) context spec.now }
     {
-        self.row(c).moves_any(self.page_count(), spec)
+        self.row(context).moves_any(self.page_count(), spec)
     }
 
     /// Moves a context's own values under share into a new group of the job, if there are any. The only
     /// error is out of memory; that for the row of the group has been taken.
-    pub(crate) fn share(&mut self, c: Name, spec: &Items, job: u32) -> Result<(), OutOfMemory>
-        requires live { IsTrue (is_live (seen self.old) c) }
+    pub(crate) fn share(&mut self, context: Name, spec: &Items, job: u32) -> Result<(), OutOfMemory>
+        requires live { IsTrue (is_live (seen self.old) context) }
         requires within { IsSpec (seen self.old).size.pages spec.now }
         requires may { MayName (seen self.old) job }
-        requires group { needs_group (seen self.old) c spec.now ≡ true → HasGroupPlace (seen self.old) }
+        requires group { needs_group (seen self.old) context spec.now ≡ true → HasGroupPlace (seen self.old) }
         requires room { HasRoom self.old.groups }
-        ensures shared { OnOk result (seen self.new ≡ share (seen self.old) c job spec.now) }
+        ensures shared { OnOk result (seen self.new ≡ share (seen self.old) context job spec.now) }
         ensures err { OnErr result (seen self.new ≡ seen self.old) }
         ensures room { HasRoom self.old.contexts → HasRoom self.new.contexts }
     {
-        if self.moves_any(c, spec) {
+        if self.moves_any(context, spec) {
             let group = GroupRow::new(self.alloc, self.page_count())?;
-            self.share_into(c, spec, job, group);
+            self.share_into(context, spec, job, group);
         }
         Ok(())
     }
 
     /// Moves a context's own values under share into the job's next group, which gets this empty row.
-    fn share_into(&mut self, c: Name, spec: &Items, job: u32, mut group: GroupRow)
-        requires live { IsTrue (is_live (seen self.old) c) }
+    fn share_into(&mut self, context: Name, spec: &Items, job: u32, mut group: GroupRow)
+        requires live { IsTrue (is_live (seen self.old) context) }
         requires within { IsSpec (seen self.old).size.pages spec.now }
-        requires needed { needs_group (seen self.old) c spec.now ≡ true }
+        requires needed { needs_group (seen self.old) context spec.now ≡ true }
         requires known { job < (seen self.old).size.jobs }
         requires few { ((seen self.old).next job).groups < 2 ^ 31 }
         requires whole { IsWholeGroup (seen self.old).size.pages group }
         requires empty { group_of group ≡ new_group }
         requires place { HasGroupPlace (seen self.old) }
         requires room { HasRoom self.old.groups }
-        ensures world { seen self.new ≡ share (seen self.old) c job spec.now }
+        ensures world { seen self.new ≡ share (seen self.old) context job spec.now }
         ensures room { HasRoom self.old.contexts → HasRoom self.new.contexts }
     {
         let name = self.next_group(job);
         self.count_group(job);
-        self.move_out(c, spec, name, &mut group);
+        self.move_out(context, spec, name, &mut group);
         self.groups.insert(name, group);
     }
 
     /// Moves a context's own values under share into an empty group, whose name its job has counted.
-    fn move_out(&mut self, c: Name, spec: &Items, name: Name, group: &mut GroupRow)
+    fn move_out(&mut self, of_context: Name, spec: &Items, name: Name, group: &mut GroupRow)
         requires within { IsSpec (seen self.old).size.pages spec.now }
         requires counted { IsNamedGroup (seen self.old).next name }
         requires whole { IsWholeGroup (seen self.old).size.pages group.old }
         requires empty { group_of group.old ≡ new_group }
-        requires live { IsTrue (is_live (seen self.old) c) }
-        ensures world { seen self.new ≡ change_context (seen self.old) c (with_shared name spec.now) }
+        requires live { IsTrue (is_live (seen self.old) of_context) }
+        ensures world { seen self.new
+            ≡ change_context (seen self.old) of_context (with_shared name spec.now) }
         ensures room { HasRoom self.old.contexts → HasRoom self.new.contexts }
         ensures group_room { HasRoom self.old.groups → HasRoom self.new.groups }
         ensures whole { IsWholeGroup (seen self.old).size.pages group.new }
-        ensures group { group_of group.new ≡ moved_values spec.now (context (seen self.old) c) }
+        ensures group { group_of group.new ≡ moved_values spec.now (context (seen self.old) of_context) }
     {
         let pages = self.page_count();
-        match self.contexts.position(c) {
+        match self.contexts.position(of_context) {
             Some(i) => self.contexts.rows[i]
                 .1
                 .move_values(pages, spec, name, group),

@@ -97,10 +97,10 @@ impl<T> Table<T> {
     }
 
     /// The name of the row at a place.
-    pub fn name_at(&self, i: usize) -> Option<Name>
-        ensures { result ≡ slice_get (map (λ row. row.0) self.now.rows.items) i }
+    pub fn name_at(&self, place: usize) -> Option<Name>
+        ensures { result ≡ slice_get (map (λ row. row.0) self.now.rows.items) place }
     {
-        match self.rows.get(i) {
+        match self.rows.get(place) {
             Some(row) => Some(row.0),
             None => None,
         }

@@ -246,11 +246,11 @@ impl WholeWorld {
     }
 
     /// Whether a store to a page of a context parts it. An absent page reads as zeros, which part.
-    pub(crate) fn is_parting(&self, c: Name, p: PageNumber) -> bool
-        requires { IsTrue (is_live (seen self.now) c) }
-        ensures { result ≡ is_parting (seen self.now) (page_value_at (seen self.now) c p) }
+    pub(crate) fn is_parting(&self, context: Name, page: PageNumber) -> bool
+        requires { IsTrue (is_live (seen self.now) context) }
+        ensures { result ≡ is_parting (seen self.now) (page_value_at (seen self.now) context page) }
     {
-        match tag_of(self.page_value(c, p)) {
+        match tag_of(self.page_value(context, page)) {
             Some(tag) => self.rows().count(tag) > 1,
             None => true,
         }

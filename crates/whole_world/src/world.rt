@@ -60,40 +60,40 @@ impl World for WholeWorld {
         Ok(self.add_context(0, row))
     }
 
-    fn map(&mut self, c: Name, range: Range) -> Result<(), OutOfMemory> {
-        self.set_pages(c, range, true);
+    fn map(&mut self, context: Name, range: Range) -> Result<(), OutOfMemory> {
+        self.set_pages(context, range, true);
         Ok(())
     }
 
-    fn unmap(&mut self, c: Name, range: Range) -> Result<(), OutOfMemory> {
-        self.set_pages(c, range, false);
+    fn unmap(&mut self, context: Name, range: Range) -> Result<(), OutOfMemory> {
+        self.set_pages(context, range, false);
         Ok(())
     }
 
-    fn bytes(&self, c: Name, at: u32, out: &mut [u8]) -> bool {
+    fn bytes(&self, context: Name, at: u32, out: &mut [u8]) -> bool {
         let pages = touched_pages(at as usize, out.len());
-        if !self.are_present(c, pages) {
+        if !self.are_present(context, pages) {
             return false;
         }
-        self.copy_to(c, at as usize, out);
+        self.copy_to(context, at as usize, out);
         true
     }
 
-    fn store(&mut self, c: Name, at: u32, piece: &[u8], job: u32) -> Result<(), StoreFault> {
+    fn store(&mut self, context: Name, at: u32, piece: &[u8], job: u32) -> Result<(), StoreFault> {
         let pages = touched_pages(at as usize, piece.len());
-        if !self.are_present(c, pages) {
+        if !self.are_present(context, pages) {
             return Err(StoreFault::BadAddress);
         }
-        if !self.are_writable(c, pages) {
+        if !self.are_writable(context, pages) {
             return Err(StoreFault::ReadOnly);
         }
-        let parting = self.parting_count(c, pages);
+        let parting = self.parting_count(context, pages);
         if (self.size.frames as usize) < self.used() as usize + parting {
             return Err(StoreFault::NoFrame);
         }
-        match self.stored_pages(c, at as usize, piece, job, pages) {
+        match self.stored_pages(context, at as usize, piece, job, pages) {
             Ok(values) => {
-                self.put_pages(c, values);
+                self.put_pages(context, values);
                 self.count_tags(job, parting as u32);
                 Ok(())
             }
@@ -101,55 +101,55 @@ impl World for WholeWorld {
         }
     }
 
-    fn slot(&self, c: Name, n: SlotNumber) -> Lent<'_> {
-        self.slot_value(c, n)
+    fn slot(&self, context: Name, slot_number: SlotNumber) -> Lent<'_> {
+        self.slot_value(context, slot_number)
     }
 
-    fn set_slot(&mut self, c: Name, n: SlotNumber, value: Lent<'_>) {
-        self.put(c, KeyValue::Slot(n, owned(value)));
+    fn set_slot(&mut self, context: Name, slot: SlotNumber, value: Lent<'_>) {
+        self.put(context, KeyValue::Slot(slot, owned(value)));
     }
 
-    fn dup_slot(&mut self, c: Name, from: SlotNumber, to: SlotNumber) {
-        let value = owned(self.slot_value(c, from));
-        self.put(c, KeyValue::Slot(to, value));
+    fn dup_slot(&mut self, context: Name, from: SlotNumber, to: SlotNumber) {
+        let value = owned(self.slot_value(context, from));
+        self.put(context, KeyValue::Slot(to, value));
     }
 
     #[tactic(auto, unfolding(lwc_base::specs::Slots::lowest_empty))]
-    fn lowest_empty(&self, c: Name) -> Option<SlotNumber> {
-        (0..SLOTS).find(|n| self.is_slot_empty(c, *n))
+    fn lowest_empty(&self, context: Name) -> Option<SlotNumber> {
+        (0..SLOTS).find(|n| self.is_slot_empty(context, *n))
     }
 
-    fn uid(&self, c: Name) -> u32 {
-        self.uid_value(c)
+    fn uid(&self, context: Name) -> u32 {
+        self.uid_value(context)
     }
 
-    fn set_uid(&mut self, c: Name, uid: u32) {
-        self.put(c, KeyValue::Cred(uid));
+    fn set_uid(&mut self, context: Name, uid: u32) {
+        self.put(context, KeyValue::Cred(uid));
     }
 
     #[tactic(auto, unfolding(crate::specs::Rows::context_of))]
-    fn entry(&self, c: Name) -> Regs {
-        self.row(c).entry
+    fn entry(&self, context: Name) -> Regs {
+        self.row(context).entry
     }
 
-    fn saved(&self, c: Name, t: u32) -> Option<Regs> {
-        self.row(c).saved(t)
+    fn saved(&self, context: Name, thread: u32) -> Option<Regs> {
+        self.row(context).saved(thread)
     }
 
-    fn save(&mut self, c: Name, t: u32, regs: &Regs) {
-        self.save_regs(c, t, regs);
+    fn save(&mut self, context: Name, thread: u32, regs: &Regs) {
+        self.save_regs(context, thread, regs);
     }
 
     fn clone_context(
         &mut self,
-        c: Name,
+        context: Name,
         spec: &Items,
         job: u32,
         entry: &Regs,
     ) -> Result<Name, OutOfMemory> {
-        let row = self.cloned_row(c, spec, job, Mode::Copy, entry)?;
+        let row = self.cloned_row(context, spec, job, Mode::Copy, entry)?;
         self.reserve()?;
-        self.share(c, spec, job)?;
+        self.share(context, spec, job)?;
         Ok(self.add_context(job, row))
     }
 
@@ -166,20 +166,20 @@ impl World for WholeWorld {
         self.drop_groups();
     }
 
-    fn needs_group(&self, c: Name, spec: &Items) -> bool {
-        self.moves_any(c, spec)
+    fn needs_group(&self, context: Name, spec: &Items) -> bool {
+        self.moves_any(context, spec)
     }
 
-    fn ranges_after_clone(&self, c: Name, spec: &Items) -> (u32, u32) {
-        self.clone_ranges(c, spec)
+    fn ranges_after_clone(&self, context: Name, spec: &Items) -> (u32, u32) {
+        self.clone_ranges(context, spec)
     }
 
     fn ranges_after_overlay(&self, to: Name, from: Name, spec: &Items) -> (u32, u32) {
         self.overlay_ranges(to, from, spec)
     }
 
-    fn ranges_after_map(&self, c: Name, range: Range, present: bool) -> u32 {
-        self.map_ranges(c, range, present)
+    fn ranges_after_map(&self, context: Name, range: Range, present: bool) -> u32 {
+        self.map_ranges(context, range, present)
     }
 
     fn live_of(&self, job: u32) -> u32 {
@@ -190,16 +190,16 @@ impl World for WholeWorld {
         self.groups.count_of(job) as u32
     }
 
-    fn nth_context(&self, i: u32) -> Option<Name> {
-        self.contexts.name_at(i as usize)
+    fn nth_context(&self, index: u32) -> Option<Name> {
+        self.contexts.name_at(index as usize)
     }
 
     #[tactic(auto, unfolding(lwc_base::specs::Summaries::summary_of))]
-    fn summary(&self, c: Name) -> Summary {
+    fn summary(&self, context: Name) -> Summary {
         Summary {
-            pages: self.present_count(c) as u32,
-            slots: self.filled_count(c) as u32,
-            uid: self.uid_value(c),
+            pages: self.present_count(context) as u32,
+            slots: self.filled_count(context) as u32,
+            uid: self.uid_value(context),
         }
     }
 

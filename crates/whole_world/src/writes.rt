@@ -26,59 +26,60 @@ impl WholeWorld {
     ghost use Rattle.world_face.specs.Calls.{HasPlace};
 
     /// Puts a value of a context's own under a key.
-    fn put_own(&mut self, c: Name, value: KeyValue)
+    fn put_own(&mut self, of_context: Name, value: KeyValue)
         requires within { IsKey (seen self.old).size.pages (key_in value) }
-        requires own { holder_of (key_in value) ((context (seen self.old) c).cell (key_in value)) ≡ spec.Own }
-        ensures { seen self.new ≡ put_at (seen self.old) c (key_in value) (value_in value) }
+        requires own { holder_of (key_in value) ((context (seen self.old) of_context).cell (key_in value))
+            ≡ spec.Own }
+        ensures { seen self.new ≡ put_at (seen self.old) of_context (key_in value) (value_in value) }
     {
-        match self.contexts.position(c) {
+        match self.contexts.position(of_context) {
             Some(i) => self.contexts.rows[i].1.put(value),
             None => {}
         }
     }
 
     /// Puts a value under a key of a group.
-    fn put_common(&mut self, g: Name, value: KeyValue)
+    fn put_common(&mut self, group: Name, value: KeyValue)
         requires { IsKey (seen self.old).size.pages (key_in value) }
-        ensures { seen self.new ≡ change_group (seen self.old) g (with_value (key_in value)
+        ensures { seen self.new ≡ change_group (seen self.old) group (with_value (key_in value)
             (value_in value)) }
     {
-        match self.groups.position(g) {
+        match self.groups.position(group) {
             Some(i) => self.groups.rows[i].1.put(value),
             None => {}
         }
     }
 
     /// Puts another value under a key of a context, where the old one is. An absent page stays absent.
-    pub(crate) fn put(&mut self, c: Name, value: KeyValue)
-        requires live { IsTrue (is_live (seen self.old) c) }
+    pub(crate) fn put(&mut self, context: Name, value: KeyValue)
+        requires live { IsTrue (is_live (seen self.old) context) }
         requires within { HasSlot SLOTS (key_in value) }
-        ensures { seen self.new ≡ put_at (seen self.old) c (key_in value) (value_in value) }
+        ensures { seen self.new ≡ put_at (seen self.old) context (key_in value) (value_in value) }
     {
-        match self.row(c).holder(value.key()) {
-            Holder::Own => self.put_own(c, value),
+        match self.row(context).holder(value.key()) {
+            Holder::Own => self.put_own(context, value),
             Holder::Group(g) => self.put_common(g, value),
             Holder::Nobody | Holder::NewGroup => {}
         }
     }
 
     /// Puts other values under pages of a context, one after another.
-    pub(crate) fn put_pages(&mut self, c: Name, values: Vec<(PageNumber, PageValue)>)
-        requires { IsTrue (is_live (seen self.old) c) }
-        ensures { seen self.new ≡ put_pages (seen self.old) c values.items }
+    pub(crate) fn put_pages(&mut self, context: Name, values: Vec<(PageNumber, PageValue)>)
+        requires { IsTrue (is_live (seen self.old) context) }
+        ensures { seen self.new ≡ put_pages (seen self.old) context values.items }
     {
         for (p, value) in values {
-            self.put(c, KeyValue::Page(p, Some(value)));
+            self.put(context, KeyValue::Page(p, Some(value)));
         }
     }
 
     /// Makes each page of a range present, as zeros of the context's own, or absent, with the right Write.
-    pub(crate) fn set_pages(&mut self, c: Name, range: Range, present: bool)
+    pub(crate) fn set_pages(&mut self, context: Name, range: Range, present: bool)
         requires order { range.from ≤ range.to }
         requires pages { range.to ≤ (seen self.old).size.pages }
-        ensures { seen self.new ≡ mapped_or_not (seen self.old) c range.from range.to present }
+        ensures { seen self.new ≡ mapped_or_not (seen self.old) context range.from range.to present }
     {
-        match self.contexts.position(c) {
+        match self.contexts.position(context) {
             Some(i) => self.contexts.rows[i]
                 .1
                 .set_pages(range.from, range.to, present),
@@ -87,12 +88,12 @@ impl WholeWorld {
     }
 
     /// Keeps registers for a thread in a context.
-    pub(crate) fn save_regs(&mut self, c: Name, t: u32, regs: &Regs)
-        requires { t < MOST_THREADS }
-        ensures { seen self.new ≡ save (seen self.old) c t regs.now }
+    pub(crate) fn save_regs(&mut self, context: Name, thread: u32, regs: &Regs)
+        requires { thread < MOST_THREADS }
+        ensures { seen self.new ≡ save (seen self.old) context thread regs.now }
     {
-        match self.contexts.position(c) {
-            Some(i) => self.contexts.rows[i].1.save(t, regs),
+        match self.contexts.position(context) {
+            Some(i) => self.contexts.rows[i].1.save(thread, regs),
             None => {}
         }
     }

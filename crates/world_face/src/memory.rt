@@ -19,12 +19,14 @@ pub fn is_within(pages: PageNumber, at: u64, count: usize) -> bool
 /// Reads bytes of a context's memory from an address that a guest names, as many as `out` has room for.
 /// `false` says that one of them is past the last page or in an absent page, and `out` is then as it was.
 #[tactic(auto, unfolding(lwc_base::specs::Memory::bytes_for))]
-pub fn bytes_for<W: World>(world: &W, c: Name, at: u64, out: &mut [u8]) -> bool
-    requires live { IsLive (W.seen world.now) c }
-    ensures present { result ≡ is_some (memory.bytes_for (W.seen world.now) c at (length out.old)) }
-    ensures found { IfSome (memory.bytes_for (W.seen world.now) c at (length out.old))
+pub fn bytes_for<W: World>(world: &W, context: Name, at: u64, out: &mut [u8]) -> bool
+    requires live { IsLive (W.seen world.now) context }
+    ensures present { result ≡ is_some (memory.bytes_for (W.seen world.now) context at (length out.old)) }
+    ensures found { IfSome (memory.bytes_for (W.seen world.now) context at (length out.old))
         (λ bytes. out.new ≡ bytes) }
-    ensures absent { IfNone (memory.bytes_for (W.seen world.now) c at (length out.old)) (out.new ≡ out.old) }
+    ensures absent { IfNone (memory.bytes_for (W.seen world.now) context at (length out.old))
+        (out.new ≡ out.old) }
 {
-    out.is_empty() || (is_within(world.pages(), at, out.len()) && world.bytes(c, at as u32, out))
+    out.is_empty()
+        || (is_within(world.pages(), at, out.len()) && world.bytes(context, at as u32, out))
 }

@@ -68,33 +68,36 @@ pub trait World: Sized + Drop + Send + Sync {
 
     /// Makes each page of the range a page of zeros of the context's own with the right Write, whatever it
     /// was. The only error is out of memory.
-    fn map(&mut self, c: Name, range: Range) -> Result<(), OutOfMemory>
-        requires live { IsLive (seen self.old) c }
+    fn map(&mut self, context: Name, range: Range) -> Result<(), OutOfMemory>
+        requires live { IsLive (seen self.old) context }
         requires some { range.from < range.to }
         requires within { range.to ≤ (seen self.old).size.pages }
-        requires few { ranges_of (map_pages (seen self.old) c range.from range.to) c ≤ MOST_RANGES }
-        ensures mapped { OnOk result (seen self.new ≡ map_pages (seen self.old) c range.from range.to) }
+        requires few { ranges_of (map_pages (seen self.old) context range.from range.to) context
+            ≤ MOST_RANGES }
+        ensures mapped { OnOk result (seen self.new ≡ map_pages (seen self.old) context range.from range.to) }
         ensures err { OnErr result (seen self.new ≡ seen self.old) }
         ensures ample { roomy ≡ true → IsOk result };
 
     /// Makes each page of the range absent, whatever it was. The only error is out of memory.
-    fn unmap(&mut self, c: Name, range: Range) -> Result<(), OutOfMemory>
-        requires live { IsLive (seen self.old) c }
+    fn unmap(&mut self, context: Name, range: Range) -> Result<(), OutOfMemory>
+        requires live { IsLive (seen self.old) context }
         requires some { range.from < range.to }
         requires within { range.to ≤ (seen self.old).size.pages }
-        requires few { ranges_of (unmap_pages (seen self.old) c range.from range.to) c ≤ MOST_RANGES }
-        ensures unmapped { OnOk result (seen self.new ≡ unmap_pages (seen self.old) c range.from range.to) }
+        requires few { ranges_of (unmap_pages (seen self.old) context range.from range.to) context
+            ≤ MOST_RANGES }
+        ensures unmapped { OnOk result
+            (seen self.new ≡ unmap_pages (seen self.old) context range.from range.to) }
         ensures err { OnErr result (seen self.new ≡ seen self.old) }
         ensures ample { roomy ≡ true → IsOk result };
 
     /// Reads `out.len()` bytes of the context's memory from the address `at` on into `out`. Answers
     /// `false`, with `out` unchanged, if a page of them is absent.
-    fn bytes(&self, c: Name, at: u32, out: &mut [u8]) -> bool
-        requires live { IsLive (seen self.now) c }
+    fn bytes(&self, context: Name, at: u32, out: &mut [u8]) -> bool
+        requires live { IsLive (seen self.now) context }
         requires within { at + length out.old ≤ (seen self.now).size.pages * PAGE_BYTES }
-        ensures present { result ≡ is_some (load (seen self.now) c at (length out.old)) }
-        ensures found { IfSome (load (seen self.now) c at (length out.old)) (λ bytes. out.new ≡ bytes) }
-        ensures absent { IfNone (load (seen self.now) c at (length out.old)) (out.new ≡ out.old) };
+        ensures present { result ≡ is_some (load (seen self.now) context at (length out.old)) }
+        ensures found { IfSome (load (seen self.now) context at (length out.old)) (λ bytes. out.new ≡ bytes) }
+        ensures absent { IfNone (load (seen self.now) context at (length out.old)) (out.new ≡ out.old) };
 
     /// Stores bytes in the context's memory from the address `at` on, for a job.
     ///
@@ -102,72 +105,74 @@ pub trait World: Sized + Drop + Send + Sync {
     ///
     /// `BadAddress` if a touched page is absent; else `ReadOnly` if one has the right Read; else `NoFrame` if
     /// the frames in use and the pages that part are more than the frames; or `OutOfMemory`.
-    fn store(&mut self, c: Name, at: u32, piece: &[u8], job: u32) -> Result<(), StoreFault>
-        requires live { IsLive (seen self.old) c }
+    fn store(&mut self, context: Name, at: u32, piece: &[u8], job: u32) -> Result<(), StoreFault>
+        requires live { IsLive (seen self.old) context }
         requires within { at + length piece.now ≤ (seen self.old).size.pages * PAGE_BYTES }
         requires short { length piece.now ≤ PAGE_BYTES }
         requires may { MayName (seen self.old) job }
-        ensures done { OnOk result (store (seen self.old) c job (record { at = at; bytes = piece.now }) ≡
+        ensures done { OnOk result
+            (store (seen self.old) context job (record { at = at; bytes = piece.now }) ≡
             stores.Done (seen self.new)) }
         ensures bad_address { (result ≡ Err StoreFault.BadAddress) ↔
-            (store (seen self.old) c job (record { at = at; bytes = piece.now }) ≡ stores.Absent) }
+            (store (seen self.old) context job (record { at = at; bytes = piece.now }) ≡ stores.Absent) }
         ensures read_only { (result ≡ Err StoreFault.ReadOnly) ↔
-            (store (seen self.old) c job (record { at = at; bytes = piece.now }) ≡ stores.ReadOnly) }
+            (store (seen self.old) context job (record { at = at; bytes = piece.now }) ≡ stores.ReadOnly) }
         ensures no_frame { (result ≡ Err StoreFault.NoFrame) ↔
-            (store (seen self.old) c job (record { at = at; bytes = piece.now }) ≡ stores.Full) }
+            (store (seen self.old) context job (record { at = at; bytes = piece.now }) ≡ stores.Full) }
         ensures err { OnErr result (seen self.new ≡ seen self.old) }
         ensures ample { roomy ≡ true → result ≢ Err StoreFault.OutOfMemory };
 
     /// The descriptor in a slot of the context, lent.
-    fn slot(&self, c: Name, n: SlotNumber) -> Lent<'_>
-        requires live { IsLive (seen self.now) c }
-        requires within { n < SLOTS }
-        ensures value { descriptor_of result ≡ slot_at (seen self.now) c n };
+    fn slot(&self, context: Name, slot_number: SlotNumber) -> Lent<'_>
+        requires live { IsLive (seen self.now) context }
+        requires within { slot_number < SLOTS }
+        ensures value { descriptor_of result ≡ slot_at (seen self.now) context slot_number };
 
     /// Puts another descriptor into a slot of the context.
-    fn set_slot(&mut self, c: Name, n: SlotNumber, value: Lent<'_>)
-        requires live { IsLive (seen self.old) c }
-        requires within { n < SLOTS }
-        ensures put { seen self.new ≡ put_slot (seen self.old) c n (descriptor_of value.entry) };
+    fn set_slot(&mut self, context: Name, slot: SlotNumber, value: Lent<'_>)
+        requires live { IsLive (seen self.old) context }
+        requires within { slot < SLOTS }
+        ensures put { seen self.new ≡ put_slot (seen self.old) context slot (descriptor_of value.entry) };
 
     /// Puts the descriptor in the slot `from` of the context into its slot `to` too.
-    fn dup_slot(&mut self, c: Name, from: SlotNumber, to: SlotNumber)
-        requires live { IsLive (seen self.old) c }
+    fn dup_slot(&mut self, context: Name, from: SlotNumber, to: SlotNumber)
+        requires live { IsLive (seen self.old) context }
         requires from { from < SLOTS }
         requires to { to < SLOTS }
-        ensures put { seen self.new ≡ put_slot (seen self.old) c to (slot_at (seen self.old) c from) };
+        ensures put { seen self.new
+            ≡ put_slot (seen self.old) context to (slot_at (seen self.old) context from) };
 
     /// The lowest empty slot of the context; `None` if no slot is empty.
-    fn lowest_empty(&self, c: Name) -> Option<SlotNumber>
-        requires live { IsLive (seen self.now) c }
-        ensures lowest { result ≡ lowest_empty (seen self.now) c };
+    fn lowest_empty(&self, context: Name) -> Option<SlotNumber>
+        requires live { IsLive (seen self.now) context }
+        ensures lowest { result ≡ lowest_empty (seen self.now) context };
 
     /// The credential of the context.
-    fn uid(&self, c: Name) -> u32
-        requires live { IsLive (seen self.now) c }
-        ensures value { result ≡ uid_at (seen self.now) c };
+    fn uid(&self, context: Name) -> u32
+        requires live { IsLive (seen self.now) context }
+        ensures value { result ≡ uid_at (seen self.now) context };
 
     /// Changes the credential of the context.
-    fn set_uid(&mut self, c: Name, uid: u32)
-        requires live { IsLive (seen self.old) c }
-        ensures put { seen self.new ≡ put_uid (seen self.old) c uid };
+    fn set_uid(&mut self, context: Name, uid: u32)
+        requires live { IsLive (seen self.old) context }
+        ensures put { seen self.new ≡ put_uid (seen self.old) context uid };
 
     /// The registers that the context begins with.
-    fn entry(&self, c: Name) -> Regs
-        requires live { IsLive (seen self.now) c }
-        ensures value { result ≡ (context (seen self.now) c).entry };
+    fn entry(&self, of_context: Name) -> Regs
+        requires live { IsLive (seen self.now) of_context }
+        ensures value { result ≡ (context (seen self.now) of_context).entry };
 
     /// The registers that the context keeps for a thread; `None` if it keeps none for it.
-    fn saved(&self, c: Name, t: u32) -> Option<Regs>
-        requires live { IsLive (seen self.now) c }
-        requires thread { t < MOST_THREADS }
-        ensures value { result ≡ (context (seen self.now) c).saved t };
+    fn saved(&self, of_context: Name, thread: u32) -> Option<Regs>
+        requires live { IsLive (seen self.now) of_context }
+        requires thread { thread < MOST_THREADS }
+        ensures value { result ≡ (context (seen self.now) of_context).saved thread };
 
     /// Keeps registers for a thread in the context, in place of those that it kept for it.
-    fn save(&mut self, c: Name, t: u32, regs: &Regs)
-        requires live { IsLive (seen self.old) c }
-        requires thread { t < MOST_THREADS }
-        ensures saved { seen self.new ≡ save (seen self.old) c t regs.now };
+    fn save(&mut self, context: Name, thread: u32, regs: &Regs)
+        requires live { IsLive (seen self.old) context }
+        requires thread { thread < MOST_THREADS }
+        ensures saved { seen self.new ≡ save (seen self.old) context thread regs.now };
 
     /// Makes a new context of a job from another one. Values of mode share that are the other's own move
     /// into one new group, and both contexts have them in common from then on; what was common already
@@ -177,20 +182,20 @@ pub trait World: Sized + Drop + Send + Sync {
     /// out of memory.
     fn clone_context(
         &mut self,
-        c: Name,
+        context: Name,
         spec: &Items,
         job: u32,
         entry: &Regs,
     ) -> Result<Name, OutOfMemory>
-        requires live { IsLive (seen self.old) c }
+        requires live { IsLive (seen self.old) context }
         requires within { IsSpec (seen self.old).size.pages spec.now }
         requires may { MayName (seen self.old) job }
         requires place { HasPlace (seen self.old) }
-        requires group { needs_group (seen self.old) c spec.now ≡ true → HasGroupPlace (seen self.old) }
-        requires few { AreFew (ranges_after_clone (seen self.old) c job spec.now) }
+        requires group { needs_group (seen self.old) context spec.now ≡ true → HasGroupPlace (seen self.old) }
+        requires few { AreFew (ranges_after_clone (seen self.old) context job spec.now) }
         ensures name { IfOk result (λ made. made ≡ next_context (seen self.old) job) }
         ensures cloned { OnOk result (seen self.new ≡
-            clone_context (seen self.old) c job spec.now entry.now) }
+            clone_context (seen self.old) context job spec.now entry.now) }
         ensures err { OnErr result (seen self.new ≡ seen self.old) }
         ensures ample { roomy ≡ true → IsOk result };
 
@@ -220,17 +225,17 @@ pub trait World: Sized + Drop + Send + Sync {
 
     /// Whether `clone_context` and `overlay` make a group: an item of mode share names a key that is present
     /// and the context's own.
-    fn needs_group(&self, c: Name, spec: &Items) -> bool
-        requires live { IsLive (seen self.now) c }
+    fn needs_group(&self, context: Name, spec: &Items) -> bool
+        requires live { IsLive (seen self.now) context }
         requires within { IsSpec (seen self.now).size.pages spec.now }
-        ensures value { result ≡ needs_group (seen self.now) c spec.now };
+        ensures value { result ≡ needs_group (seen self.now) context spec.now };
 
     /// The numbers of ranges that the context and the new one would have after `clone_context`, in this
     /// order. They are the same for every job.
-    fn ranges_after_clone(&self, c: Name, spec: &Items) -> (u32, u32)
-        requires live { IsLive (seen self.now) c }
+    fn ranges_after_clone(&self, context: Name, spec: &Items) -> (u32, u32)
+        requires live { IsLive (seen self.now) context }
         requires within { IsSpec (seen self.now).size.pages spec.now }
-        ensures value { (job : ℕ) → result ≡ ranges_after_clone (seen self.now) c job spec.now };
+        ensures value { (job : ℕ) → result ≡ ranges_after_clone (seen self.now) context job spec.now };
 
     /// The numbers of ranges that the contexts `from` and `to` would have after `overlay`, in this order.
     /// They are the same for every job.
@@ -242,11 +247,12 @@ pub trait World: Sized + Drop + Send + Sync {
 
     /// The number of ranges that the context would have after `map` if `present` is true, and else after
     /// `unmap`.
-    fn ranges_after_map(&self, c: Name, range: Range, present: bool) -> u32
-        requires live { IsLive (seen self.now) c }
+    fn ranges_after_map(&self, context: Name, range: Range, present: bool) -> u32
+        requires live { IsLive (seen self.now) context }
         requires some { range.from < range.to }
         requires within { range.to ≤ (seen self.now).size.pages }
-        ensures value { result ≡ ranges_of (mapped_or_not (seen self.now) c range.from range.to present) c };
+        ensures value { result
+            ≡ ranges_of (mapped_or_not (seen self.now) context range.from range.to present) context };
 
     /// The number of live contexts of the job.
     fn live_of(&self, job: u32) -> u32
@@ -257,13 +263,13 @@ pub trait World: Sized + Drop + Send + Sync {
         ensures value { result ≡ groups_of (seen self.now) job };
 
     /// The name of the i-th live context in the order of names; `None` if at most i contexts are live.
-    fn nth_context(&self, i: u32) -> Option<Name>
-        ensures { result ≡ slice_get (fm.keys (seen self.now).contexts) i };
+    fn nth_context(&self, index: u32) -> Option<Name>
+        ensures { result ≡ slice_get (fm.keys (seen self.now).contexts) index };
 
     /// The numbers of pages and slots in use of the context, and its uid, as a report prints them.
-    fn summary(&self, c: Name) -> Summary
-        requires live { IsLive (seen self.now) c }
-        ensures value { result ≡ summary_of (seen self.now) c };
+    fn summary(&self, context: Name) -> Summary
+        requires live { IsLive (seen self.now) context }
+        ensures value { result ≡ summary_of (seen self.now) context };
 
     /// The number of live contexts.
     fn context_count(&self) -> u32

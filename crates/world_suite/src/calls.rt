@@ -40,23 +40,28 @@ fn begun<W: World>(alloc: Global, frames: u32) -> Result<(W, Name), Fail>
 }
 
 /// Whether two bytes of the context are there, and what `World::bytes` leaves of a buffer of 9s.
-fn two_bytes<W: World>(world: &W, c: Name, at: u32) -> (bool, [u8; 2])
-    requires live { IsLive (W.seen world.now) c }
+fn two_bytes<W: World>(world: &W, context: Name, at: u32) -> (bool, [u8; 2])
+    requires live { IsLive (W.seen world.now) context }
     requires within { at + 2 ≤ (W.seen world.now).size.pages * 4096 }
 {
     let mut out = [9; 2];
-    (world.bytes(c, at, &mut out), out)
+    (world.bytes(context, at, &mut out), out)
 }
 
 /// Why a store for job 1 is refused.
-fn refused<W: World>(world: &mut W, c: Name, at: u32, piece: &[u8]) -> Result<StoreFault, Fail>
-    requires live { IsLive (W.seen world.old) c }
+fn refused<W: World>(
+    world: &mut W,
+    context: Name,
+    at: u32,
+    piece: &[u8],
+) -> Result<StoreFault, Fail>
+    requires live { IsLive (W.seen world.old) context }
     requires within { at + length piece.now ≤ (W.seen world.old).size.pages * 4096 }
     requires short { length piece.now ≤ 4096 }
     requires may { MayName (W.seen world.old) 1 }
     ensures { OnOk result (W.seen world.new ≡ W.seen world.old) }
 {
-    match world.store(c, at, piece, 1) {
+    match world.store(context, at, piece, 1) {
         Ok(()) => Err(Fail::new("the store is done")),
         Err(fault) => Ok(fault),
     }
@@ -66,13 +71,13 @@ fn refused<W: World>(world: &mut W, c: Name, at: u32, piece: &[u8]) -> Result<St
 type Stored = (u32, u32, (bool, [u8; 10]));
 
 /// Stores over the border of two pages.
-fn store_over_a_border<W: World>(world: &mut W, c: Name) -> Result<Stored, Fail>
-    requires { IsBegun 2 (W.seen world.old) c }
+fn store_over_a_border<W: World>(world: &mut W, context: Name) -> Result<Stored, Fail>
+    requires { IsBegun 2 (W.seen world.old) context }
 {
     let before = world.used();
-    world.store(c, 4092, &[1, 2, 3, 4, 5, 6, 7, 8], 1)?;
+    world.store(context, 4092, &[1, 2, 3, 4, 5, 6, 7, 8], 1)?;
     let mut out = [9; 10];
-    let are_there = world.bytes(c, 4091, &mut out);
+    let are_there = world.bytes(context, 4091, &mut out);
     Ok((before, world.used(), (are_there, out)))
 }
 
@@ -88,12 +93,15 @@ fn stores_over_a_border<W: World>(alloc: Global) -> Result<bool, Fail> {
 type Refused = ([StoreFault; 2], u32, [(bool, [u8; 2]); 2]);
 
 /// Tries two stores that are refused.
-fn refuse_stores<W: World>(world: &mut W, c: Name) -> Result<Refused, Fail>
-    requires { IsBegun 1 (W.seen world.old) c }
+fn refuse_stores<W: World>(world: &mut W, context: Name) -> Result<Refused, Fail>
+    requires { IsBegun 1 (W.seen world.old) context }
 {
-    let large = refused(world, c, 4092, &[1, 2, 3, 4, 5, 6, 7, 8])?;
-    let absent = refused(world, c, 8191, &[1, 2])?;
-    let bytes = [two_bytes(world, c, 8191), two_bytes(world, c, 4095)];
+    let large = refused(world, context, 4092, &[1, 2, 3, 4, 5, 6, 7, 8])?;
+    let absent = refused(world, context, 8191, &[1, 2])?;
+    let bytes = [
+        two_bytes(world, context, 8191),
+        two_bytes(world, context, 4095),
+    ];
     Ok(([large, absent], world.used(), bytes))
 }
 
@@ -107,8 +115,8 @@ fn refuses_stores<W: World>(alloc: Global) -> Result<bool, Fail> {
 }
 
 /// Whether the context is the first of the world, and there is no second one.
-fn is_only<W: World>(world: &W, c: Name) -> bool {
-    world.nth_context(0) == Some(c) && world.nth_context(1) == None
+fn is_only<W: World>(world: &W, context: Name) -> bool {
+    world.nth_context(0) == Some(context) && world.nth_context(1) == None
 }
 
 /// The live contexts and groups of job 0, the live contexts, and the pages of a context.
@@ -122,11 +130,16 @@ fn counts<W: World>(world: &W) -> (u32, u32, u32, u16) {
 }
 
 /// Where the context begins, its credential, whether its last slot is empty, and its summary.
-fn shown<W: World>(world: &W, c: Name) -> (u64, u32, bool, Summary)
-    requires { IsLive (W.seen world.now) c }
+fn shown<W: World>(world: &W, context: Name) -> (u64, u32, bool, Summary)
+    requires { IsLive (W.seen world.now) context }
 {
-    let is_empty = matches!(world.slot(c, 63), Lent::Empty);
-    (world.entry(c).pc, world.uid(c), is_empty, world.summary(c))
+    let is_empty = matches!(world.slot(context, 63), Lent::Empty);
+    (
+        world.entry(context).pc,
+        world.uid(context),
+        is_empty,
+        world.summary(context),
+    )
 }
 
 /// What a new context has.
@@ -146,24 +159,30 @@ fn shows_a_context<W: World>(alloc: Global) -> Result<bool, Fail> {
 
 /// The lowest empty slot before and after the console is put into slot 0, and whether it is there.
 #[tactic(auto, using(lwc_base::proofs::Facts::changes))]
-fn put_console<W: World>(world: &mut W, c: Name) -> ([Option<SlotNumber>; 2], bool)
-    requires { IsLive (W.seen world.old) c }
-    ensures { IsLive (W.seen world.new) c }
+fn put_console<W: World>(world: &mut W, context: Name) -> ([Option<SlotNumber>; 2], bool)
+    requires { IsLive (W.seen world.old) context }
+    ensures { IsLive (W.seen world.new) context }
 {
-    let before = world.lowest_empty(c);
-    world.set_slot(c, 0, Lent::Console);
-    let after = world.lowest_empty(c);
-    ([before, after], matches!(world.slot(c, 0), Lent::Console))
+    let before = world.lowest_empty(context);
+    world.set_slot(context, 0, Lent::Console);
+    let after = world.lowest_empty(context);
+    (
+        [before, after],
+        matches!(world.slot(context, 0), Lent::Console),
+    )
 }
 
 /// The credential, and what is saved of threads 15 and 14, after both have been put for thread 15.
 #[tactic(auto, using(lwc_base::proofs::Facts::changes))]
-fn put_registers<W: World>(world: &mut W, c: Name) -> (u32, [Option<Regs>; 2])
-    requires { IsLive (W.seen world.old) c }
+fn put_registers<W: World>(world: &mut W, context: Name) -> (u32, [Option<Regs>; 2])
+    requires { IsLive (W.seen world.old) context }
 {
-    world.set_uid(c, 9);
-    world.save(c, 15, &Regs::fresh(6));
-    (world.uid(c), [world.saved(c, 15), world.saved(c, 14)])
+    world.set_uid(context, 9);
+    world.save(context, 15, &Regs::fresh(6));
+    (
+        world.uid(context),
+        [world.saved(context, 15), world.saved(context, 14)],
+    )
 }
 
 /// What is put into slots, into the credential and among the saved registers is there.
@@ -178,55 +197,66 @@ fn puts_values<W: World>(alloc: Global) -> Result<bool, Fail> {
 
 /// Puts a link to the context into slot 1, and from there into slot 1 and slot 5.
 #[tactic(auto, using(lwc_base::proofs::Facts::changes))]
-fn dup_link<W: World>(world: &mut W, c: Name, cap: &Cap)
-    requires { IsLive (W.seen world.old) c }
-    ensures { IsLive (W.seen world.new) c }
+fn dup_link<W: World>(world: &mut W, context: Name, cap: &Cap)
+    requires { IsLive (W.seen world.old) context }
+    ensures { IsLive (W.seen world.new) context }
 {
     let keys = Grant::Of(cap);
-    world.set_slot(c, 1, Lent::Ctx { name: c, keys });
-    world.dup_slot(c, 1, 1);
-    world.dup_slot(c, 1, 5);
+    world.set_slot(
+        context,
+        1,
+        Lent::Ctx {
+            name: context,
+            keys,
+        },
+    );
+    world.dup_slot(context, 1, 1);
+    world.dup_slot(context, 1, 5);
 }
 
 /// Whether a slot of the context has a link to it with these keys.
-fn is_link<W: World>(world: &W, c: Name, slot: SlotNumber, cap: &Cap) -> bool
-    requires live { IsLive (W.seen world.now) c }
+fn is_link<W: World>(world: &W, context: Name, slot: SlotNumber, cap: &Cap) -> bool
+    requires live { IsLive (W.seen world.now) context }
     requires within { slot ≤ 63 }
 {
-    owned(world.slot(c, slot)) == Descriptor::Ctx { name: c, cap: *cap }
+    owned(world.slot(context, slot))
+        == Descriptor::Ctx {
+            name: context,
+            cap: *cap,
+        }
 }
 
 /// Puts the console into slot 1: whether slot 5 has its link still, and whether the console is there.
 #[tactic(auto, using(lwc_base::proofs::Facts::changes))]
-fn change_one<W: World>(world: &mut W, c: Name, cap: &Cap) -> [bool; 2]
-    requires { IsLive (W.seen world.old) c }
-    ensures { IsLive (W.seen world.new) c }
+fn change_one<W: World>(world: &mut W, context: Name, cap: &Cap) -> [bool; 2]
+    requires { IsLive (W.seen world.old) context }
+    ensures { IsLive (W.seen world.new) context }
 {
-    world.set_slot(c, 1, Lent::Console);
-    let stays = is_link(world, c, 5, cap);
-    [stays, matches!(world.slot(c, 1), Lent::Console)]
+    world.set_slot(context, 1, Lent::Console);
+    let stays = is_link(world, context, 5, cap);
+    [stays, matches!(world.slot(context, 1), Lent::Console)]
 }
 
 /// Puts an empty slot into slot 5: whether slot 5 is empty then.
 #[tactic(auto, using(lwc_base::proofs::Facts::changes))]
-fn empty_other<W: World>(world: &mut W, c: Name) -> bool
-    requires { IsLive (W.seen world.old) c }
+fn empty_other<W: World>(world: &mut W, context: Name) -> bool
+    requires { IsLive (W.seen world.old) context }
 {
-    world.dup_slot(c, 0, 5);
-    matches!(world.slot(c, 5), Lent::Empty)
+    world.dup_slot(context, 0, 5);
+    matches!(world.slot(context, 5), Lent::Empty)
 }
 
 /// Puts a descriptor into two slots and changes both: whether it was in the first, how many slots were in use, whether
 /// it stayed in the second one and the first changed, and whether the second one is empty at the end.
-fn dup_slots<W: World>(world: &mut W, c: Name) -> (bool, u32, [bool; 2], bool)
-    requires { IsLive (W.seen world.old) c }
+fn dup_slots<W: World>(world: &mut W, context: Name) -> (bool, u32, [bool; 2], bool)
+    requires { IsLive (W.seen world.old) context }
 {
     let cap = far_page();
-    dup_link(world, c, &cap);
-    let is_first = is_link(world, c, 1, &cap);
-    let slots = world.summary(c).slots;
-    let changed = change_one(world, c, &cap);
-    (is_first, slots, changed, empty_other(world, c))
+    dup_link(world, context, &cap);
+    let is_first = is_link(world, context, 1, &cap);
+    let slots = world.summary(context).slots;
+    let changed = change_one(world, context, &cap);
+    (is_first, slots, changed, empty_other(world, context))
 }
 
 /// A descriptor that is in two slots stays in one when the other changes, with its keys.
@@ -249,33 +279,36 @@ fn far_page() -> Cap {
 }
 
 /// The ranges that the context would have with its fourth page, and without its first two.
-fn would_have<W: World>(world: &W, c: Name) -> [u32; 2]
-    requires { IsBegun 2 (W.seen world.now) c }
+fn would_have<W: World>(world: &W, context: Name) -> [u32; 2]
+    requires { IsBegun 2 (W.seen world.now) context }
 {
     [
-        world.ranges_after_map(c, Range { from: 3, to: 4 }, true),
-        world.ranges_after_map(c, Range { from: 0, to: 2 }, false),
+        world.ranges_after_map(context, Range { from: 3, to: 4 }, true),
+        world.ranges_after_map(context, Range { from: 0, to: 2 }, false),
     ]
 }
 
 /// The bytes over the end of the first page of four, and those behind it.
-fn bytes_at_end<W: World>(world: &W, c: Name) -> [(bool, [u8; 2]); 2]
-    requires live { IsLive (W.seen world.now) c }
+fn bytes_at_end<W: World>(world: &W, context: Name) -> [(bool, [u8; 2]); 2]
+    requires live { IsLive (W.seen world.now) context }
     requires pages { (W.seen world.now).size.pages ≡ 4 }
 {
-    [two_bytes(world, c, 4095), two_bytes(world, c, 4096)]
+    [
+        two_bytes(world, context, 4095),
+        two_bytes(world, context, 4096),
+    ]
 }
 
 /// Unmaps the first page, which leaves one range: the bytes over its end, and those behind it.
-fn unmap_first<W: World>(world: &mut W, c: Name) -> Result<[(bool, [u8; 2]); 2], Fail>
-    requires { IsBegun 2 (W.seen world.old) c }
+fn unmap_first<W: World>(world: &mut W, context: Name) -> Result<[(bool, [u8; 2]); 2], Fail>
+    requires { IsBegun 2 (W.seen world.old) context }
 {
     let first = Range { from: 0, to: 1 };
-    if world.ranges_after_map(c, first, false) != 1 {
+    if world.ranges_after_map(context, first, false) != 1 {
         return Err(Fail::new("the second page is no range"));
     }
-    world.unmap(c, first)?;
-    Ok(bytes_at_end(world, c))
+    world.unmap(context, first)?;
+    Ok(bytes_at_end(world, context))
 }
 
 /// Pages are mapped and unmapped, and ranges are counted before.
@@ -306,32 +339,32 @@ fn second_page(mode: Mode) -> Items
 #[tactic(auto, using(lwc_base::proofs::Facts::changes))]
 fn clone_with<W: World>(
     world: &mut W,
-    c: Name,
+    context: Name,
     mode: Mode,
     ranges: (u32, u32),
 ) -> Result<(bool, Name), Fail>
-    requires begun { IsBegun 2 (W.seen world.old) c }
+    requires begun { IsBegun 2 (W.seen world.old) context }
     requires few { (ranges.0 ≤ 64) × (ranges.1 ≤ 64) }
-    ensures old { OnOk result (IsLive (W.seen world.new) c) }
+    ensures old { OnOk result (IsLive (W.seen world.new) context) }
     ensures made { IfOk result (λ r. IsLive (W.seen world.new) r.1) }
     ensures may { OnOk result (MayName (W.seen world.new) 1) }
     ensures size { OnOk result ((W.seen world.new).size ≡ (W.seen world.old).size) }
 {
     let spec = second_page(mode);
-    if world.ranges_after_clone(c, &spec) != ranges {
+    if world.ranges_after_clone(context, &spec) != ranges {
         return Err(Fail::new("other numbers of ranges"));
     }
-    let needs_group = world.needs_group(c, &spec);
-    let made = world.clone_context(c, &spec, 1, &Regs::fresh(5))?;
+    let needs_group = world.needs_group(context, &spec);
+    let made = world.clone_context(context, &spec, 1, &Regs::fresh(5))?;
     Ok((needs_group, made))
 }
 
 /// Clones the context and shares its second page: whether it needs a group, whether the clone is the second context,
 /// the clones and the groups of job 1, and all groups.
-fn clone_sharing<W: World>(world: &mut W, c: Name) -> Result<(bool, bool, [u32; 3]), Fail>
-    requires { IsBegun 2 (W.seen world.old) c }
+fn clone_sharing<W: World>(world: &mut W, context: Name) -> Result<(bool, bool, [u32; 3]), Fail>
+    requires { IsBegun 2 (W.seen world.old) context }
 {
-    let (needs_group, made) = clone_with(world, c, Mode::Share, (2, 2))?;
+    let (needs_group, made) = clone_with(world, context, Mode::Share, (2, 2))?;
     let is_second = world.nth_context(1) == Some(made);
     let counts = [world.live_of(1), world.groups_of(1), world.group_count()];
     Ok((needs_group, is_second, counts))
@@ -352,10 +385,10 @@ type Copied = (bool, [StoreFault; 2], [u32; 2]);
 /// Stores over the borders of the second page of a context, where it may only be read, and into it in another one.
 fn store_to_both<W: World>(
     world: &mut W,
-    c: Name,
+    context: Name,
     made: Name,
 ) -> Result<([StoreFault; 2], [u32; 2]), Fail>
-    requires old { IsLive (W.seen world.old) c }
+    requires old { IsLive (W.seen world.old) context }
     requires made { IsLive (W.seen world.old) made }
     requires may { MayName (W.seen world.old) 1 }
     requires size { (W.seen world.old).size.pages ≡ 4 }
@@ -365,16 +398,16 @@ fn store_to_both<W: World>(
         refused(world, made, 8191, &[1, 2])?,
     ];
     let before = world.used();
-    world.store(c, 4096, &[1], 1)?;
+    world.store(context, 4096, &[1], 1)?;
     Ok((faults, [before, world.used()]))
 }
 
 /// Clones the context, where its second page may only be read in the clone, and stores to both.
-fn copy_read_only<W: World>(world: &mut W, c: Name) -> Result<Copied, Fail>
-    requires { IsBegun 2 (W.seen world.old) c }
+fn copy_read_only<W: World>(world: &mut W, context: Name) -> Result<Copied, Fail>
+    requires { IsBegun 2 (W.seen world.old) context }
 {
-    let (needs_group, made) = clone_with(world, c, Mode::CopyRead, (1, 2))?;
-    let (faults, frames) = store_to_both(world, c, made)?;
+    let (needs_group, made) = clone_with(world, context, Mode::CopyRead, (1, 2))?;
+    let (faults, frames) = store_to_both(world, context, made)?;
     Ok((needs_group, faults, frames))
 }
 
@@ -390,15 +423,18 @@ fn copies_read_only<W: World>(alloc: Global) -> Result<bool, Fail> {
 
 /// An overlay of the second page onto the context itself, which shares it: the live contexts, the groups, and the bytes
 /// of the page.
-fn overlay_itself<W: World>(world: &mut W, c: Name) -> Result<(u32, u32, (bool, [u8; 2])), Fail>
-    requires { IsBegun 2 (W.seen world.old) c }
+fn overlay_itself<W: World>(
+    world: &mut W,
+    context: Name,
+) -> Result<(u32, u32, (bool, [u8; 2])), Fail>
+    requires { IsBegun 2 (W.seen world.old) context }
 {
     let spec = second_page(Mode::Share);
-    if world.ranges_after_overlay(c, c, &spec) != (2, 2) {
+    if world.ranges_after_overlay(context, context, &spec) != (2, 2) {
         return Err(Fail::new("other numbers of ranges"));
     }
-    world.overlay(c, c, &spec, 1)?;
-    let bytes = two_bytes(world, c, 4096);
+    world.overlay(context, context, &spec, 1)?;
+    let bytes = two_bytes(world, context, 4096);
     Ok((world.context_count(), world.groups_of(1), bytes))
 }
 
@@ -412,14 +448,21 @@ fn overlays_itself<W: World>(alloc: Global) -> Result<bool, Fail> {
 
 /// Whether the context is the only one where it is the one root, and how many there are where there is none.
 #[tactic(auto, using(lwc_base::proofs::Facts::changes))]
-fn reap<W: World>(world: &mut W, c: Name) -> (u32, bool, u32)
-    requires { IsLive (W.seen world.old) c }
+fn reap<W: World>(world: &mut W, context: Name) -> (u32, bool, u32)
+    requires { IsLive (W.seen world.old) context }
 {
     let keys = Grant::None;
-    world.set_slot(c, 2, Lent::Ctx { name: c, keys });
-    world.reap(&[c]);
+    world.set_slot(
+        context,
+        2,
+        Lent::Ctx {
+            name: context,
+            keys,
+        },
+    );
+    world.reap(&[context]);
     let kept = world.context_count();
-    let is_first = world.nth_context(0) == Some(c);
+    let is_first = world.nth_context(0) == Some(context);
     world.reap(&[]);
     (kept, is_first, world.context_count())
 }
@@ -435,18 +478,25 @@ fn reaps_a_context<W: World>(alloc: Global) -> Result<bool, Fail> {
 /// Two contexts that name each other, of which the second is a copy: how many live while the first is the root and
 /// names the copy, and once it names it no more, and whether the first is the one that is left.
 #[tactic(auto, using(crate::proofs::Begun::kept_root, lwc_base::proofs::Facts::changes))]
-fn reap_two<W: World>(world: &mut W, c: Name) -> Result<(u32, u32, bool), Fail>
-    requires { IsBegun 2 (W.seen world.old) c }
+fn reap_two<W: World>(world: &mut W, context: Name) -> Result<(u32, u32, bool), Fail>
+    requires { IsBegun 2 (W.seen world.old) context }
 {
-    let (_, made) = clone_with(world, c, Mode::Copy, (1, 1))?;
+    let (_, made) = clone_with(world, context, Mode::Copy, (1, 1))?;
     let keys = Grant::None;
-    world.set_slot(c, 2, Lent::Ctx { name: made, keys });
-    world.set_slot(made, 2, Lent::Ctx { name: c, keys });
-    world.reap(&[c]);
+    world.set_slot(context, 2, Lent::Ctx { name: made, keys });
+    world.set_slot(
+        made,
+        2,
+        Lent::Ctx {
+            name: context,
+            keys,
+        },
+    );
+    world.reap(&[context]);
     let both = world.context_count();
-    world.set_slot(c, 2, Lent::Empty);
-    world.reap(&[c]);
-    let is_first = world.nth_context(0) == Some(c);
+    world.set_slot(context, 2, Lent::Empty);
+    world.reap(&[context]);
+    let is_first = world.nth_context(0) == Some(context);
     Ok((both, world.context_count(), is_first))
 }
 

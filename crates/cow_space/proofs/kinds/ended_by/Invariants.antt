@@ -4,7 +4,7 @@ use Rattle.cow_space.proofs.kinds.ended_by.Given as goal
 
 abbrev pub invariant-ended : goal.invariant-ended
 invariant-ended l = record {
-  before : (k : ℕ) (d : PageRun) → k < l.count → (get_or l.page_runs k d).range.to ≤ l.p;
+  before : (k : ℕ) (d : PageRun) → k < l.count → (get_or l.page_runs k d).range.to ≤ l.page;
 }
 
 abbrev pub decreases-ended : goal.decreases-ended

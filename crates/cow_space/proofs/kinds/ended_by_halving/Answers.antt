@@ -5,12 +5,12 @@ use Rattle.cow_space.proofs.kinds.ended_by_halving.Goals as goal
 
 pub returns-clause-before : goal.returns-clause-before
 returns-clause-before c =
-    let parted = IsPartitionedBy-leb (λ s. s.range.to) _ c.args.p (ends_rise _ c.requires) in
-    let point = IsPartitionPoint-from_clause (λ s. leb s.range.to c.args.p) _ _ c.partition_point.ensures.partitioned parted (λ a r q k. search rules) in
+    let parted = IsPartitionedBy-leb (λ s. s.range.to) _ c.args.page (ends_rise _ c.requires) in
+    let point = IsPartitionPoint-from_clause (λ s. leb s.range.to c.args.page) _ _ c.partition_point.ensures.partitioned parted (λ a r q k. search rules) in
     λ k d early. leb-true _ _ (point.0 k d (omega arith) early)
 
 pub returns-clause-after : goal.returns-clause-after
 returns-clause-after c =
-    let parted = IsPartitionedBy-leb (λ s. s.range.to) _ c.args.p (ends_rise _ c.requires) in
-    let point = IsPartitionPoint-from_clause (λ s. leb s.range.to c.args.p) _ _ c.partition_point.ensures.partitioned parted (λ a r q k. search rules) in
+    let parted = IsPartitionedBy-leb (λ s. s.range.to) _ c.args.page (ends_rise _ c.requires) in
+    let point = IsPartitionPoint-from_clause (λ s. leb s.range.to c.args.page) _ _ c.partition_point.ensures.partitioned parted (λ a r q k. search rules) in
     λ d inside. leb-false _ _ (point.1 c.partition_point.result d (omega arith) inside)

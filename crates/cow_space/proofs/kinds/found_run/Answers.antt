@@ -10,16 +10,16 @@ returns-clause-run c =
     let runs = c.args.page_runs.now in
     let from = c.args.rising.from in
     c.or.ensures
-    ∙ (λ e. option_or (c.run_from-run.ensures.run e) ((c.rising_run-other.ensures.run ∙ ap (λ xs. page_run_at xs c.args.p) (last_runs from runs)) e))
-    ∙ sym (found_in from c.args.p runs)
+    ∙ (λ e. option_or (c.run_from-run.ensures.run e) ((c.rising_run-other.ensures.run ∙ ap (λ xs. page_run_at xs c.args.page) (last_runs from runs)) e))
+    ∙ sym (found_in from c.args.page runs)
 
 pub returns-clause-alike : goal.returns-clause-alike
 returns-clause-alike c q low high =
     let runs = c.args.page_runs.now in
     let from = c.args.rising.from in
     let last = last_runs from runs in
-    both_alike from c.args.p q runs (c.run_from-run.ensures.alike q low (omega (arith, high)))
-    (sym (ap (λ xs. page_run_at xs q) last) ∙ c.rising_run-other.ensures.alike q low (omega (arith, high)) ∙ ap (λ xs. page_run_at xs c.args.p) last)
+    both_alike from c.args.page q runs (c.run_from-run.ensures.alike q low (omega (arith, high)))
+    (sym (ap (λ xs. page_run_at xs q) last) ∙ c.rising_run-other.ensures.alike q low (omega (arith, high)) ∙ ap (λ xs. page_run_at xs c.args.page) last)
 
 pub returns-clause-edge : goal.returns-clause-edge
 returns-clause-edge c early =

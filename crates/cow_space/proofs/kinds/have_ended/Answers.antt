@@ -9,5 +9,5 @@ returns-then-count-page_runs c = λ on k d early.
     let inside = c.if-count-page_runs.true in
     let some = c.if-count-eq0.false in
     let none : PageRun = record { range = record { from = 0; to = 0 }; origin = Absent; right = None } in
-    ended_before c.args.page_runs.now c.requires c.args.p (c.args.count - 1) none (omega (arith, inside, some))
-    (leb-true (get_or c.args.page_runs.now (c.args.count - 1) none).range.to c.args.p on) k d (omega (arith, early, some))
+    ended_before c.args.page_runs.now c.requires c.args.page (c.args.count - 1) none (omega (arith, inside, some))
+    (leb-true (get_or c.args.page_runs.now (c.args.count - 1) none).range.to c.args.page on) k d (omega (arith, early, some))

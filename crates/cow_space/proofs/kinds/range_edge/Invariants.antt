@@ -6,8 +6,8 @@ use Rattle.cow_space.proofs.kinds.range_edge.Given as goal
 
 abbrev pub invariant-loop-range : goal.invariant-loop-range
 invariant-loop-range l = record {
-  past : l.p < l.next;
+  past : l.page < l.next;
   within : l.next ≤ l.edge;
   edge : l.next < l.edge → is_range_edge (take l.range-index l.ranges) l.next ≡ true;
-  none : All (λ r. HasNoEdge l.p l.next r.from r.to) (take l.range-index l.ranges);
+  none : All (λ r. HasNoEdge l.page l.next r.from r.to) (take l.range-index l.ranges);
 }

@@ -15,14 +15,14 @@ read-right false right own = refl
 
 pub returns-in-Some-clause-origin : goal.returns-in-Some-clause-origin
 returns-in-Some-clause-origin c count inside are j from =
-    origin-inside count c.args.i c.args.p c.args.page_runs.now c.in-Some.page_run are (sym c.found_run-found.ensures.run ∙ c.in-Some.is) j from
+    origin-inside count c.args.place c.args.page c.args.page_runs.now c.in-Some.page_run are (sym c.found_run-found.ensures.run ∙ c.in-Some.is) j from
 
 pub returns-in-Some-clause-states : goal.returns-in-Some-clause-states
 returns-in-Some-clause-states c cells rights q low high =
     let first = c.found_run-found.ensures in
     let edge = c.range_edge-to.ensures in
     let run = c.in-Some.page_run in
-    found-state cells rights c.args.i q c.args.page_runs.now c.args.reads.now (Some run) c.have_page-read.result
+    found-state cells rights c.args.place q c.args.page_runs.now c.args.reads.now (Some run) c.have_page-read.result
     (first.alike q low (omega (arith, high, edge.within)) ∙ sym first.run ∙ c.in-Some.is)
     (edge.alike q low high ∙ sym c.have_page-read.ensures)
     ∙ ap (state_of (kind_of (origin_cell cells run.origin q))) (read-right c.have_page-read.result run.right (origin_right rights run.origin q) ∙ ap (λ o. unwrap_or o (origin_right rights run.origin q)) (sym c.right_given.ensures))
@@ -31,7 +31,7 @@ pub returns-in-None-clause-states : goal.returns-in-None-clause-states
 returns-in-None-clause-states c cells rights q low high =
     let first = c.found_run-found.ensures in
     let edge = c.range_edge-to.ensures in
-    found-state cells rights c.args.i q c.args.page_runs.now c.args.reads.now None c.have_page-read.result
+    found-state cells rights c.args.place q c.args.page_runs.now c.args.reads.now None c.have_page-read.result
     (first.alike q low (omega (arith, high, edge.within)) ∙ sym first.run ∙ c.in-None.is)
     (edge.alike q low high ∙ sym c.have_page-read.ensures)
-    ∙ ap (state_of (kind_of (place_of cells c.args.i q))) (read-right c.have_page-read.result None (rights_of rights c.args.i q) ∙ ap (λ o. unwrap_or o (rights_of rights c.args.i q)) (sym c.right_given-in-None.ensures))
+    ∙ ap (state_of (kind_of (place_of cells c.args.place q))) (read-right c.have_page-read.result None (rights_of rights c.args.place q) ∙ ap (λ o. unwrap_or o (rights_of rights c.args.place q)) (sym c.right_given-in-None.ensures))

@@ -21,15 +21,15 @@ use Rattle.cow_space.proofs.page_runs.fill_row.Goals as goal
 pub pieces-init : goal.pieces-init
 pieces-init c = record {
   inside = omega arith;
-  maps = filled-none (maps c.args.rows.now) c.args.i (changed_row (maps c.args.rows.now) c.args.i c.args.page_runs.now);
+  maps = filled-none (maps c.args.rows.now) c.args.place (changed_row (maps c.args.rows.now) c.args.place c.args.page_runs.now);
   frames = refl;
   pool = refl;
   free = omega arith;
   others = λ j off none. none;
   nodes = inl (omega arith);
   cost = omega arith;
-  opened = λ none. row-bare c.args.rows.now c.args.i 0 none;
-  nodes_open = λ none _. omega (arith, row-first c.args.rows.now c.args.i);
+  opened = λ none. row-bare c.args.rows.now c.args.place 0 none;
+  nodes_open = λ none _. omega (arith, row-first c.args.rows.now c.args.place);
   nodes_end = λ _. omega arith;
   cost_open = λ _ _. omega arith;
   cost_end = λ _. omega arith;
@@ -41,16 +41,16 @@ pub fill_range-requires-clause-given : goal.fill_range-requires-clause-given
 fill_range-requires-clause-given c =
     let page_runs = c.args.page_runs.now in
     let count = length (maps c.args.rows.now) in
-    let holds = subst (λ o. MatchOption o (Unit {0}) (λ s. IsPageRun count c.args.i s × (is_between s.range.from s.range.to c.pieces.p ≡ true))) (sym c.found_run-found.ensures.run ∙ c.in-Some.is)
-    (find-holds (λ (s : PageRun). is_between s.range.from s.range.to c.pieces.p) (IsPageRun count c.args.i) page_runs c.requires.page_runs) in
-    subst (λ n. IsApart n c.args.i c.in-Some.page_run.origin) (sym (ap length c.pieces.invariant.maps ∙ length-set (maps c.args.rows.now) c.args.i _)) holds.0.given
+    let holds = subst (λ o. MatchOption o (Unit {0}) (λ s. IsPageRun count c.args.place s × (is_between s.range.from s.range.to c.pieces.p ≡ true))) (sym c.found_run-found.ensures.run ∙ c.in-Some.is)
+    (find-holds (λ (s : PageRun). is_between s.range.from s.range.to c.pieces.p) (IsPageRun count c.args.place) page_runs c.requires.page_runs) in
+    subst (λ n. IsApart n c.args.place c.in-Some.page_run.origin) (sym (ap length c.pieces.invariant.maps ∙ length-set (maps c.args.rows.now) c.args.place _)) holds.0.given
 
 pub pieces-preserved-in-Some : goal.pieces-preserved-in-Some
 pieces-preserved-in-Some c =
     let page_runs = c.args.page_runs.now in
     let before = maps c.args.rows.now in
     let count = length before in
-    let after = changed_row before c.args.i page_runs in
+    let after = changed_row before c.args.place page_runs in
     let p = c.pieces.p in
     let e = c.found_run-found.result.1 in
     let edge = c.found_run-found.ensures in
@@ -58,14 +58,14 @@ pieces-preserved-in-Some c =
     let mine = c.fill_range.ensures in
     let origin = c.in-Some.page_run.origin in
     let found = sym edge.run ∙ c.in-Some.is in
-    let holds = subst (λ o. MatchOption o (Unit {0}) (λ s. IsPageRun count c.args.i s × (is_between s.range.from s.range.to p ≡ true))) found
-    (find-holds (λ (s : PageRun). is_between s.range.from s.range.to p) (IsPageRun count c.args.i) page_runs c.requires.page_runs) in
-    let kept = ap (λ ms. origin_value ms origin) inv.maps ∙ origin-kept before c.args.i count (put_range (row_of before c.args.i) 0 p after) origin holds.0.given in
-    let more = piece-edge count c.args.i page_runs p e c.in-Some.page_run c.requires.page_runs edge.past edge.within found edge.edge in
+    let holds = subst (λ o. MatchOption o (Unit {0}) (λ s. IsPageRun count c.args.place s × (is_between s.range.from s.range.to p ≡ true))) found
+    (find-holds (λ (s : PageRun). is_between s.range.from s.range.to p) (IsPageRun count c.args.place) page_runs c.requires.page_runs) in
+    let kept = ap (λ ms. origin_value ms origin) inv.maps ∙ origin-kept before c.args.place count (put_range (row_of before c.args.place) 0 p after) origin holds.0.given in
+    let more = piece-edge count c.args.place page_runs p e c.in-Some.page_run c.requires.page_runs edge.past edge.within found edge.edge in
     record {
       inside = edge.within;
-      maps = filled-more before c.args.i after c.requires.row p e (maps c.pieces.rows) (maps c.fill_range.new.rows) (origin_value (maps c.pieces.rows) origin) (omega (arith, edge.past)) inv.maps mine.maps
-          (λ q low high. by-page_run before c.args.i q page_runs (Some c.in-Some.page_run) (edge.alike q low high ∙ found) ∙ ap (λ (f : ℕ → Option PageValue). f q) (sym kept));
+      maps = filled-more before c.args.place after c.requires.row p e (maps c.pieces.rows) (maps c.fill_range.new.rows) (origin_value (maps c.pieces.rows) origin) (omega (arith, edge.past)) inv.maps mine.maps
+          (λ q low high. by-page_run before c.args.place q page_runs (Some c.in-Some.page_run) (edge.alike q low high ∙ found) ∙ ap (λ (f : ℕ → Option PageValue). f q) (sym kept));
       frames = mine.frames ∙ inv.frames;
       pool = mine.pool ∙ inv.pool;
       free = omega (arith, mine.free, inv.free);
@@ -85,7 +85,7 @@ pub pieces-preserved : goal.pieces-preserved
 pieces-preserved c =
     let page_runs = c.args.page_runs.now in
     let before = maps c.args.rows.now in
-    let after = changed_row before c.args.i page_runs in
+    let after = changed_row before c.args.place page_runs in
     let p = c.pieces.p in
     let e = c.found_run-found.result.1 in
     let edge = c.found_run-found.ensures in
@@ -95,16 +95,16 @@ pieces-preserved c =
     let grows = edges-grow (λ (s : PageRun). s.range.from) (λ (s : PageRun). s.range.to) page_runs p e (omega (arith, edge.past)) in
     record {
       inside = edge.within;
-      maps = filled-same before c.args.i after p e (maps c.pieces.rows) (omega (arith, edge.past)) inv.maps
-          (λ q low high. by-page_run before c.args.i q page_runs None (edge.alike q low high ∙ found));
+      maps = filled-same before c.args.place after p e (maps c.pieces.rows) (omega (arith, edge.past)) inv.maps
+          (λ q low high. by-page_run before c.args.place q page_runs None (edge.alike q low high ∙ found));
       frames = inv.frames;
       pool = inv.pool;
       free = inv.free;
       others = inv.others;
       nodes = same-nodes _ _ _ _ _ grows inv.nodes;
       cost = omega (arith, grows, inv.cost);
-      opened = λ none. row-later c.pieces.rows c.args.i p e (omega (arith, edge.past)) (inv.opened none);
-      nodes_open = λ none early. let a = inv.nodes_open none (omega (arith, edge.past, edge.within)) in let b = row-edges c.pieces.rows c.args.i p e in let m = more early in omega (arith, a, b, m);
+      opened = λ none. row-later c.pieces.rows c.args.place p e (omega (arith, edge.past)) (inv.opened none);
+      nodes_open = λ none early. let a = inv.nodes_open none (omega (arith, edge.past, edge.within)) in let b = row-edges c.pieces.rows c.args.place p e in let m = more early in omega (arith, a, b, m);
       nodes_end = λ none. let a = inv.nodes_end none in omega (arith, a, grows);
       cost_open = λ none early. let a = inv.cost_open none (omega (arith, edge.past, edge.within)) in let b = passed-later p e (omega (arith, edge.past)) in let m = more early in omega (arith, a, b, m);
       cost_end = λ none. let a = inv.cost_end none in omega (arith, a, grows);
@@ -116,8 +116,8 @@ pub returns-clause-maps : goal.returns-clause-maps
 returns-clause-maps c =
     let before = maps c.args.rows.now in
     let last : c.pieces.p ≡ MOST_PAGES = omega (arith, c.pieces-test.false, c.pieces.invariant.inside) in
-    filled-all before c.args.i (changed_row before c.args.i c.args.page_runs.now) (maps c.pieces.rows) (c.pieces.invariant.maps ∙ ap (filled before c.args.i (changed_row before c.args.i c.args.page_runs.now)) last)
-    (λ q past. by-page_run before c.args.i q c.args.page_runs.now None (past-page_run (length before) c.args.i q c.args.page_runs.now past c.requires.page_runs))
+    filled-all before c.args.place (changed_row before c.args.place c.args.page_runs.now) (maps c.pieces.rows) (c.pieces.invariant.maps ∙ ap (filled before c.args.place (changed_row before c.args.place c.args.page_runs.now)) last)
+    (λ q past. by-page_run before c.args.place q c.args.page_runs.now None (past-page_run (length before) c.args.place q c.args.page_runs.now past c.requires.page_runs))
 
 pub returns-clause-nodes : goal.returns-clause-nodes
 returns-clause-nodes c =

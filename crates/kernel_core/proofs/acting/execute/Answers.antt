@@ -7,10 +7,10 @@ pub returns-in-Stb-clause-outcome : goal.returns-in-Stb-clause-outcome
 unfolding shared_outcome
 returns-in-Stb-clause-outcome g c =
     makes_with _ (λ e x. byte_outcome e x c.address_of-at.result (slice_index c.args.thread.now.regs.r c.from.result))
-    (λ e x. shared_outcome guest_calls c.args.t e x c.args.i.now c.args.i.now.op) _ _ _ _ _ (search rules) c.store_byte.ensures.outcome
+    (λ e x. shared_outcome guest_calls c.args.thread_number e x c.args.instruction.now c.args.instruction.now.op) _ _ _ _ _ (search rules) c.store_byte.ensures.outcome
 
 pub returns-in-Stw-clause-outcome : goal.returns-in-Stw-clause-outcome
 unfolding shared_outcome
 returns-in-Stw-clause-outcome g c =
     makes_with _ (λ e x. word_outcome e x c.address_of-at.result (slice_index c.args.thread.now.regs.r c.from-in-Stw.result))
-    (λ e x. shared_outcome guest_calls c.args.t e x c.args.i.now c.args.i.now.op) _ _ _ _ _ (search rules) c.store_word.ensures.outcome
+    (λ e x. shared_outcome guest_calls c.args.thread_number e x c.args.instruction.now c.args.instruction.now.op) _ _ _ _ _ (search rules) c.store_word.ensures.outcome

@@ -10,4 +10,4 @@ returns-in-To-clause-kept g c =
     let ready = c.requires.ready in
     let went = accepted _ _ _ _ ready.named ready.live _ _ _ c.in-To.ensures.done in
     subst (λ (v : World). LeavesNothing (g.W.World.seen c.args.world.now) c.args.thread.now.context v c.in-To.context) (sym went.made)
-    (leaves_switched _ _ _ c.args.t _ went.slot _ ready.sound.groups ready.live went.live went.within went.empty)
+    (leaves_switched _ _ _ c.args.thread_number _ went.slot _ ready.sound.groups ready.live went.live went.within went.empty)

@@ -11,4 +11,4 @@ set_slot-requires-clause-live g c =
 pub returns : goal.returns
 returns g c =
     slot_put _ c.requires.image _ _ _ _ _ _ c.requires.before
-    (c.first_slot.ensures ∙ ap (λ slots. first_slot slots c.args.n) c.as_slice.ensures) c.set_slot.ensures.put
+    (c.first_slot.ensures ∙ ap (λ slots. first_slot slots c.args.slot) c.as_slice.ensures) c.set_slot.ensures.put

@@ -6,19 +6,19 @@ pub returns-in_err-items_for-clause-refused : goal.returns-in_err-items_for-clau
 unfolding refusals
 returns-in_err-items_for-clause-refused g c =
     let w = g.W.World.seen c.args.world.now in
-    let refused = c.in_err-items_for.ensures.refused (room_refusals w c.args.c c.args.job (items_of w c.args.c c.args.regs.now)) in
+    let refused = c.in_err-items_for.ensures.refused (room_refusals w c.args.context c.args.job (items_of w c.args.context c.args.regs.now)) in
     search rules
 
 pub returns-clause-refused : goal.returns-clause-refused
 unfolding refusals
 returns-clause-refused g c =
     let w = g.W.World.seen c.args.world.now in
-    let passed = c.in_ok-items_for.ensures.passed (room_refusals w c.args.c c.args.job (items_of w c.args.c c.args.regs.now)) in
+    let passed = c.in_ok-items_for.ensures.passed (room_refusals w c.args.context c.args.job (items_of w c.args.context c.args.regs.now)) in
     search rules
 
 pub returns-clause-passed : goal.returns-clause-passed
 unfolding refusals
 returns-clause-passed g c =
     let w = g.W.World.seen c.args.world.now in
-    let passed = c.in_ok-items_for.ensures.passed (room_refusals w c.args.c c.args.job (items_of w c.args.c c.args.regs.now)) in
+    let passed = c.in_ok-items_for.ensures.passed (room_refusals w c.args.context c.args.job (items_of w c.args.context c.args.regs.now)) in
     search rules

@@ -6,7 +6,7 @@ use Rattle.lwc_create.proofs.creating.create.Goals as goal
 
 pub set_slot-requires-clause-live : goal.set_slot-requires-clause-live
 set_slot-requires-clause-live g c =
-    ap (λ (w : World). is_live w c.args.c) c.in_ok-name.ensures.cloned
+    ap (λ (w : World). is_live w c.args.context) c.in_ok-name.ensures.cloned
     ∙ live_after_clone _ _ _ _ _ _ c.requires.live
 
 pub set_slot-requires-clause-within : goal.set_slot-requires-clause-within

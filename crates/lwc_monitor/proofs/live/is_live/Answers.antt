@@ -16,8 +16,8 @@ returns-then-eq g c =
 
 pub contexts-preserved : goal.contexts-preserved
 contexts-preserved g c =
-    passed (g.W.World.seen c.args.world.now) c.contexts.i c.args.c c.in-Some.name (sym c.nth_context.ensures ∙ c.in-Some.is)
-    (sym (alike c.args.c c.in-Some.name) ∙ (sym c.eq.ensures ∙ c.if-eq.false)) c.contexts.invariant
+    passed (g.W.World.seen c.args.world.now) c.contexts.i c.args.context c.in-Some.name (sym c.nth_context.ensures ∙ c.in-Some.is)
+    (sym (alike c.args.context c.in-Some.name) ∙ (sym c.eq.ensures ∙ c.if-eq.false)) c.contexts.invariant
 
 pub returns : goal.returns
-returns g c = sym (none_left (g.W.World.seen c.args.world.now) c.contexts.i c.args.c (omega (arith, c.contexts-test.false, c.context_count-i-end.ensures)) c.contexts.invariant)
+returns g c = sym (none_left (g.W.World.seen c.args.world.now) c.contexts.i c.args.context (omega (arith, c.contexts-test.false, c.context_count-i-end.ensures)) c.contexts.invariant)

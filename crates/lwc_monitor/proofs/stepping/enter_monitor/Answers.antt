@@ -13,4 +13,4 @@ returns-clause-kept g c =
     let ready = c.requires.ready in
     let empty = lowest_is_empty_slot _ _ _ c.requires.lowest in
     subst (λ (v : World). LeavesNothing (g.W.World.seen c.args.world.now) c.args.thread.now.context v c.args.monitor) (sym c.enter-arrived.ensures.world)
-    (leaves_switched _ _ _ c.args.t _ c.args.slot _ ready.sound.groups ready.live c.requires.live empty.0 empty.1)
+    (leaves_switched _ _ _ c.args.thread_number _ c.args.slot _ ready.sound.groups ready.live c.requires.live empty.0 empty.1)

@@ -7,10 +7,10 @@ step_thread-requires-clause-proposal g c κs within = advance-again c.args.text.
 
 pub returns-in-None-clause-outcome : goal.returns-in-None-clause-outcome
 returns-in-None-clause-outcome g c =
-    kernel-course c.args.traps.now c.args.t (beside (g.W.World.seen c.args.world.now) c.args.io.now) c.args.text.now c.args.thread.now c.advance-advance.result c.advance-advance.ensures.exact
-    c.step_thread.result _ _ _ c.requires.running (c.in-None.ensures.outcome c.args.t c.args.io.now) c.step_thread.ensures.outcome
+    kernel-course c.args.traps.now c.args.thread_number (beside (g.W.World.seen c.args.world.now) c.args.io.now) c.args.text.now c.args.thread.now c.advance-advance.result c.advance-advance.ensures.exact
+    c.step_thread.result _ _ _ c.requires.running (c.in-None.ensures.outcome c.args.thread_number c.args.io.now) c.step_thread.ensures.outcome
 
 pub returns-in-Some-clause-outcome : goal.returns-in-Some-clause-outcome
 returns-in-Some-clause-outcome g c =
-    ruled-course c.args.traps.now c.args.t (beside (g.W.World.seen c.args.world.now) c.args.io.now) c.args.text.now c.args.thread.now c.advance-advance.result c.advance-advance.ensures.exact
-    c.in-Some.ruling c.in-Some.number _ _ _ c.carry_out-change.result (c.in-Some.ensures.outcome c.args.t c.args.io.now) (c.carry_out-change.ensures.outcome c.args.io.now) c.set_steps.ensures
+    ruled-course c.args.traps.now c.args.thread_number (beside (g.W.World.seen c.args.world.now) c.args.io.now) c.args.text.now c.args.thread.now c.advance-advance.result c.advance-advance.ensures.exact
+    c.in-Some.ruling c.in-Some.number _ _ _ c.carry_out-change.result (c.in-Some.ensures.outcome c.args.thread_number c.args.io.now) (c.carry_out-change.ensures.outcome c.args.io.now) c.set_steps.ensures

@@ -5,4 +5,4 @@ use Rattle.lwc_monitor.proofs.trapping.has_common_slot.Given as goal
 use Rattle.lwc_monitor.specs.Traps.{is_common}
 
 abbrev pub invariant-slots : goal.invariant-slots
-invariant-slots g l = (k : ℕ) → k < l.n → is_common ((context (g.W.World.seen l.world) l.d).cell (Slot k)) ≡ false
+invariant-slots g l = (k : ℕ) → k < l.n → is_common ((context (g.W.World.seen l.world) l.target).cell (Slot k)) ≡ false

@@ -7,6 +7,6 @@ use Rattle.lwc_monitor.proofs.trapping.is_common.Goals as goal
 
 pub returns : goal.returns
 returns g c =
-    let spec : c.push.new.self ≡ one c.args.n = rw (c.empty-spec.ensures, c.from.ensures, c.from-2.ensures) at c.push.ensures in
-    ap not (c.needs_group.ensures.value ∙ ap (λ (items : List Item). needs_group (g.W.World.seen c.args.world.now) c.args.d items) spec)
-    ∙ common-is (g.W.World.seen c.args.world.now) c.args.d c.args.n c.requires.within
+    let spec : c.push.new.self ≡ one c.args.slot = rw (c.empty-spec.ensures, c.from.ensures, c.from-2.ensures) at c.push.ensures in
+    ap not (c.needs_group.ensures.value ∙ ap (λ (items : List Item). needs_group (g.W.World.seen c.args.world.now) c.args.target items) spec)
+    ∙ common-is (g.W.World.seen c.args.world.now) c.args.target c.args.slot c.requires.within

@@ -6,7 +6,7 @@ use Rattle.lwc_overlay.specs.Named.{link}
 use Rattle.lwc_monitor.proofs.trapping.trap_target.Goals as goal
 
 pub returns-in-Err-clause-refused : goal.returns-in-Err-clause-refused
-returns-in-Err-clause-refused g c = plain-target c.args.traps.now (g.W.World.seen c.args.world.now) c.args.c c.args.regs.now c.in-Err.refusal (c.in-Err.ensures.refused [])
+returns-in-Err-clause-refused g c = plain-target c.args.traps.now (g.W.World.seen c.args.world.now) c.args.context c.args.regs.now c.in-Err.refusal (c.in-Err.ensures.refused [])
 
 pub returns-then-not-grants_kinds-clause-refused : goal.returns-then-not-grants_kinds-clause-refused
 unfolding trap_rows link slot_refusals

@@ -10,5 +10,5 @@ use Rattle.lwc_monitor.proofs.traps.place_for.Goals as goal
 
 pub returns : goal.returns
 returns c =
-    let found : c.position.result ≡ position (λ (p : Name × Name). is_gt (name_cmp p.0 c.args.c)) c.args.pairs.now = position_from_yields_List (λ (p : Name × Name). is_gt (name_cmp p.0 c.args.c)) _ _ c.position.result c.position.ensures.ran (YieldsList-from_slice c.args.pairs.now cc) (λ x b q k. search (rules, tests)) in
-    grind (arith, place-is c.args.c c.args.pairs.now c.position.result found)
+    let found : c.position.result ≡ position (λ (p : Name × Name). is_gt (name_cmp p.0 c.args.context)) c.args.pairs.now = position_from_yields_List (λ (p : Name × Name). is_gt (name_cmp p.0 c.args.context)) _ _ c.position.result c.position.ensures.ran (YieldsList-from_slice c.args.pairs.now cc) (λ x b q k. search (rules, tests)) in
+    grind (arith, place-is c.args.context c.args.pairs.now c.position.result found)

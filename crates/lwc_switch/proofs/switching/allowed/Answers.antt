@@ -8,5 +8,5 @@ pub returns-in_err-target-clause-refused : goal.returns-in_err-target-clause-ref
 unfolding refusals
 returns-in_err-target-clause-refused g c =
     let w = g.W.World.seen c.args.world.now in
-    let refused = c.in_err-target.ensures.refused ((is_none (lowest_empty w (target w c.args.c c.args.regs.now)), NoSlotThere) ∷ []) in
+    let refused = c.in_err-target.ensures.refused ((is_none (lowest_empty w (target w c.args.context c.args.regs.now)), NoSlotThere) ∷ []) in
     search rules

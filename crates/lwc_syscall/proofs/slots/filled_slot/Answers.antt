@@ -8,4 +8,4 @@ pub returns-in_default-clause-range : goal.returns-in_default-clause-range
 returns-in_default-clause-range g c io files =
     let w = g.W.World.seen c.args.world.now in
     subst (IsInRange io) (sym c.descriptor_for.ensures)
-    (found_in_range io w c.args.slots c.args.n (files-slot_at io w c.args.slots c.args.n c.requires files))
+    (found_in_range io w c.args.slots c.args.number (files-slot_at io w c.args.slots c.args.number c.requires files))

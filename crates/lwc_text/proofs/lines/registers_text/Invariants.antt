@@ -6,4 +6,4 @@ use Rattle.lwc_text.proofs.lines.registers_text.Given as goal
 
 abbrev pub invariant-registers : goal.invariant-registers
 invariant-registers l =
-    string_bytes l.line ≡ codes "regs " ++ decimal l.fn.t ++ flat_map (λ r. codes " " ++ decimal r) (take l.value-index l.registers)
+    string_bytes l.line ≡ codes "regs " ++ decimal l.fn.thread ++ flat_map (λ r. codes " " ++ decimal r) (take l.value-index l.registers)

@@ -6,4 +6,4 @@ use Rattle.lwc_text.specs.Lines.{reply_line}
 use Rattle.lwc_text.proofs.reporting.reply_lines.Given as goal
 
 abbrev pub invariant-requests : goal.invariant-requests
-invariant-requests g l = l.out.items ≡ l.initial.out.items ++ flat_map (λ q. reply_line q (reply_of (machine_of l.k) q)) (range_with_len 0 l.r)
+invariant-requests g l = l.out.items ≡ l.initial.out.items ++ flat_map (λ q. reply_line q (reply_of (machine_of l.kernel) q)) (range_with_len 0 l.r)

@@ -16,15 +16,15 @@ loop-change-preserved c =
       within = omega (arith, next.within, inv.within);
       alike = λ q low high. inv.alike q low (omega (arith, high, next.within));
       edge = edge_more (λ c. c.from) (λ c. c.to) (is_edge c.args.segments.now) c.args.changes.now c.loop-change.change-index _ c.loop-change.edge c.sooner_edge-edge.result MOST_PAGES c.loop-change-test.true inv.edge next.within next.one;
-      clear = no_edge_more (λ s. s.from) (λ s. s.to) c.args.p c.loop-change.edge c.sooner_edge-edge.result c.loop-change.change-index c.args.changes.now _
+      clear = no_edge_more (λ s. s.from) (λ s. s.to) c.args.page c.loop-change.edge c.sooner_edge-edge.result c.loop-change.change-index c.args.changes.now _
           c.loop-change-test.true next.within next.alike inv.clear;
     }
 
 pub returns-clause-alike : goal.returns-clause-alike
 returns-clause-alike c q low high =
     let inv = c.loop-change.invariant in
-    run_alike c.args.changes.now c.args.segments.now c.args.p c.loop-change.edge q (inv.alike q low high)
-    (subst (All (λ s. HasNoEdge c.args.p c.loop-change.edge s.from s.to)) (take_all c.loop-change.change-index c.args.changes.now c.loop-change-test.false) inv.clear) low high
+    run_alike c.args.changes.now c.args.segments.now c.args.page c.loop-change.edge q (inv.alike q low high)
+    (subst (All (λ s. HasNoEdge c.args.page c.loop-change.edge s.from s.to)) (take_all c.loop-change.change-index c.args.changes.now c.loop-change-test.false) inv.clear) low high
 
 pub returns-clause-edge : goal.returns-clause-edge
 returns-clause-edge c early =

@@ -8,9 +8,9 @@ use Rattle.range_map.proofs.runs.next_edge.Given as goal
 
 abbrev pub invariant-loop-change : goal.invariant-loop-change
 invariant-loop-change l = record {
-  past : l.p < l.edge;
+  past : l.page < l.edge;
   within : l.edge ≤ MOST_PAGES;
-  alike : (q : ℕ) → l.p ≤ q → q < l.edge → state_at l.segments q ≡ state_at l.segments l.p;
+  alike : (q : ℕ) → l.page ≤ q → q < l.edge → state_at l.segments q ≡ state_at l.segments l.page;
   edge : l.edge < MOST_PAGES → (is_edge l.segments l.edge || list_any (λ c. (c.from == l.edge) || (c.to == l.edge)) (take l.change-index l.changes)) ≡ true;
-  clear : All (λ c. HasNoEdge l.p l.edge c.from c.to) (take l.change-index l.changes);
+  clear : All (λ c. HasNoEdge l.page l.edge c.from c.to) (take l.change-index l.changes);
 }

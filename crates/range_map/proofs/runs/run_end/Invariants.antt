@@ -5,9 +5,9 @@ use Rattle.range_map.proofs.runs.run_end.Given as goal
 
 abbrev pub invariant-runs : goal.invariant-runs
 invariant-runs l = record {
-  past : l.p < l.end;
+  past : l.page < l.end;
   within : l.end ≤ MOST_PAGES;
-  alike : (q : ℕ) → l.p ≤ q → q < l.end → state_after l.changes l.segments q ≡ state_after l.changes l.segments l.p;
+  alike : (q : ℕ) → l.page ≤ q → q < l.end → state_after l.changes l.segments q ≡ state_after l.changes l.segments l.page;
 }
 
 abbrev pub decreases-runs : goal.decreases-runs

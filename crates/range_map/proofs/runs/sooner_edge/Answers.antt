@@ -6,4 +6,4 @@ pub returns-clause-alike : goal.returns-clause-alike
 returns-clause-alike c q low high =
     let begins = c.sooner.ensures in
     let ends = c.sooner-2.ensures in
-    between_same c.args.p c.sooner-2.result q c.args.from c.args.to (λ late. let off = begins.other late in omega (arith, off, ends.within)) ends.other low high
+    between_same c.args.page c.sooner-2.result q c.args.from c.args.to (λ late. let off = begins.other late in omega (arith, off, ends.within)) ends.other low high

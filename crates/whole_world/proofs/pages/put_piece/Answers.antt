@@ -7,7 +7,7 @@ use Rattle.whole_world.proofs.pages.put_piece.Goals as goal
 pub loop-i-preserved : goal.loop-i-preserved
 loop-i-preserved c = record {
   written = written_more _ _ _ c.loop-i.page _ _ c.loop-i.invariant.written (omega (arith, c.loop-i.invariant.whole, c.loop-i-test.true)) c.put.ensures
-      (c.byte_with.ensures ∙ ap (λ l. byte_after (record { at = c.args.at; bytes = c.args.piece.now }) (c.args.p * PAGE_BYTES + c.loop-i.i) (get_or l c.loop-i.i 0)) c.as_slice.ensures.bytes);
+      (c.byte_with.ensures ∙ ap (λ l. byte_after (record { at = c.args.at; bytes = c.args.piece.now }) (c.args.page_number * PAGE_BYTES + c.loop-i.i) (get_or l c.loop-i.i 0)) c.as_slice.ensures.bytes);
   whole = ap length c.put.ensures ∙ length-set c.loop-i.page c.loop-i.i _ ∙ c.loop-i.invariant.whole;
 }
 

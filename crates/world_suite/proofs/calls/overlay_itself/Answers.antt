@@ -5,13 +5,13 @@ use Rattle.world_suite.proofs.calls.overlay_itself.Goals as goal
 
 pub two_bytes-bytes-requires-clause-live : goal.two_bytes-bytes-requires-clause-live
 two_bytes-bytes-requires-clause-live g c κs within =
-    let names = (changes.overlaid (g.W.World.seen c.args.world.now) c.args.c c.args.c 1 c.second_page-spec.result).names in
-    let shared = changes.shared (g.W.World.seen c.args.world.now) c.args.c 1 c.second_page-spec.result in
-    (stays _ _ _ _ _ c.in_ok-overlay.ensures.overlaid (names.live c.args.c ∙ shared.live c.args.c) (names.size ∙ shared.size) c.requires).0
+    let names = (changes.overlaid (g.W.World.seen c.args.world.now) c.args.context c.args.context 1 c.second_page-spec.result).names in
+    let shared = changes.shared (g.W.World.seen c.args.world.now) c.args.context 1 c.second_page-spec.result in
+    (stays _ _ _ _ _ c.in_ok-overlay.ensures.overlaid (names.live c.args.context ∙ shared.live c.args.context) (names.size ∙ shared.size) c.requires).0
 
 pub two_bytes-bytes-requires-clause-within : goal.two_bytes-bytes-requires-clause-within
 two_bytes-bytes-requires-clause-within g c κs within =
-    let names = (changes.overlaid (g.W.World.seen c.args.world.now) c.args.c c.args.c 1 c.second_page-spec.result).names in
-    let shared = changes.shared (g.W.World.seen c.args.world.now) c.args.c 1 c.second_page-spec.result in
-    let pages = (stays _ _ _ _ _ c.in_ok-overlay.ensures.overlaid (names.live c.args.c ∙ shared.live c.args.c) (names.size ∙ shared.size) c.requires).1 in
+    let names = (changes.overlaid (g.W.World.seen c.args.world.now) c.args.context c.args.context 1 c.second_page-spec.result).names in
+    let shared = changes.shared (g.W.World.seen c.args.world.now) c.args.context 1 c.second_page-spec.result in
+    let pages = (stays _ _ _ _ _ c.in_ok-overlay.ensures.overlaid (names.live c.args.context ∙ shared.live c.args.context) (names.size ∙ shared.size) c.requires).1 in
     omega (arith, pages)

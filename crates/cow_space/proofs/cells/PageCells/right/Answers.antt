@@ -9,7 +9,7 @@ use Rattle.cow_space.proofs.Views.{kinds-in, read-segments, rights-at}
 use Rattle.cow_space.proofs.cells.PageCells.right.Goals as goal
 
 pub index-requires : goal.index-requires
-index-requires c = omega (arith, kinds-in c.args.self.now c.args.i c.requires)
+index-requires c = omega (arith, kinds-in c.args.self.now c.args.place c.requires)
 
 right-or : (state : Option PageState) → unwrap_or (option_map (λ s. s.right) state) Write ≡ right_in state
 right-or None = refl
@@ -20,6 +20,6 @@ returns c =
     let w = c.args.self.now in
     c.unwrap_or.ensures
     ∙ ap (λ o. unwrap_or o Write) c.right_at.ensures.right
-    ∙ right-or (state_at c.index.result.now c.args.p)
-    ∙ ap (λ s. place_rights s c.args.p) (read-segments w c.args.i _ c.requires c.index.ensures)
-    ∙ ap (λ (f : ℕ → Right). f c.args.p) (sym (rights-at w c.args.i))
+    ∙ right-or (state_at c.index.result.now c.args.page)
+    ∙ ap (λ s. place_rights s c.args.page) (read-segments w c.args.place _ c.requires c.index.ensures)
+    ∙ ap (λ (f : ℕ → Right). f c.args.page) (sym (rights-at w c.args.place))

@@ -21,11 +21,11 @@ use Rattle.cow_space.proofs.rows.Rows.lone_frame.Goals as goal
 use Rattle.cow_space.proofs.rows.Rows.lone_frame.Goals.{else-alone-via-then-alone+else-count-eq1, else-alone-via-else-alone}
 
 pub index-requires : goal.index-requires
-index-requires c = omega (arith, tree-in c.args.self.now c.args.i c.requires.row, c.args.self.now.trees.ok)
+index-requires c = omega (arith, tree-in c.args.self.now c.args.place c.requires.row, c.args.self.now.trees.ok)
 
 pub look-cell-requires-clause-tree : goal.look-cell-requires-clause-tree
 look-cell-requires-clause-tree c =
-    is-tree c.args.self.now c.args.i _ c.requires.row c.index.ensures
+    is-tree c.args.self.now c.args.place _ c.requires.row c.index.ensures
 
 module _ (w : Rows) (i p tree : ℕ) (was : PageCell) (f : FrameNo) (inside : i < length (maps w)) (below : p < PAGES) (read : tree ≡ get_or w.trees.items i tree) (look : was ≡ page w.store.nodes.all tree p) (is : was ≡ cell.Frame f) where
   at : page_of w.store.nodes.all w.trees.items i p ≡ cell.Frame f
@@ -49,28 +49,28 @@ module _ (w : Rows) (i p tree : ℕ) (was : PageCell) (f : FrameNo) (inside : i 
 pub count-requires : goal.count-requires
 count-requires c =
     inside-frame c.args.self.now.store.frames c.in-Frame.frame.n
-    (held c.args.self.now c.args.i c.args.p c.index.result.now c.look-cell.result.0 c.in-Frame.frame c.requires.row c.requires.page c.index.ensures c.look-cell.ensures.cell c.in-Frame.is)
+    (held c.args.self.now c.args.place c.args.page_number c.index.result.now c.look-cell.result.0 c.in-Frame.frame c.requires.row c.requires.page c.index.ensures c.look-cell.ensures.cell c.in-Frame.is)
 
 pub returns-then-count-eq1-clause-frame : goal.returns-then-count-eq1-clause-frame
 returns-then-count-eq1-clause-frame c =
-    at c.args.self.now c.args.i c.args.p c.index.result.now c.look-cell.result.0 c.in-Frame.frame c.requires.row c.requires.page c.index.ensures c.look-cell.ensures.cell c.in-Frame.is
+    at c.args.self.now c.args.place c.args.page_number c.index.result.now c.look-cell.result.0 c.in-Frame.frame c.requires.row c.requires.page c.index.ensures c.look-cell.ensures.cell c.in-Frame.is
 
 pub returns-then-count-eq1-clause-alone : goal.returns-then-count-eq1-clause-alone
 returns-then-count-eq1-clause-alone c =
     let count = c.count.ensures in
-    alone c.args.self.now c.args.i c.args.p c.index.result.now c.look-cell.result.0 c.in-Frame.frame c.requires.row c.requires.page c.index.ensures c.look-cell.ensures.cell c.in-Frame.is (c.look-cell.ensures.alone.0 c.if-alone.true)
+    alone c.args.self.now c.args.place c.args.page_number c.index.result.now c.look-cell.result.0 c.in-Frame.frame c.requires.row c.requires.page c.index.ensures c.look-cell.ensures.cell c.in-Frame.is (c.look-cell.ensures.alone.0 c.if-alone.true)
     ∙ le-ltb 1 _ (omega (arith, count, c.if-count-eq1.true))
 
 pub returns-else-alone-clause-parts : goal.returns-else-alone-clause-parts
 returns-else-alone-clause-parts c =
     let w = c.args.self.now in
-    let some = held w c.args.i c.args.p c.index.result.now c.look-cell.result.0 c.in-Frame.frame c.requires.row c.requires.page c.index.ensures c.look-cell.ensures.cell c.in-Frame.is in
+    let some = held w c.args.place c.args.page_number c.index.result.now c.look-cell.result.0 c.in-Frame.frame c.requires.row c.requires.page c.index.ensures c.look-cell.ensures.cell c.in-Frame.is in
     elim c.else-alone.branch [
       | else-alone-via-then-alone+else-count-eq1 b ↦
-          alone w c.args.i c.args.p c.index.result.now c.look-cell.result.0 c.in-Frame.frame c.requires.row c.requires.page c.index.ensures c.look-cell.ensures.cell c.in-Frame.is (c.look-cell.ensures.alone.0 b.if-alone.true)
+          alone w c.args.place c.args.page_number c.index.result.now c.look-cell.result.0 c.in-Frame.frame c.requires.row c.requires.page c.index.ensures c.look-cell.ensures.cell c.in-Frame.is (c.look-cell.ensures.alone.0 b.if-alone.true)
           ∙ lt-ltb 1 _ (let count = b.count.ensures in let off = b.if-count-eq1.false in omega (arith, count, off, some))
       | else-alone-via-else-alone b ↦
-          shared w c.args.i c.args.p c.index.result.now c.look-cell.result.0 c.in-Frame.frame c.requires.row c.requires.page c.index.ensures c.look-cell.ensures.cell c.in-Frame.is
+          shared w c.args.place c.args.page_number c.index.result.now c.look-cell.result.0 c.in-Frame.frame c.requires.row c.requires.page c.index.ensures c.look-cell.ensures.cell c.in-Frame.is
           (λ none. let yes = c.look-cell.ensures.alone.1 none in let off = b.if-alone.false in absurd (cc (yes, off)))
     ]
 
@@ -80,7 +80,7 @@ returns-in_default c = record {
   frame = tt;
   alone = tt;
   parts =
-      let tree_is = tree-read c.args.self.now c.args.i _ c.requires.row c.index.ensures in
-      ap (parts (row_tags (maps c.args.self.now))) (row-value c.args.self.now c.args.i c.args.p c.requires.row c.requires.page ∙ ap (cell_value c.args.self.now.store.frames) (ap (λ t. page c.args.self.now.store.nodes.all t c.args.p) (sym tree_is) ∙ sym c.look-cell.ensures.cell))
+      let tree_is = tree-read c.args.self.now c.args.place _ c.requires.row c.index.ensures in
+      ap (parts (row_tags (maps c.args.self.now))) (row-value c.args.self.now c.args.place c.args.page_number c.requires.row c.requires.page ∙ ap (cell_value c.args.self.now.store.frames) (ap (λ t. page c.args.self.now.store.nodes.all t c.args.page_number) (sym tree_is) ∙ sym c.look-cell.ensures.cell))
       ∙ parting-none (row_tags (maps c.args.self.now)) c.args.self.now.store.frames c.look-cell.result.0 c.in_default.not-Frame;
 }

@@ -7,5 +7,5 @@ use Rattle.ctx_table.proofs.table.CtxTable.nth.Goals as goal
 
 pub returns : goal.returns
 returns g c =
-    rw (← c.self.view_is) (c.nth.ensures ∙ ap (λ (names : List Name). slice_get names c.args.i)
+    rw (← c.self.view_is) (c.nth.ensures ∙ ap (λ (names : List Name). slice_get names c.args.index)
     (sym (same_names _ _ (live _ _ c.self.invariant))))

@@ -12,6 +12,6 @@ unreachable-requires g c =
     (sym (place_name _ _ c.self.view_is c.place_of-place.result) ∙ c.place_of-place.ensures.there)
 
 pub returns : goal.returns
-returns g c = ap (option_map (λ kept. slice_index_or kept.saved c.args.t None)) (kept_at _ _ c.self.view_is _ c.self.invariant c.args.name c.place_of-place.result _ c.place_of-place.ensures.there
+returns g c = ap (option_map (λ kept. slice_index_or kept.saved c.args.thread None)) (kept_at _ _ c.self.view_is _ c.self.invariant c.args.name c.place_of-place.result _ c.place_of-place.ensures.there
     (slot-read _ _ c.self.view_is c.place_of-place.result c.index.result.now _ c.index.ensures
     (is_place _ _ c.self.view_is _ c.place_of-place.ensures.within) c.in-Held.is))

@@ -7,4 +7,4 @@ count-requires c =
     omega (arith, seen_inside _ _ _ c.self.view_is c.self.invariant.whole _ c.requires, c.self.invariant.whole.within)
 
 pub returns : goal.returns
-returns c = c.count.ensures ∙ seen_count _ _ _ c.self.view_is c.self.invariant.whole c.args.o
+returns c = c.count.ensures ∙ seen_count _ _ _ c.self.view_is c.self.invariant.whole c.args.object

@@ -21,29 +21,29 @@ pub used-requires : goal.used-requires
 unfolding slots
 used-requires c =
     let tables = c.args.self.now.tables in
-    let inside : c.args.i < length tables = omega (arith, c.requires, length-rows c.args.self.now.objects.pool tables) in
-    let read = table-read tables c.args.i _ inside c.index.ensures in
-    (subst (IsTable c.args.self.now.objects.pool) (sym read) (c.args.self.now.kept.each c.args.i inside)).filled
+    let inside : c.args.place < length tables = omega (arith, c.requires, length-rows c.args.self.now.objects.pool tables) in
+    let read = table-read tables c.args.place _ inside c.index.ensures in
+    (subst (IsTable c.args.self.now.objects.pool) (sym read) (c.args.self.now.kept.each c.args.place inside)).filled
 
 pub drop_all-requires : goal.drop_all-requires
 unfolding slots
 drop_all-requires c = λ o.
     let tables = c.args.self.now.tables in
-    let inside : c.args.i < length tables = omega (arith, c.requires, length-rows c.args.self.now.objects.pool tables) in
-    let read = table-read tables c.args.i _ inside c.index.ensures in
+    let inside : c.args.place < length tables = omega (arith, c.requires, length-rows c.args.self.now.objects.pool tables) in
+    let read = table-read tables c.args.place _ inside c.index.ensures in
     let same = c.used.ensures.same o ∙ ap (λ (t : Table). times o t.entries) read in
-    omega (arith, same, naming-at tables o c.args.i inside, c.args.self.now.kept.exact o)
+    omega (arith, same, naming-at tables o c.args.place inside, c.args.self.now.kept.exact o)
 
 pub invariant_of-self : goal.invariant_of-self
 unfolding slots
 invariant_of-self c =
     let pool = c.args.self.now.objects.pool in
     let tables = c.args.self.now.tables in
-    let inside : c.args.i < length tables = omega (arith, c.requires, length-rows pool tables) in
-    let read = table-read tables c.args.i _ inside c.index.ensures in
+    let inside : c.args.place < length tables = omega (arith, c.requires, length-rows pool tables) in
+    let read = table-read tables c.args.place _ inside c.index.ensures in
     record {
-      kept = subst (λ t. IsKept c.drop_all.new.self.pool (set tables c.args.i t)) (sym c.fresh.ensures)
-          (clear-kept pool _ tables c.args.i c.used.result.now c.args.self.now.kept inside c.drop_all.ensures.pool
+      kept = subst (λ t. IsKept c.drop_all.new.self.pool (set tables c.args.place t)) (sym c.fresh.ensures)
+          (clear-kept pool _ tables c.args.place c.used.result.now c.args.self.now.kept inside c.drop_all.ensures.pool
           (λ o. c.used.ensures.same o ∙ ap (λ (t : Table). times o t.entries) read));
       numbers = c.drop_all.ensures.places ∙ c.args.self.now.numbers;
     }
@@ -53,5 +53,5 @@ unfolding slots
 returns c =
     let pool = c.args.self.now.objects.pool in
     let tables = c.args.self.now.tables in
-    ap (λ t. rows c.drop_all.new.self.pool (set tables c.args.i t)) c.fresh.ensures
-    ∙ clear-rows pool c.drop_all.new.self.pool tables c.args.i c.used.result.now c.drop_all.ensures.pool
+    ap (λ t. rows c.drop_all.new.self.pool (set tables c.args.place t)) c.fresh.ensures
+    ∙ clear-rows pool c.drop_all.new.self.pool tables c.args.place c.used.result.now c.drop_all.ensures.pool

@@ -17,7 +17,7 @@ unfolding slots
 returns c = λ n n_in.
     let pool = c.args.self.now.objects.pool in
     let tables = c.args.self.now.tables in
-    let inside : c.args.i < length tables = omega (arith, c.requires, length-rows pool tables) in
-    let is = c.args.self.now.kept.each c.args.i inside in
-    ap (λ (t : Table). has_bit t.common n) (table-read tables c.args.i _ inside c.index.ensures)
-    ∙ is.common n n_in ∙ ap (λ (row : ℕ → Slot). is_common (row n).cell) (sym (row-at pool tables c.args.i inside))
+    let inside : c.args.place < length tables = omega (arith, c.requires, length-rows pool tables) in
+    let is = c.args.self.now.kept.each c.args.place inside in
+    ap (λ (t : Table). has_bit t.common n) (table-read tables c.args.place _ inside c.index.ensures)
+    ∙ is.common n n_in ∙ ap (λ (row : ℕ → Slot). is_common (row n).cell) (sym (row-at pool tables c.args.place inside))

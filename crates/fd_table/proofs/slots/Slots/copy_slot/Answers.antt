@@ -36,8 +36,8 @@ hold_all-requires-clause-held c = λ o some.
     let pool = c.args.self.now.objects.pool in
     let tables = c.args.self.now.tables in
     let from_in : c.args.from < length tables = omega (arith, c.requires.from, length-rows pool tables) in
-    let same = ap (λ (t : Table). times o (get_or t.entries c.args.m 0 ∷ [])) (table-read tables c.args.from _ from_in c.index.ensures) in
-    omega (arith, some, same, empty-may pool tables c.args.from c.args.m c.args.self.now.kept from_in c.requires.from_slot o)
+    let same = ap (λ (t : Table). times o (get_or t.entries c.args.other_slot 0 ∷ [])) (table-read tables c.args.from _ from_in c.index.ensures) in
+    omega (arith, some, same, empty-may pool tables c.args.from c.args.other_slot c.args.self.now.kept from_in c.requires.from_slot o)
 
 pub hold_all-requires-clause-fits : goal.hold_all-requires-clause-fits
 hold_all-requires-clause-fits c = λ o.
@@ -50,7 +50,7 @@ drop_entry-requires c = λ o.
     let tables = c.args.self.now.tables in
     let to_in : c.args.to < length tables = omega (arith, c.requires.to, length-rows pool tables) in
     let read = table-read tables c.args.to _ to_in c.index-3.ensures in
-    let may = subst (λ (t : Table). times o (get_or t.entries c.args.n 0 ∷ []) ≤ count_of pool o) (sym read) (empty-may pool tables c.args.to c.args.n c.args.self.now.kept to_in c.requires.slot o) in
+    let may = subst (λ (t : Table). times o (get_or t.entries c.args.slot 0 ∷ []) ≤ count_of pool o) (sym read) (empty-may pool tables c.args.to c.args.slot c.args.self.now.kept to_in c.requires.slot o) in
     omega (arith, may, c.hold_all.ensures.pool.counts o)
 
 pub invariant_of-self : goal.invariant_of-self
@@ -59,8 +59,8 @@ invariant_of-self c =
     let pool = c.args.self.now.objects.pool in
     let tables = c.args.self.now.tables in
     let to = c.args.to in
-    let n = c.args.n in
-    let m = c.args.m in
+    let n = c.args.slot in
+    let m = c.args.other_slot in
     let mid = c.hold_all.new.self.pool in
     let new = c.drop_entry.new.self.pool in
     let kept = c.args.self.now.kept in
@@ -93,8 +93,8 @@ returns c =
     let pool = c.args.self.now.objects.pool in
     let tables = c.args.self.now.tables in
     let to = c.args.to in
-    let n = c.args.n in
-    let m = c.args.m in
+    let n = c.args.slot in
+    let m = c.args.other_slot in
     let new = c.drop_entry.new.self.pool in
     let to_in : to < length tables = omega (arith, c.requires.to, length-rows pool tables) in
     let from_in : c.args.from < length tables = omega (arith, c.requires.from, length-rows pool tables) in

@@ -23,18 +23,18 @@ pub drop_entry-requires : goal.drop_entry-requires
 unfolding slots
 drop_entry-requires c = λ o.
     let tables = c.args.self.now.tables in
-    let inside : c.args.i < length tables = omega (arith, c.requires.place, length-rows c.args.self.now.objects.pool tables) in
-    let read = table-read tables c.args.i _ inside c.index.ensures in
-    subst (λ (t : Table). times o (get_or t.entries c.args.n 0 ∷ []) ≤ count_of c.args.self.now.objects.pool o) (sym read)
-    (empty-may c.args.self.now.objects.pool tables c.args.i c.args.n c.args.self.now.kept inside c.requires.slot o)
+    let inside : c.args.place < length tables = omega (arith, c.requires.place, length-rows c.args.self.now.objects.pool tables) in
+    let read = table-read tables c.args.place _ inside c.index.ensures in
+    subst (λ (t : Table). times o (get_or t.entries c.args.slot 0 ∷ []) ≤ count_of c.args.self.now.objects.pool o) (sym read)
+    (empty-may c.args.self.now.objects.pool tables c.args.place c.args.slot c.args.self.now.kept inside c.requires.slot o)
 
 pub invariant_of-self : goal.invariant_of-self
 unfolding slots
 invariant_of-self c =
     let pool = c.args.self.now.objects.pool in
     let tables = c.args.self.now.tables in
-    let i = c.args.i in
-    let n = c.args.n in
+    let i = c.args.place in
+    let n = c.args.slot in
     let new = c.drop_entry.new.self.pool in
     let inside : i < length tables = omega (arith, c.requires.place, length-rows pool tables) in
     let read = table-read tables i _ inside c.index.ensures in
@@ -56,10 +56,10 @@ unfolding slots
 returns c =
     let pool = c.args.self.now.objects.pool in
     let tables = c.args.self.now.tables in
-    let i = c.args.i in
+    let i = c.args.place in
     let new = c.drop_entry.new.self.pool in
     let inside : i < length tables = omega (arith, c.requires.place, length-rows pool tables) in
     let again = table-read tables i _ inside c.index_mut.ensures.value in
-    set-rows pool new tables i c.args.n 0 c.set.new.self false c.args.self.now.kept inside c.requires.slot
+    set-rows pool new tables i c.args.slot 0 c.set.new.self false c.args.self.now.kept inside c.requires.slot
     (λ j _. slots-all pool new (table_at tables j).entries c.drop_entry.ensures.pool.same)
-    (c.set.ensures.entries ∙ ap (λ (t : Table). set t.entries c.args.n 0) again)
+    (c.set.ensures.entries ∙ ap (λ (t : Table). set t.entries c.args.slot 0) again)

@@ -15,8 +15,8 @@ unfolding slots
 take-o-requires-clause-free c =
     let pool = c.args.self.now.objects.pool in
     let tables = c.args.self.now.tables in
-    let inside : c.args.i < length tables = omega (arith, c.requires.place, length-rows pool tables) in
-    free-some pool tables c.args.i c.args.n c.args.self.now.kept inside c.requires.slot (empty-zero pool tables c.args.i c.args.n c.args.self.now.kept inside c.requires.empty)
+    let inside : c.args.place < length tables = omega (arith, c.requires.place, length-rows pool tables) in
+    free-some pool tables c.args.place c.args.slot c.args.self.now.kept inside c.requires.slot (empty-zero pool tables c.args.place c.args.slot c.args.self.now.kept inside c.requires.empty)
 
 pub take-o-requires-clause-target : goal.take-o-requires-clause-target
 take-o-requires-clause-target c =
@@ -32,8 +32,8 @@ unfolding slots
 invariant_of-self c =
     let pool = c.args.self.now.objects.pool in
     let tables = c.args.self.now.tables in
-    let i = c.args.i in
-    let n = c.args.n in
+    let i = c.args.place in
+    let n = c.args.slot in
     let o = c.take-o.result in
     let slot = slot_of c.args.filling.now in
     let new = c.take-o.new.self.pool in
@@ -59,8 +59,8 @@ unfolding slots
 returns c =
     let pool = c.args.self.now.objects.pool in
     let tables = c.args.self.now.tables in
-    let i = c.args.i in
-    let n = c.args.n in
+    let i = c.args.place in
+    let n = c.args.slot in
     let o = c.take-o.result in
     let slot = slot_of c.args.filling.now in
     let new = c.take-o.new.self.pool in

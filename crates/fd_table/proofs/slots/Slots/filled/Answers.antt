@@ -17,7 +17,7 @@ unfolding slots
 returns c = λ n n_in.
     let pool = c.args.self.now.objects.pool in
     let tables = c.args.self.now.tables in
-    let inside : c.args.i < length tables = omega (arith, c.requires, length-rows pool tables) in
-    let is = c.args.self.now.kept.each c.args.i inside in
-    ap (λ (t : Table). has_bit t.filled n) (table-read tables c.args.i _ inside c.index.ensures)
-    ∙ is.filled n n_in ∙ sym (is.real n) ∙ ap (λ (row : ℕ → Slot). is_filled (row n).cell) (sym (row-at pool tables c.args.i inside))
+    let inside : c.args.place < length tables = omega (arith, c.requires, length-rows pool tables) in
+    let is = c.args.self.now.kept.each c.args.place inside in
+    ap (λ (t : Table). has_bit t.filled n) (table-read tables c.args.place _ inside c.index.ensures)
+    ∙ is.filled n n_in ∙ sym (is.real n) ∙ ap (λ (row : ℕ → Slot). is_filled (row n).cell) (sym (row-at pool tables c.args.place inside))

@@ -18,27 +18,27 @@ unfolding slots
 filling-requires c =
     let pool = c.args.self.now.objects.pool in
     let tables = c.args.self.now.tables in
-    let inside : c.args.i < length tables = omega (arith, c.requires.place, length-rows pool tables) in
-    let read = table-read tables c.args.i _ inside c.index.ensures in
-    let same = ap (λ (t : Table). get_or t.entries c.args.n 0) read in
-    subst (λ (t : Table). 0 < count_of pool (get_or t.entries c.args.n 0 - 1)) (sym read) (entry-held pool tables c.args.i c.args.n c.args.self.now.kept inside (omega (arith, same)))
+    let inside : c.args.place < length tables = omega (arith, c.requires.place, length-rows pool tables) in
+    let read = table-read tables c.args.place _ inside c.index.ensures in
+    let same = ap (λ (t : Table). get_or t.entries c.args.slot 0) read in
+    subst (λ (t : Table). 0 < count_of pool (get_or t.entries c.args.slot 0 - 1)) (sym read) (entry-held pool tables c.args.place c.args.slot c.args.self.now.kept inside (omega (arith, same)))
 
 pub returns-in-0-clause-none : goal.returns-in-0-clause-none
 unfolding slots
 returns-in-0-clause-none c =
     let pool = c.args.self.now.objects.pool in
     let tables = c.args.self.now.tables in
-    let inside : c.args.i < length tables = omega (arith, c.requires.place, length-rows pool tables) in
-    let same = ap (λ (t : Table). get_or t.entries c.args.n 0) (table-read tables c.args.i _ inside c.index.ensures) in
-    ap (λ (row : ℕ → Slot). row c.args.n) (row-at pool tables c.args.i inside) ∙ slots-at pool (table_at tables c.args.i).entries c.args.n
-    ∙ entry-empty pool (get_or (table_at tables c.args.i).entries c.args.n 0) (omega (arith, same))
+    let inside : c.args.place < length tables = omega (arith, c.requires.place, length-rows pool tables) in
+    let same = ap (λ (t : Table). get_or t.entries c.args.slot 0) (table-read tables c.args.place _ inside c.index.ensures) in
+    ap (λ (row : ℕ → Slot). row c.args.slot) (row-at pool tables c.args.place inside) ∙ slots-at pool (table_at tables c.args.place).entries c.args.slot
+    ∙ entry-empty pool (get_or (table_at tables c.args.place).entries c.args.slot 0) (omega (arith, same))
 
 pub returns-in_default-clause-some : goal.returns-in_default-clause-some
 unfolding slots
 returns-in_default-clause-some c =
     let pool = c.args.self.now.objects.pool in
     let tables = c.args.self.now.tables in
-    let inside : c.args.i < length tables = omega (arith, c.requires.place, length-rows pool tables) in
-    let same = ap (λ (t : Table). get_or t.entries c.args.n 0) (table-read tables c.args.i _ inside c.index.ensures) in
-    ap (λ (row : ℕ → Slot). row c.args.n) (row-at pool tables c.args.i inside) ∙ slots-at pool (table_at tables c.args.i).entries c.args.n
+    let inside : c.args.place < length tables = omega (arith, c.requires.place, length-rows pool tables) in
+    let same = ap (λ (t : Table). get_or t.entries c.args.slot 0) (table-read tables c.args.place _ inside c.index.ensures) in
+    ap (λ (row : ℕ → Slot). row c.args.slot) (row-at pool tables c.args.place inside) ∙ slots-at pool (table_at tables c.args.place).entries c.args.slot
     ∙ ap (entry_slot pool) (sym same) ∙ entry-some pool _ (omega arith) ∙ sym c.filling.ensures

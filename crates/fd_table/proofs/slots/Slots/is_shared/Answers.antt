@@ -23,11 +23,11 @@ unfolding slots
 returns c is =
     let pool = c.args.self.now.objects.pool in
     let tables = c.args.self.now.tables in
-    let first : c.args.i < length tables = omega (arith, c.requires.place, length-rows pool tables) in
-    let second : c.args.j < length tables = omega (arith, c.requires.other, length-rows pool tables) in
-    let same : get_or (table_at tables c.args.i).entries c.args.n 0 ≡ get_or (table_at tables c.args.j).entries c.args.n 0 =
-    ap (λ (t : Table). get_or t.entries c.args.n 0) (sym (table-read tables c.args.i _ first c.index.ensures)) ∙ eqb-true _ _ is
-    ∙ ap (λ (t : Table). get_or t.entries c.args.n 0) (table-read tables c.args.j _ second c.index-2.ensures) in
-    ap (λ (row : ℕ → Slot). row c.args.n) (row-at pool tables c.args.i first) ∙ slots-at pool (table_at tables c.args.i).entries c.args.n
+    let first : c.args.place < length tables = omega (arith, c.requires.place, length-rows pool tables) in
+    let second : c.args.other < length tables = omega (arith, c.requires.other, length-rows pool tables) in
+    let same : get_or (table_at tables c.args.place).entries c.args.slot 0 ≡ get_or (table_at tables c.args.other).entries c.args.slot 0 =
+    ap (λ (t : Table). get_or t.entries c.args.slot 0) (sym (table-read tables c.args.place _ first c.index.ensures)) ∙ eqb-true _ _ is
+    ∙ ap (λ (t : Table). get_or t.entries c.args.slot 0) (table-read tables c.args.other _ second c.index-2.ensures) in
+    ap (λ (row : ℕ → Slot). row c.args.slot) (row-at pool tables c.args.place first) ∙ slots-at pool (table_at tables c.args.place).entries c.args.slot
     ∙ ap (entry_slot pool) same
-    ∙ sym (ap (λ (row : ℕ → Slot). row c.args.n) (row-at pool tables c.args.j second) ∙ slots-at pool (table_at tables c.args.j).entries c.args.n)
+    ∙ sym (ap (λ (row : ℕ → Slot). row c.args.slot) (row-at pool tables c.args.other second) ∙ slots-at pool (table_at tables c.args.other).entries c.args.slot)

@@ -6,5 +6,5 @@ use Rattle.fd_table.proofs.slots.Slots.put.Goals as goal
 
 pub returns-then-is_filled : goal.returns-then-is_filled
 returns-then-is_filled c =
-    c.fill_slot.ensures ∙ ap (λ all. set all c.args.i (put_slot (row_of all c.args.i) c.args.n (record { cell = cell_of c.args.cell; target = c.args.target }))) c.empty_slot.ensures
-    ∙ put-twice (slots c.args.self.now) c.args.i c.args.n _ _ c.requires.place
+    c.fill_slot.ensures ∙ ap (λ all. set all c.args.place (put_slot (row_of all c.args.place) c.args.slot (record { cell = cell_of c.args.cell; target = c.args.target }))) c.empty_slot.ensures
+    ∙ put-twice (slots c.args.self.now) c.args.place c.args.slot _ _ c.requires.place

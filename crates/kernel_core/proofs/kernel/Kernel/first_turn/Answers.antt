@@ -6,10 +6,10 @@ use Rattle.kernel_core.proofs.kernel.Kernel.first_turn.Goals as goal
 
 pub index-requires : goal.index-requires
 index-requires g c =
-    let few = within _ _ _ (as_seen _ _ _ _ c.self.view_is c.self.invariant.1) c.args.t c.requires.within in omega arith
+    let few = within _ _ _ (as_seen _ _ _ _ c.self.view_is c.self.invariant.1) c.args.thread c.requires.within in omega arith
 
 pub returns : goal.returns
 returns g c =
-    last_turn _ _ _ (as_seen _ _ _ _ c.self.view_is c.self.invariant.1) c.args.t _ c.requires.within c.index.ensures None
-    (ap (λ (steps : List ℕ). last_finished (start c.args.self.now.inputs) steps c.args.t None) c.requires.fresh)
+    last_turn _ _ _ (as_seen _ _ _ _ c.self.view_is c.self.invariant.1) c.args.thread _ c.requires.within c.index.ensures None
+    (ap (λ (steps : List ℕ). last_finished (start c.args.self.now.inputs) steps c.args.thread None) c.requires.fresh)
     ∙ ap Some (sym c.turn.ensures)

@@ -17,11 +17,11 @@ use Rattle.kernel_core.proofs.kernel.Kernel.make_step.Goals as goal
 
 pub index_mut-thread-requires : goal.index_mut-thread-requires
 index_mut-thread-requires g c =
-    let few = within _ _ _ (as_seen _ _ _ _ c.self.view_is c.self.invariant.1) c.args.t c.requires.within in omega arith
+    let few = within _ _ _ (as_seen _ _ _ _ c.self.view_is c.self.invariant.1) c.args.thread_number c.requires.within in omega arith
 
 pub step_thread-requires-clause-ready : goal.step_thread-requires-clause-ready
 step_thread-requires-clause-ready g c κs within =
-    acts _ _ _ (as_seen _ _ _ _ c.self.view_is c.self.invariant.1) c.args.t _ c.requires.within c.index_mut-thread.ensures.value
+    acts _ _ _ (as_seen _ _ _ _ c.self.view_is c.self.invariant.1) c.args.thread_number _ c.requires.within c.index_mut-thread.ensures.value
 
 pub step_thread-requires-clause-files : goal.step_thread-requires-clause-files
 step_thread-requires-clause-files g c κs within =
@@ -29,7 +29,7 @@ step_thread-requires-clause-files g c κs within =
 
 pub step_thread-requires-clause-steps : goal.step_thread-requires-clause-steps
 step_thread-requires-clause-steps g c κs within =
-    has_steps _ _ _ (as_seen _ _ _ _ c.self.view_is c.self.invariant.1) c.args.t _ c.requires.within c.index_mut-thread.ensures.value
+    has_steps _ _ _ (as_seen _ _ _ _ c.self.view_is c.self.invariant.1) c.args.thread_number _ c.requires.within c.index_mut-thread.ensures.value
 
 pub step_thread-requires-clause-proposal : goal.step_thread-requires-clause-proposal
 step_thread-requires-clause-proposal g c κs within =
@@ -43,56 +43,56 @@ step_thread-requires-clause-text g c κs within =
 
 pub returns-in_default-clause-step : goal.returns-in_default-clause-step
 returns-in_default-clause-step g c =
-    let rest = rested_here _ _ _ (as_seen _ _ _ _ c.self.view_is c.self.invariant.1) c.args.t _ _ _ _ _ _ c.requires.within c.index_mut-thread.ensures.value
+    let rest = rested_here _ _ _ (as_seen _ _ _ _ c.self.view_is c.self.invariant.1) c.args.thread_number _ _ _ _ _ _ c.requires.within c.index_mut-thread.ensures.value
     c.in_ok-effect.ensures.outcome c.in_ok-effect.ensures.kept c.in_default.is in
     c.self.view_is ∙ sym rest.kept
 
 pub returns-in_default-clause-turn : goal.returns-in_default-clause-turn
 returns-in_default-clause-turn g c =
-    let rest = rested_here _ _ _ (as_seen _ _ _ _ c.self.view_is c.self.invariant.1) c.args.t _ _ _ _ _ _ c.requires.within c.index_mut-thread.ensures.value
+    let rest = rested_here _ _ _ (as_seen _ _ _ _ c.self.view_is c.self.invariant.1) c.args.thread_number _ _ _ _ _ _ c.requires.within c.index_mut-thread.ensures.value
     c.in_ok-effect.ensures.outcome c.in_ok-effect.ensures.kept c.in_default.is in
-    subst (λ (h : History). turn h c.args.t ≡ turn_at (machine_of h) c.args.t None) (sym c.self.view_is) (rest.turn ∙ sym rest.turn_in)
+    subst (λ (h : History). turn h c.args.thread_number ≡ turn_at (machine_of h) c.args.thread_number None) (sym c.self.view_is) (rest.turn ∙ sym rest.turn_in)
 
 pub returns-in_default-clause-number : goal.returns-in_default-clause-number
 returns-in_default-clause-number g c =
-    let rest = rested_here _ _ _ (as_seen _ _ _ _ c.self.view_is c.self.invariant.1) c.args.t _ _ _ _ _ _ c.requires.within c.index_mut-thread.ensures.value
+    let rest = rested_here _ _ _ (as_seen _ _ _ _ c.self.view_is c.self.invariant.1) c.args.thread_number _ _ _ _ _ _ c.requires.within c.index_mut-thread.ensures.value
     c.in_ok-effect.ensures.outcome c.in_ok-effect.ensures.kept c.in_default.is in
-    subst (λ (h : History). None ≡ option_map (λ f. f.request) (last_finished (start h.inputs) h.steps c.args.t None)) (sym c.self.view_is)
+    subst (λ (h : History). None ≡ option_map (λ f. f.request) (last_finished (start h.inputs) h.steps c.args.thread_number None)) (sym c.self.view_is)
     (ap (λ (o : Option Finished). option_map (λ f. f.request) o) (sym rest.finished))
 
 pub returns-in_default-clause-room : goal.returns-in_default-clause-room
 returns-in_default-clause-room g c going =
-    let rest = rested_here _ _ _ (as_seen _ _ _ _ c.self.view_is c.self.invariant.1) c.args.t _ _ _ _ _ _ c.requires.within c.index_mut-thread.ensures.value
+    let rest = rested_here _ _ _ (as_seen _ _ _ _ c.self.view_is c.self.invariant.1) c.args.thread_number _ _ _ _ _ _ c.requires.within c.index_mut-thread.ensures.value
     c.in_ok-effect.ensures.outcome c.in_ok-effect.ensures.kept c.in_default.is in
     cc (rest.ended, going)
 
 pub returns-in_default-clause-work : goal.returns-in_default-clause-work
 returns-in_default-clause-work g c going =
-    let rest = rested_here _ _ _ (as_seen _ _ _ _ c.self.view_is c.self.invariant.1) c.args.t _ _ _ _ _ _ c.requires.within c.index_mut-thread.ensures.value
+    let rest = rested_here _ _ _ (as_seen _ _ _ _ c.self.view_is c.self.invariant.1) c.args.thread_number _ _ _ _ _ _ c.requires.within c.index_mut-thread.ensures.value
     c.in_ok-effect.ensures.outcome c.in_ok-effect.ensures.kept c.in_default.is in
     absurd (cc (rest.ended, going))
 
 pub peak_after-self-inside-requires-after_bounds : goal.peak_after-self-inside-requires-after_bounds
 peak_after-self-inside-requires-after_bounds g c κs within thread =
-    used_kept _ _ _ (as_seen _ _ _ _ c.self.view_is c.self.invariant.1) c.args.t _ _ _ _ _ _ c.requires.within c.index_mut-thread.ensures.value
+    used_kept _ _ _ (as_seen _ _ _ _ c.self.view_is c.self.invariant.1) c.args.thread_number _ _ _ _ _ _ c.requires.within c.index_mut-thread.ensures.value
     c.in_ok-effect.ensures.outcome c.in_ok-effect.ensures.kept
     _ _ c.in-Some.is (reaped_as _ _ _ _ _ _ c.drop_unreached.ensures c.as_slice.ensures.value c.worker_count-workers.ensures.homes) thread
 
 pub append-requires : goal.append-requires
 append-requires g c =
-    let made = made_here _ _ _ (as_seen _ _ _ _ c.self.view_is c.self.invariant.1) c.args.t _ _ _ _ _ _ c.requires.within c.index_mut-thread.ensures.value
+    let made = made_here _ _ _ (as_seen _ _ _ _ c.self.view_is c.self.invariant.1) c.args.thread_number _ _ _ _ _ _ c.requires.within c.index_mut-thread.ensures.value
     c.in_ok-effect.ensures.outcome c.in-Some.effect c.in-Some.is in
     omega (arith, c.requires.room made.going, ap (λ (h : History). h.room) c.self.view_is, c.self.invariant.0)
 
 pub overflow_sub-self : goal.overflow_sub-self
 overflow_sub-self g c =
-    let made = made_here _ _ _ (as_seen _ _ _ _ c.self.view_is c.self.invariant.1) c.args.t _ _ _ _ _ _ c.requires.within c.index_mut-thread.ensures.value
+    let made = made_here _ _ _ (as_seen _ _ _ _ c.self.view_is c.self.invariant.1) c.args.thread_number _ _ _ _ _ _ c.requires.within c.index_mut-thread.ensures.value
     c.in_ok-effect.ensures.outcome c.in-Some.effect c.in-Some.is in
     omega (arith, c.requires.room made.going, ap (λ (h : History). h.room) c.self.view_is)
 
 pub invariant_of-self-2 : goal.invariant_of-self-2
 invariant_of-self-2 g c =
-    let made = made_here _ _ _ (as_seen _ _ _ _ c.self.view_is c.self.invariant.1) c.args.t _ _ _ _ _ _ c.requires.within c.index_mut-thread.ensures.value
+    let made = made_here _ _ _ (as_seen _ _ _ _ c.self.view_is c.self.invariant.1) c.args.thread_number _ _ _ _ _ _ c.requires.within c.index_mut-thread.ensures.value
     c.in_ok-effect.ensures.outcome c.in-Some.effect c.in-Some.is in
     let some = c.requires.room made.going in
     let is = one_longer _ _ _ _ _ _ _ _ _ c.self.view_is c.append.ensures.steps in (
@@ -102,47 +102,47 @@ invariant_of-self-2 g c =
 
 pub returns-clause-step : goal.returns-clause-step
 returns-clause-step g c =
-    let made = made_here _ _ _ (as_seen _ _ _ _ c.self.view_is c.self.invariant.1) c.args.t _ _ _ _ _ _ c.requires.within c.index_mut-thread.ensures.value
+    let made = made_here _ _ _ (as_seen _ _ _ _ c.self.view_is c.self.invariant.1) c.args.thread_number _ _ _ _ _ _ c.requires.within c.index_mut-thread.ensures.value
     c.in_ok-effect.ensures.outcome c.in-Some.effect c.in-Some.is in
     one_longer _ _ _ _ _ _ _ _ _ c.self.view_is c.append.ensures.steps ∙ sym made.kept
 
 pub returns-clause-turn : goal.returns-clause-turn
 returns-clause-turn g c =
-    let made = made_here _ _ _ (as_seen _ _ _ _ c.self.view_is c.self.invariant.1) c.args.t _ _ _ _ _ _ c.requires.within c.index_mut-thread.ensures.value
+    let made = made_here _ _ _ (as_seen _ _ _ _ c.self.view_is c.self.invariant.1) c.args.thread_number _ _ _ _ _ _ c.requires.within c.index_mut-thread.ensures.value
     c.in_ok-effect.ensures.outcome c.in-Some.effect c.in-Some.is in
-    subst (λ (h : History). turn h c.args.t ≡ turn_at (machine_of h) c.args.t c.in-Some.effect.finished)
+    subst (λ (h : History). turn h c.args.thread_number ≡ turn_at (machine_of h) c.args.thread_number c.in-Some.effect.finished)
     (sym (one_longer _ _ _ _ _ _ _ _ _ c.self.view_is c.append.ensures.steps)) (made.turn ∙ sym (made.turn_in c.in-Some.effect.finished))
 
 pub returns-clause-number : goal.returns-clause-number
 returns-clause-number g c =
-    let made = made_here _ _ _ (as_seen _ _ _ _ c.self.view_is c.self.invariant.1) c.args.t _ _ _ _ _ _ c.requires.within c.index_mut-thread.ensures.value
+    let made = made_here _ _ _ (as_seen _ _ _ _ c.self.view_is c.self.invariant.1) c.args.thread_number _ _ _ _ _ _ c.requires.within c.index_mut-thread.ensures.value
     c.in_ok-effect.ensures.outcome c.in-Some.effect c.in-Some.is in
     let numbered = numbered_here _ _ c.in_ok-effect.ensures.number c.in-Some.effect c.in-Some.is in
-    subst (λ (h : History). c.in-Some.effect.finished ≡ option_map (λ f. f.request) (last_finished (start h.inputs) h.steps c.args.t None))
+    subst (λ (h : History). c.in-Some.effect.finished ≡ option_map (λ f. f.request) (last_finished (start h.inputs) h.steps c.args.thread_number None))
     (sym (one_longer _ _ _ _ _ _ _ _ _ c.self.view_is c.append.ensures.steps))
     (numbered ∙ ap (λ (o : Option Finished). option_map (λ f. f.request) o) (sym made.finished))
 
 pub returns-clause-work : goal.returns-clause-work
 returns-clause-work g c going =
-    let made = made_here _ _ _ (as_seen _ _ _ _ c.self.view_is c.self.invariant.1) c.args.t _ _ _ _ _ _ c.requires.within c.index_mut-thread.ensures.value
+    let made = made_here _ _ _ (as_seen _ _ _ _ c.self.view_is c.self.invariant.1) c.args.thread_number _ _ _ _ _ _ c.requires.within c.index_mut-thread.ensures.value
     c.in_ok-effect.ensures.outcome c.in-Some.effect c.in-Some.is in
     subst (λ (h : History). work (machine_of h) < work (machine_of c.args.self.now)) (sym (one_longer _ _ _ _ _ _ _ _ _ c.self.view_is c.append.ensures.steps)) made.less
 
 pub drop_unreached-requires-clause-few : goal.drop_unreached-requires-clause-few
 drop_unreached-requires-clause-few g c =
     let ready = is_ready _ _ _ (as_seen _ _ _ _ c.self.view_is c.self.invariant.1) in
-    omega (arith, ap (λ (l : List Thread). length l) c.as_slice.ensures.value, length-set c.self.inside.threads.items c.args.t c.step_thread.new.thread, ready.few)
+    omega (arith, ap (λ (l : List Thread). length l) c.as_slice.ensures.value, length-set c.self.inside.threads.items c.args.thread_number c.step_thread.new.thread, ready.few)
 
 pub drop_unreached-requires-clause-live : goal.drop_unreached-requires-clause-live
 drop_unreached-requires-clause-live g c κs inside =
-    let made = made_here _ _ _ (as_seen _ _ _ _ c.self.view_is c.self.invariant.1) c.args.t _ _ _ _ _ _ c.requires.within c.index_mut-thread.ensures.value
+    let made = made_here _ _ _ (as_seen _ _ _ _ c.self.view_is c.self.invariant.1) c.args.thread_number _ _ _ _ _ _ c.requires.within c.index_mut-thread.ensures.value
     c.in_ok-effect.ensures.outcome c.in-Some.effect c.in-Some.is in
     subst (All (λ (x : Thread). IsLive (g.W.World.seen c.step_thread.new.world) x.context)) (sym c.as_slice.ensures.value)
     (contexts_part (IsLive (g.W.World.seen c.step_thread.new.world)) _ _ made.live)
 
 pub drop_unreached-requires-clause-homes : goal.drop_unreached-requires-clause-homes
 drop_unreached-requires-clause-homes g c κs inside =
-    let made = made_here _ _ _ (as_seen _ _ _ _ c.self.view_is c.self.invariant.1) c.args.t _ _ _ _ _ _ c.requires.within c.index_mut-thread.ensures.value
+    let made = made_here _ _ _ (as_seen _ _ _ _ c.self.view_is c.self.invariant.1) c.args.thread_number _ _ _ _ _ _ c.requires.within c.index_mut-thread.ensures.value
     c.in_ok-effect.ensures.outcome c.in-Some.effect c.in-Some.is in
     subst (All (IsLive (g.W.World.seen c.step_thread.new.world))) (sym c.worker_count-workers.ensures.homes)
     (homes_part (IsLive (g.W.World.seen c.step_thread.new.world)) _ _ made.live)
@@ -150,13 +150,13 @@ drop_unreached-requires-clause-homes g c κs inside =
 pub drop_unreached-requires-clause-uncut : goal.drop_unreached-requires-clause-uncut
 drop_unreached-requires-clause-uncut g c κs inside other =
     reaped_back _ _ _ _ _ c.as_slice.ensures.value c.worker_count-workers.ensures.homes
-    (nothing_left _ _ _ (as_seen _ _ _ _ c.self.view_is c.self.invariant.1) c.args.t _ _ _ _ _ _ c.requires.within c.index_mut-thread.ensures.value
+    (nothing_left _ _ _ (as_seen _ _ _ _ c.self.view_is c.self.invariant.1) c.args.thread_number _ _ _ _ _ _ c.requires.within c.index_mut-thread.ensures.value
     c.in_ok-effect.ensures.outcome c.in_ok-effect.ensures.kept c.in-Some.effect c.in-Some.is other)
 
 pub overflow_cast-t-2 : goal.overflow_cast-t-2
 overflow_cast-t-2 g c =
     let ready = is_ready _ _ _ (as_seen _ _ _ _ c.self.view_is c.self.invariant.1) in
-    omega (arith, within _ _ _ (as_seen _ _ _ _ c.self.view_is c.self.invariant.1) c.args.t c.requires.within, ready.few)
+    omega (arith, within _ _ _ (as_seen _ _ _ _ c.self.view_is c.self.invariant.1) c.args.thread_number c.requires.within, ready.few)
 
 pub step_thread-requires-clause-serve : goal.step_thread-requires-clause-serve
 step_thread-requires-clause-serve g c κs within =
@@ -165,10 +165,10 @@ step_thread-requires-clause-serve g c κs within =
 
 pub step_thread-requires-clause-worker : goal.step_thread-requires-clause-worker
 step_thread-requires-clause-worker g c κs within =
-    serves _ _ _ (as_seen _ _ _ _ c.self.view_is c.self.invariant.1) c.args.t _ c.requires.within c.index_mut-thread.ensures.value
+    serves _ _ _ (as_seen _ _ _ _ c.self.view_is c.self.invariant.1) c.args.thread_number _ c.requires.within c.index_mut-thread.ensures.value
 
 pub step_thread-requires-clause-number : goal.step_thread-requires-clause-number
 step_thread-requires-clause-number g c κs bounds =
     let steady = as_seen _ _ _ _ c.self.view_is c.self.invariant.1 in
     let ready = is_ready _ _ _ steady in
-    omega (arith, within _ _ _ steady c.args.t c.requires.within, ready.few)
+    omega (arith, within _ _ _ steady c.args.thread_number c.requires.within, ready.few)

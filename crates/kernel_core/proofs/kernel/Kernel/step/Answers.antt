@@ -6,5 +6,5 @@ use Rattle.kernel_core.proofs.kernel.Kernel.step.Goals as goal
 
 pub turn-requires-after_bounds : goal.turn-requires-after_bounds
 turn-requires-after_bounds g c κs within =
-    let same = ap (λ (h : History). h.inputs) c.in_ok-finished.ensures.step ∙ stepped_inputs _ c.args.t in
-    subst (λ (i : Inputs). c.args.t < thread_count i) (sym same) c.requires.within
+    let same = ap (λ (h : History). h.inputs) c.in_ok-finished.ensures.step ∙ stepped_inputs _ c.args.thread in
+    subst (λ (i : Inputs). c.args.thread < thread_count i) (sym same) c.requires.within

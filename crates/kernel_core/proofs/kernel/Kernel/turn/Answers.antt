@@ -4,8 +4,8 @@ use Rattle.kernel_core.proofs.kernel.Kernel.turn.Goals as goal
 
 pub index-requires : goal.index-requires
 index-requires g c =
-    let few = within _ _ _ (as_seen _ _ _ _ c.self.view_is c.self.invariant.1) c.args.t c.requires in omega arith
+    let few = within _ _ _ (as_seen _ _ _ _ c.self.view_is c.self.invariant.1) c.args.thread c.requires in omega arith
 
 pub returns : goal.returns
 returns g c =
-    turn_noted _ _ _ (as_seen _ _ _ _ c.self.view_is c.self.invariant.1) c.args.t _ c.requires c.index.ensures c.args.finished _ _ c.recorded.ensures c.turn.ensures
+    turn_noted _ _ _ (as_seen _ _ _ _ c.self.view_is c.self.invariant.1) c.args.thread _ c.requires c.index.ensures c.args.finished _ _ c.recorded.ensures c.turn.ensures

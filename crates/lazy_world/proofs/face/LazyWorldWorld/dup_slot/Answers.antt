@@ -13,13 +13,13 @@ pub invariant_of-self : goal.invariant_of-self
 unfolding seen parts
 invariant_of-self c =
     let old = c.args.self.now in
-    let value = slot_at (seen old.world) c.args.c c.args.from in
-    let put = c.dup_slot.ensures.put ∙ ap (λ (p : PlacedWorld). put_slot (seen p) c.args.c c.args.to (slot_at (seen p) c.args.c c.args.from)) c.add_cached_root.ensures.world in
+    let value = slot_at (seen old.world) c.args.context c.args.from in
+    let put = c.dup_slot.ensures.put ∙ ap (λ (p : PlacedWorld). put_slot (seen p) c.args.context c.args.to (slot_at (seen p) c.args.context c.args.from)) c.add_cached_root.ensures.world in
     record {
       reached = λ known.
           subst (AreReached (seen c.dup_slot.new.self)) (sym (c.add_cached_root.ensures.cached_roots known))
           (subst (λ (w : World). AreReached w (with_cached_root old.cached_roots.items c.linked-lost.result)) (sym put)
           (reached-put (seen old.world) old.cached_roots.items (old.reached (c.add_cached_root.ensures.kept known))
-          c.args.c c.args.to value c.linked-lost.result
-          (c.linked-lost.ensures ∙ ap context_of (slot-found (parts old.world) c.args.c c.place-i.result c.args.to c.place-i.ensures.found))));
+          c.args.context c.args.to value c.linked-lost.result
+          (c.linked-lost.ensures ∙ ap context_of (slot-found (parts old.world) c.args.context c.place-i.result c.args.to c.place-i.ensures.found))));
     }

@@ -11,5 +11,5 @@ invariant_of-self c =
     record {
       reached = λ known.
           subst (λ (w : World). AreReached w old.cached_roots.items) (sym c.map.ensures.mapped)
-          (reached-map (seen old.world) old.cached_roots.items (old.reached known) c.args.c c.args.range.from c.args.range.to);
+          (reached-map (seen old.world) old.cached_roots.items (old.reached known) c.args.context c.args.range.from c.args.range.to);
     }

@@ -11,5 +11,5 @@ invariant_of-self c =
     record {
       reached = λ known.
           subst (λ (w : World). AreReached w old.cached_roots.items) (sym c.save.ensures.saved)
-          (reached-save (seen old.world) old.cached_roots.items (old.reached known) c.args.c c.args.t c.args.regs.now);
+          (reached-save (seen old.world) old.cached_roots.items (old.reached known) c.args.context c.args.thread c.args.regs.now);
     }

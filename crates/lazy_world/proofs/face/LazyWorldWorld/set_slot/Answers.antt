@@ -14,12 +14,12 @@ pub invariant_of-self : goal.invariant_of-self
 unfolding seen parts
 invariant_of-self c =
     let old = c.args.self.now in
-    let put = c.set_slot.ensures.put ∙ ap (λ (p : PlacedWorld). put_slot (seen p) c.args.c c.args.n (descriptor_of c.args.value)) c.add_cached_root.ensures.world in
+    let put = c.set_slot.ensures.put ∙ ap (λ (p : PlacedWorld). put_slot (seen p) c.args.context c.args.slot (descriptor_of c.args.value)) c.add_cached_root.ensures.world in
     record {
       reached = λ known.
           subst (AreReached (seen c.set_slot.new.self)) (sym (c.add_cached_root.ensures.cached_roots known))
           (subst (λ (w : World). AreReached w (with_cached_root old.cached_roots.items c.linked-cut.result)) (sym put)
           (reached-put (seen old.world) old.cached_roots.items (old.reached (c.add_cached_root.ensures.kept known))
-          c.args.c c.args.n (descriptor_of c.args.value) c.linked-cut.result
-          (c.linked-cut.ensures ∙ ap context_of (slot-found (parts old.world) c.args.c c.place-i.result c.args.n c.place-i.ensures.found))));
+          c.args.context c.args.slot (descriptor_of c.args.value) c.linked-cut.result
+          (c.linked-cut.ensures ∙ ap context_of (slot-found (parts old.world) c.args.context c.place-i.result c.args.slot c.place-i.ensures.found))));
     }

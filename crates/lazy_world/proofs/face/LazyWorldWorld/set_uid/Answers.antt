@@ -11,5 +11,5 @@ invariant_of-self c =
     record {
       reached = λ known.
           subst (λ (w : World). AreReached w old.cached_roots.items) (sym c.set_uid.ensures)
-          (reached-uid (seen old.world) old.cached_roots.items (old.reached known) c.args.c c.args.uid);
+          (reached-uid (seen old.world) old.cached_roots.items (old.reached known) c.args.context c.args.uid);
     }

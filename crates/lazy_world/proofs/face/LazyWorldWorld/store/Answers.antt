@@ -12,7 +12,7 @@ invariant_of-self c =
     let old = c.args.self.now in
     record {
       reached = λ known.
-          reached-store (seen old.world) old.cached_roots.items (old.reached known) (seen c.store_in_place.new.self) c.args.c c.args.job
+          reached-store (seen old.world) old.cached_roots.items (old.reached known) (seen c.store_in_place.new.self) c.args.context c.args.job
           (record { at = c.args.at; bytes = c.args.piece.now }) (c.store_in_place.ensures.done c.if-store_in_place.true c.args.job);
     }
 
@@ -20,7 +20,7 @@ pub store-requires : goal.store-requires
 store-requires c =
     let same = sym (c.store_in_place.ensures.same c.if-store_in_place.false) in
     record {
-      live = subst (λ (w : World). IsLive w c.args.c) same c.requires.live;
+      live = subst (λ (w : World). IsLive w c.args.context) same c.requires.live;
       within = subst (λ (w : World). c.args.at + length c.args.piece.now ≤ w.size.pages * PAGE_BYTES) same c.requires.within;
       short = c.requires.short;
       may = subst (λ (w : World). MayName w c.args.job) same c.requires.may;
@@ -32,6 +32,6 @@ invariant_of-self-2 c =
     let same = sym (c.store_in_place.ensures.same c.if-store_in_place.false) in
     record {
       reached = λ known.
-          reached-stored (seen c.store_in_place.new.self) old.cached_roots.items (subst (λ (w : World). AreReached w old.cached_roots.items) same (old.reached known)) (seen c.store.new.self) c.args.c c.args.job
+          reached-stored (seen c.store_in_place.new.self) old.cached_roots.items (subst (λ (w : World). AreReached w old.cached_roots.items) same (old.reached known)) (seen c.store.new.self) c.args.context c.args.job
           (record { at = c.args.at; bytes = c.args.piece.now }) c.store.result c.store.ensures.done c.store.ensures.err;
     }

@@ -10,5 +10,5 @@ invariant_of-self c =
     record {
       reached = λ known.
           subst (AreReached (seen old.world)) (sym c.push.ensures.items)
-          (reached-more (seen old.world) old.cached_roots.items (Some c.in-Some.c) (old.reached known));
+          (reached-more (seen old.world) old.cached_roots.items (Some c.in-Some.context) (old.reached known));
     }

@@ -13,11 +13,11 @@ invariant_of-self c =
     let old = c.args.self.now in
     let w = seen old.world in
     let names = old.cached_roots.items in
-    let made = c.clone_counted.ensures.cloned ∙ (λ e. clone_context (seen (c.add_cached_root.ensures.world e)) c.args.c c.args.job c.args.spec.now c.args.entry.now) in
+    let made = c.clone_counted.ensures.cloned ∙ (λ e. clone_context (seen (c.add_cached_root.ensures.world e)) c.args.context c.args.job c.args.spec.now c.args.entry.now) in
     record {
       reached = λ known.
           subst (AreReached (seen c.clone_counted.new.self))
           (sym (c.add_cached_root.ensures.cached_roots known ∙ ap (λ (n : Name). with_cached_root names (Some n)) c.next_name-next.ensures))
           (subst (λ (v : World). AreReached v (with_cached_root names (Some (next_context w c.args.job)))) (sym made)
-          (reached-clone w names (old.reached (c.add_cached_root.ensures.kept known)) old.world.sound.fresh c.args.c c.args.job c.args.spec.now c.args.entry.now));
+          (reached-clone w names (old.reached (c.add_cached_root.ensures.kept known)) old.world.sound.fresh c.args.context c.args.job c.args.spec.now c.args.entry.now));
     }

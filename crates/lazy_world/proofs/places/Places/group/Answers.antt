@@ -21,16 +21,16 @@ no-group (Common g) common is off = absurd cc
 
 pub returns-then-not-is_common : goal.returns-then-not-is_common
 returns-then-not-is_common c =
-    at_key (rows c.args.self.now c.args.i) None _ _ c.in-Slot.is (no-group (rows c.args.self.now c.args.i (Slot c.in-Slot.n)) c.is_common.result c.is_common.ensures c.if-not-is_common.true)
+    at_key (rows c.args.self.now c.args.place) None _ _ c.in-Slot.is (no-group (rows c.args.self.now c.args.place (Slot c.in-Slot.n)) c.is_common.result c.is_common.ensures c.if-not-is_common.true)
 
 pub returns-in-Own : goal.returns-in-Own
-returns-in-Own c = at_key (rows c.args.self.now c.args.i) None _ _ c.in-Slot.is (ap group_in (ap cell_of (sym c.in-Own.is) ∙ c.slot.ensures))
+returns-in-Own c = at_key (rows c.args.self.now c.args.place) None _ _ c.in-Slot.is (ap group_in (ap cell_of (sym c.in-Own.is) ∙ c.slot.ensures))
 
 pub returns-in-Common : goal.returns-in-Common
-returns-in-Common c = at_key (rows c.args.self.now c.args.i) (Some c.in-Common.g) _ _ c.in-Slot.is (ap group_in (ap cell_of (sym c.in-Common.is) ∙ c.slot.ensures))
+returns-in-Common c = at_key (rows c.args.self.now c.args.place) (Some c.in-Common.g) _ _ c.in-Slot.is (ap group_in (ap cell_of (sym c.in-Common.is) ∙ c.slot.ensures))
 
 pub returns-in-Own-uid : goal.returns-in-Own-uid
-returns-in-Own-uid c = at_key (rows c.args.self.now c.args.i) None _ _ c.in-Cred.is (ap group_in (sym c.in-Own-uid.is ∙ c.uid.ensures))
+returns-in-Own-uid c = at_key (rows c.args.self.now c.args.place) None _ _ c.in-Cred.is (ap group_in (sym c.in-Own-uid.is ∙ c.uid.ensures))
 
 pub returns-in-Common-uid : goal.returns-in-Common-uid
-returns-in-Common-uid c = at_key (rows c.args.self.now c.args.i) (Some c.in-Common-uid.g) _ _ c.in-Cred.is (ap group_in (sym c.in-Common-uid.is ∙ c.uid.ensures))
+returns-in-Common-uid c = at_key (rows c.args.self.now c.args.place) (Some c.in-Common-uid.g) _ _ c.in-Cred.is (ap group_in (sym c.in-Common-uid.is ∙ c.uid.ensures))

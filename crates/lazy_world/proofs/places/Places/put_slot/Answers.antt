@@ -13,14 +13,14 @@ put-requires-clause-place c = omega (arith, c.args.self.now.kept.slot_count, c.r
 
 pub invariant_of-self : goal.invariant_of-self
 invariant_of-self c =
-    let inside : c.args.i < length (slots_seen.slots c.args.self.now.slots) = omega (arith, c.args.self.now.kept.slot_count, c.requires.place) in
+    let inside : c.args.place < length (slots_seen.slots c.args.self.now.slots) = omega (arith, c.args.self.now.kept.slot_count, c.requires.place) in
     record {
       kept = record {
-        slot_count = ap length c.put.ensures ∙ length-set (slots_seen.slots c.args.self.now.slots) c.args.i _ ∙ c.args.self.now.kept.slot_count;
+        slot_count = ap length c.put.ensures ∙ length-set (slots_seen.slots c.args.self.now.slots) c.args.place _ ∙ c.args.self.now.kept.slot_count;
         uid_count = c.args.self.now.kept.uid_count;
         targets = subst (λ (table : List (ℕ → Slot)). (i n : ℕ) → IsNumbered (row_of table i n)) (sym c.put.ensures)
-            (numbered-set (slots_seen.slots c.args.self.now.slots) c.args.i _ inside
-            (numbered-put (row_of (slots_seen.slots c.args.self.now.slots) c.args.i) c.args.n _ c.target_of-target.ensures.target (c.args.self.now.kept.targets c.args.i)) c.args.self.now.kept.targets);
+            (numbered-set (slots_seen.slots c.args.self.now.slots) c.args.place _ inside
+            (numbered-put (row_of (slots_seen.slots c.args.self.now.slots) c.args.place) c.args.slot _ c.target_of-target.ensures.target (c.args.self.now.kept.targets c.args.place)) c.args.self.now.kept.targets);
       };
     }
 
@@ -28,7 +28,7 @@ pub returns-clause-rows : goal.returns-clause-rows
 unfolding rows
 returns-clause-rows c =
     ap (λ table. rows_of (pages_seen.cells c.args.self.now.pages) table c.args.self.now.uids.items) c.put.ensures
-    ∙ slot-put _ _ _ c.args.i c.args.n (record { cell = cell_of c.args.cell; target = c.target_of-target.result }) (omega (arith, c.args.self.now.kept.slot_count, c.requires.place))
+    ∙ slot-put _ _ _ c.args.place c.args.slot (record { cell = cell_of c.args.cell; target = c.target_of-target.result }) (omega (arith, c.args.self.now.kept.slot_count, c.requires.place))
 
 pub put-requires-clause-named : goal.put-requires-clause-named
 put-requires-clause-named c empty = c.target_of-target.ensures.target ∙ ap target_of empty

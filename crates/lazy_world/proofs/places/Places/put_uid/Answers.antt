@@ -10,14 +10,14 @@ pub invariant_of-self : goal.invariant_of-self
 invariant_of-self c = record {
   kept = record {
     slot_count = c.args.self.now.kept.slot_count;
-    uid_count = length-set c.args.self.now.uids.items c.args.i c.args.cell ∙ c.args.self.now.kept.uid_count;
+    uid_count = length-set c.args.self.now.uids.items c.args.place c.args.cell ∙ c.args.self.now.kept.uid_count;
     targets = c.args.self.now.kept.targets;
   };
 }
 
 pub returns-clause-rows : goal.returns-clause-rows
 unfolding rows
-returns-clause-rows c = uid-put _ _ _ c.args.i c.args.cell (omega (arith, c.args.self.now.kept.uid_count, c.requires))
+returns-clause-rows c = uid-put _ _ _ c.args.place c.args.cell (omega (arith, c.args.self.now.kept.uid_count, c.requires))
 
 pub returns-clause-store : goal.returns-clause-store
 unfolding rights free_nodes free_frames pool

@@ -11,4 +11,4 @@ index-requires c = omega (arith, c.args.self.now.kept.uid_count, c.requires, c.a
 
 pub returns : goal.returns
 unfolding rows rows_of
-returns c = get_or_read c.args.self.now.uids.items c.args.i _ (omega (arith, c.args.self.now.kept.uid_count, c.requires)) c.index.ensures (Own NOBODY)
+returns c = get_or_read c.args.self.now.uids.items c.args.place _ (omega (arith, c.args.self.now.kept.uid_count, c.requires)) c.index.ensures (Own NOBODY)

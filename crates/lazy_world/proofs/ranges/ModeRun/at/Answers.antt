@@ -70,5 +70,5 @@ returns-then-p-range-2-clause-run c =
     let valid = subst (IsSpec MOST_PAGES) (sym same) c.items-item-items.ensures.valid in
     let i = c.loop-item.item-index in
     let pages = c.in-Some.ensures.pages in
-    subst (λ xs. IsModeRun xs c.args.p (record { mode = Some (get_or items i no_item).mode; to = c.in-Some.range.to; near = c.args.near })) same
-    (item_run items valid i c.loop-item-test.true c.args.p c.in-Some.range.to c.args.near pages.0 (omega (arith, pages.1, c.if-p-range.false)) pages.2)
+    subst (λ xs. IsModeRun xs c.args.page (record { mode = Some (get_or items i no_item).mode; to = c.in-Some.range.to; near = c.args.near })) same
+    (item_run items valid i c.loop-item-test.true c.args.page c.in-Some.range.to c.args.near pages.0 (omega (arith, pages.1, c.if-p-range.false)) pages.2)

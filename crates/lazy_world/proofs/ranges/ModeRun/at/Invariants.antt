@@ -8,8 +8,8 @@ use Rattle.lazy_world.proofs.ranges.ModeRun.at.Given as goal
 
 abbrev pub invariant-loop-item : goal.invariant-loop-item
 invariant-loop-item l = record {
-  past : l.p < l.to;
+  past : l.page < l.to;
   within : l.to ≤ MOST_PAGES;
-  none : (q : ℕ) → l.p ≤ q → q < l.to → mode (take l.item-index l.item-items) (Page q) ≡ None;
+  none : (q : ℕ) → l.page ≤ q → q < l.to → mode (take l.item-index l.item-items) (Page q) ≡ None;
   edge : l.to < MOST_PAGES → list_any (λ item. (item.from == l.to) || (item.to == l.to)) (take l.item-index l.item-items) ≡ true;
 }

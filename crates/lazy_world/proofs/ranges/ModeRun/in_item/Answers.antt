@@ -16,6 +16,6 @@ returns-clause-run c =
     let pages = c.in_ok-range.ensures.pages in
     let end = c.in_ok-range.range.to in
     let from_is = ap (λ (x : Item). x.from) is in
-    subst (λ (x : Item). IsModeRun c.args.items.now c.args.p (record { mode = Some x.mode; to = end; near = c.args.near + 1 })) (sym is)
-    (subst (λ xs. IsModeRun xs c.args.p (record { mode = Some (get_or items c.args.near no_item).mode; to = end; near = c.args.near + 1 })) same
-    (item_run items valid c.args.near at.0 c.args.p end (c.args.near + 1) (ap (λ (x : Item). x.kind) (sym is) ∙ pages.0) (omega (arith, pages.1, from_is, c.if-p-range.false)) (pages.2 ∙ ap (λ (x : Item). x.to) is)))
+    subst (λ (x : Item). IsModeRun c.args.items.now c.args.page (record { mode = Some x.mode; to = end; near = c.args.near + 1 })) (sym is)
+    (subst (λ xs. IsModeRun xs c.args.page (record { mode = Some (get_or items c.args.near no_item).mode; to = end; near = c.args.near + 1 })) same
+    (item_run items valid c.args.near at.0 c.args.page end (c.args.near + 1) (ap (λ (x : Item). x.kind) (sym is) ∙ pages.0) (omega (arith, pages.1, from_is, c.if-p-range.false)) (pages.2 ∙ ap (λ (x : Item). x.to) is)))

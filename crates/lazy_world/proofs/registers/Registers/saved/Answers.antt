@@ -8,14 +8,14 @@ use Rattle.lazy_world.proofs.registers.Registers.saved.Goals as goal
 pub returns-then-self-t : goal.returns-then-self-t
 returns-then-self-t c =
     let r = c.self.inside in
-    ap Some (get_or_default r.saved c.args.t _ (fresh_registers 0) (omega (arith, c.requires, c.self.invariant.saved)))
-    ∙ ap (λ b. cond b (Some (get_or r.saved c.args.t (fresh_registers 0))) None) (sym c.if-self-t.true)
-    ∙ sym (read-there r.kept r.saved c.args.t c.requires)
-    ∙ ap (λ (k : KeptRegisters). get_or k.saved c.args.t None) c.self.view_is
+    ap Some (get_or_default r.saved c.args.thread _ (fresh_registers 0) (omega (arith, c.requires, c.self.invariant.saved)))
+    ∙ ap (λ b. cond b (Some (get_or r.saved c.args.thread (fresh_registers 0))) None) (sym c.if-self-t.true)
+    ∙ sym (read-there r.kept r.saved c.args.thread c.requires)
+    ∙ ap (λ (k : KeptRegisters). get_or k.saved c.args.thread None) c.self.view_is
 
 pub returns-else-self-t : goal.returns-else-self-t
 returns-else-self-t c =
     let r = c.self.inside in
-    ap (λ b. cond b (Some (get_or r.saved c.args.t (fresh_registers 0))) None) (sym c.if-self-t.false)
-    ∙ sym (read-there r.kept r.saved c.args.t c.requires)
-    ∙ ap (λ (k : KeptRegisters). get_or k.saved c.args.t None) c.self.view_is
+    ap (λ b. cond b (Some (get_or r.saved c.args.thread (fresh_registers 0))) None) (sym c.if-self-t.false)
+    ∙ sym (read-there r.kept r.saved c.args.thread c.requires)
+    ∙ ap (λ (k : KeptRegisters). get_or k.saved c.args.thread None) c.self.view_is

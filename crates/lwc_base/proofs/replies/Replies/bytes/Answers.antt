@@ -3,18 +3,18 @@ use Rattle.lwc_base.proofs.RepliesKept.{in-short, in-long, seen-at-short, seen-a
 use Rattle.lwc_base.proofs.replies.Replies.bytes.Goals as goal
 
 pub index-requires : goal.index-requires
-index-requires c = in-long _ _ _ c.self.view_is c.self.invariant c.args.r c.requires
+index-requires c = in-long _ _ _ c.self.view_is c.self.invariant c.args.request c.requires
 
 pub index-requires-then-is_empty : goal.index-requires-then-is_empty
-index-requires-then-is_empty c = in-short _ _ _ c.self.view_is c.self.invariant c.args.r c.requires
+index-requires-then-is_empty c = in-short _ _ _ c.self.view_is c.self.invariant c.args.request c.requires
 
-is-short : (c : goal.After-as_slice) → get_or c.args.self.now c.args.r [] ≡ c.index-then-is_empty.result.now
+is-short : (c : goal.After-as_slice) → get_or c.args.self.now c.args.request [] ≡ c.index-then-is_empty.result.now
 is-short c =
-    seen-at-short _ _ _ c.self.view_is c.self.invariant c.args.r c.requires _ _ c.index-then-is_empty.ensures c.index.ensures
+    seen-at-short _ _ _ c.self.view_is c.self.invariant c.args.request c.requires _ _ c.index-then-is_empty.ensures c.index.ensures
     (grind arith)
 
-is-long : (c : goal.Else-is_empty) → get_or c.args.self.now c.args.r [] ≡ c.index.result.now
-is-long c = seen-at-long _ _ _ c.self.view_is c.self.invariant c.args.r c.requires _ c.index.ensures (grind arith)
+is-long : (c : goal.Else-is_empty) → get_or c.args.self.now c.args.request [] ≡ c.index.result.now
+is-long c = seen-at-long _ _ _ c.self.view_is c.self.invariant c.args.request c.requires _ c.index.ensures (grind arith)
 
 pub returns-then-is_empty-clause-bytes : goal.returns-then-is_empty-clause-bytes
 returns-then-is_empty-clause-bytes c = c.as_slice.ensures.bytes ∙ sym (is-short c)

@@ -7,9 +7,9 @@ use Rattle.lwc_monitor.proofs.traps.Traps.monitor_of.Goals as goal
 pub returns-in-Some : goal.returns-in-Some
 returns-in-Some c =
     let found = rw (c.in-Some.is, c.as_slice.ensures.value) at c.pair_of.ensures in
-    rw (← c.self.view_is) (ap (λ (o : Option (Name × Name)). option_map (λ p. p.1) o) found ∙ get-is _ c.self.invariant.0 c.args.c)
+    rw (← c.self.view_is) (ap (λ (o : Option (Name × Name)). option_map (λ p. p.1) o) found ∙ get-is _ c.self.invariant.0 c.args.context)
 
 pub returns-in-None : goal.returns-in-None
 returns-in-None c =
     let found = rw (c.in-None.is, c.as_slice.ensures.value) at c.pair_of.ensures in
-    rw (← c.self.view_is) (ap (λ (o : Option (Name × Name)). option_map (λ p. p.1) o) found ∙ get-is _ c.self.invariant.0 c.args.c)
+    rw (← c.self.view_is) (ap (λ (o : Option (Name × Name)). option_map (λ p. p.1) o) found ∙ get-is _ c.self.invariant.0 c.args.context)

@@ -8,7 +8,7 @@ use Rattle.lwc_monitor.proofs.traps.Traps.trap.Goals as goal
 pub insert-requires : goal.insert-requires
 insert-requires c =
     let at = rw c.as_slice.ensures.value at c.place_for-place.ensures in
-    omega (arith, at, place-within c.args.c c.self.inside.pairs.items)
+    omega (arith, at, place-within c.args.context c.self.inside.pairs.items)
 
 pub unwrap-requires : goal.unwrap-requires
 unwrap-requires c =
@@ -19,11 +19,11 @@ unwrap-requires c =
 pub invariant_of-self : goal.invariant_of-self
 invariant_of-self c =
     let at = rw c.as_slice.ensures.value at c.place_for-place.ensures in (
-      rw (c.insert.ensures.items, c.unwrap.ensures, at) (inserted-sorted _ c.self.invariant.0 c.args.c c.args.monitor (rw (← c.self.view_is) at c.requires.free)),
+      rw (c.insert.ensures.items, c.unwrap.ensures, at) (inserted-sorted _ c.self.invariant.0 c.args.context c.args.monitor (rw (← c.self.view_is) at c.requires.free)),
       omega (arith, c.insert.ensures.capacity, c.self.invariant.1),
     )
 
 pub returns : goal.returns
 returns c =
     let at = rw c.as_slice.ensures.value at c.place_for-place.ensures in
-    rw (← c.self.view_is, c.insert.ensures.items, c.unwrap.ensures, at) (inserted _ c.self.invariant.0 c.args.c c.args.monitor (rw (← c.self.view_is) at c.requires.free))
+    rw (← c.self.view_is, c.insert.ensures.items, c.unwrap.ensures, at) (inserted _ c.self.invariant.0 c.args.context c.args.monitor (rw (← c.self.view_is) at c.requires.free))

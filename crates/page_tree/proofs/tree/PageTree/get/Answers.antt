@@ -8,4 +8,4 @@ look_at-requires-clause-held c = λ n is.
     (loose.0, omega (arith, loose.1))
 
 pub returns : goal.returns
-returns c = rw (← c.self.view_is) (c.cell_from.ensures.cell ∙ page-entry _ _ c.args.p c.look_at.ensures.entry)
+returns c = rw (← c.self.view_is) (c.cell_from.ensures.cell ∙ page-entry _ _ c.args.page_number c.look_at.ensures.entry)

@@ -7,7 +7,7 @@ pub set_at-root-requires-clause-loose : goal.set_at-root-requires-clause-loose
 set_at-root-requires-clause-loose c = rw c.self.view_is (tree-loose _ _ _ c.requires.sound c.requires.tree)
 
 pub returns-clause-page : goal.returns-clause-page
-returns-clause-page c = page-is _ _ c.args.p c.args.cell c.set_at-root.ensures.page
+returns-clause-page c = page-is _ _ c.args.page_number c.args.cell c.set_at-root.ensures.page
 
 pub returns-clause-pages : goal.returns-clause-pages
 returns-clause-pages c = λ q off lt. rw (← c.self.view_is) (page-same _ _ _ _ q (c.set_at-root.ensures.pages q (omega (arith, lt)) off))
@@ -25,4 +25,4 @@ pub returns-clause-frames : goal.returns-clause-frames
 returns-clause-frames c = c.set_at-root.ensures.moves.framed
 
 pub returns-clause-grows : goal.returns-clause-grows
-returns-clause-grows c = λ is. c.set_at-root.ensures.grows (page-named _ _ c.args.p c.args.cell is ∙ ap (λ tree. entry_below c.args.store.now.nodes.all 3 tree c.args.p) (sym c.self.view_is))
+returns-clause-grows c = λ is. c.set_at-root.ensures.grows (page-named _ _ c.args.page_number c.args.cell is ∙ ap (λ tree. entry_below c.args.store.now.nodes.all 3 tree c.args.page_number) (sym c.self.view_is))

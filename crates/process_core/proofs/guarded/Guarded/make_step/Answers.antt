@@ -7,12 +7,12 @@ use Rattle.process_core.proofs.guarded.Guarded.make_step.Goals as goal
 pub returns-clause-inputs : goal.returns-clause-inputs
 returns-clause-inputs g c =
     let next = c.step_kernel.new.kernel in
-    stepped_inputs _ _ _ c.requires.going (subst (λ (h : History). next ≡ stepped h c.args.t) c.deref_mut.ensures.value c.step_kernel.ensures.step)
+    stepped_inputs _ _ _ c.requires.going (subst (λ (h : History). next ≡ stepped h c.args.thread) c.deref_mut.ensures.value c.step_kernel.ensures.step)
 
 pub returns-clause-steps : goal.returns-clause-steps
 returns-clause-steps g c =
     let next = c.step_kernel.new.kernel in
-    stepped_steps _ _ _ c.requires.going (subst (λ (h : History). next ≡ stepped h c.args.t) c.deref_mut.ensures.value c.step_kernel.ensures.step)
+    stepped_steps _ _ _ c.requires.going (subst (λ (h : History). next ≡ stepped h c.args.thread) c.deref_mut.ensures.value c.step_kernel.ensures.step)
 
 pub invariant_of-self : goal.invariant_of-self
 invariant_of-self g c =
@@ -22,7 +22,7 @@ invariant_of-self g c =
     let room_same = ap (λ (k : History). k.room) same in
     let going = c.requires.going in
     let done = c.step_kernel.ensures in
-    let step = subst (λ (k : History). next ≡ stepped k c.args.t) same done.step in
+    let step = subst (λ (k : History). next ≡ stepped k c.args.thread) same done.step in
     let less = subst (λ (k : History). work (machine_of next) < work (machine_of k)) same done.work in
     record {
       legal = stays_legal h _ _ going step c.args.self.now.legal;

@@ -6,4 +6,4 @@ use Rattle.whole_world.proofs.world.WholeWorldWorld.nth_context.Goals as goal
 
 pub returns : goal.returns
 unfolding seen
-returns c = c.name_at.ensures ∙ ap (λ names. slice_get names c.args.i) (sym (names-contexts _ _ _ _ c.args.self.now.sound))
+returns c = c.name_at.ensures ∙ ap (λ names. slice_get names c.args.index) (sym (names-contexts _ _ _ _ c.args.self.now.sound))
