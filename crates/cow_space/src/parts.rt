@@ -30,7 +30,7 @@ pub(crate) fn begun(before: Option<PageState>, state: Option<PageState>) -> u32
     }
 }
 
-/// The state of the page before `start`, where that of the page before `p` is known and the pages from `p` up
+/// The state of the page before `start`, where that of the page before `page` is known and the pages from `page` up
 /// to `start` are absent.
 fn last_before(last: Option<PageState>, page: PageNumber, start: PageNumber) -> Option<PageState>
     ensures gap { page < start → result ≡ None }

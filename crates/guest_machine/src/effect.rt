@@ -21,13 +21,13 @@ pub enum Effect {
 }
 
 /// The registers after a private instruction.
-pub fn private(instruction: &Instr, regs: &Regs) -> Regs
-    requires instruction { IsInstruction instruction.now }
-    requires private { IsTrue (is_private instruction.now.op) }
-    ensures { result ≡ effect instruction.now regs.now }
+pub fn private(i: &Instr, regs: &Regs) -> Regs
+    requires instruction { IsInstruction i.now }
+    requires private { IsTrue (is_private i.now.op) }
+    ensures { result ≡ effect i.now regs.now }
 {
     let mut r = regs.r;
-    match after_private(instruction, regs.pc, &mut r) {
+    match after_private(i, regs.pc, &mut r) {
         Some(pc) => Regs { r, pc },
         None => unreachable!(),
     }
@@ -37,111 +37,45 @@ pub fn private(instruction: &Instr, regs: &Regs) -> Regs
 /// is not done.
 #[inline(always)]
 #[tactic(auto, using(guest_isa::proofs::Fields::in_range), unfolding(crate::specs::Effects::effect))]
-pub(crate) fn after_private(instruction: &Instr, pc: u64, registers: &mut [u64; 16]) -> Option<u64>
-    requires { IsInstruction instruction.now }
+pub(crate) fn after_private(i: &Instr, pc: u64, r: &mut [u64; 16]) -> Option<u64>
+    requires { IsInstruction i.now }
     ensures done { IfSome result (λ next.
-        record { registers = registers.new; pc = next }
-        ≡ effect instruction.now (record { registers = registers.old; pc = pc })) }
-    ensures private { IfSome result (λ next. is_shared instruction.now.op ≡ false) }
-    ensures shared { IfNone result (is_shared instruction.now.op ≡ true) }
-    ensures kept { IfNone result (registers.new ≡ registers.old) }
+        record { r = r.new; pc = next } ≡ effect i.now (record { r = r.old; pc = pc })) }
+    ensures private { IfSome result (λ next. is_shared i.now.op ≡ false) }
+    ensures shared { IfNone result (is_shared i.now.op ≡ true) }
+    ensures kept { IfNone result (r.new ≡ r.old) }
 {
-    match instruction.op {
-        Op::Li => put(instruction.rd, u64::from(instruction.imm), pc, registers),
+    match i.op {
+        Op::Li => put(i.rd, u64::from(i.imm), pc, r),
         Op::Lih => put(
-            instruction.rd,
-            (u64::from(instruction.imm) << 32) | (of(instruction.rd, registers) & 0xffff_ffff),
+            i.rd,
+            (u64::from(i.imm) << 32) | (get(i.rd, r) & 0xffff_ffff),
             pc,
-            registers,
+            r,
         ),
-        Op::Mov => put(instruction.rd, of(instruction.ra, registers), pc, registers),
-        Op::Add => put(
-            instruction.rd,
-            of(instruction.ra, registers).wrapping_add(of(instruction.rb, registers)),
-            pc,
-            registers,
-        ),
-        Op::Sub => put(
-            instruction.rd,
-            of(instruction.ra, registers).wrapping_sub(of(instruction.rb, registers)),
-            pc,
-            registers,
-        ),
-        Op::Mul => put(
-            instruction.rd,
-            of(instruction.ra, registers).wrapping_mul(of(instruction.rb, registers)),
-            pc,
-            registers,
-        ),
-        Op::Divu => put(
-            instruction.rd,
-            quotient(of(instruction.ra, registers), of(instruction.rb, registers)),
-            pc,
-            registers,
-        ),
-        Op::Remu => put(
-            instruction.rd,
-            remainder(of(instruction.ra, registers), of(instruction.rb, registers)),
-            pc,
-            registers,
-        ),
-        Op::And => put(
-            instruction.rd,
-            of(instruction.ra, registers) & of(instruction.rb, registers),
-            pc,
-            registers,
-        ),
-        Op::Or => put(
-            instruction.rd,
-            of(instruction.ra, registers) | of(instruction.rb, registers),
-            pc,
-            registers,
-        ),
-        Op::Xor => put(
-            instruction.rd,
-            of(instruction.ra, registers) ^ of(instruction.rb, registers),
-            pc,
-            registers,
-        ),
-        Op::Shl => put(
-            instruction.rd,
-            of(instruction.ra, registers) << (of(instruction.rb, registers) % 64),
-            pc,
-            registers,
-        ),
-        Op::Shr => put(
-            instruction.rd,
-            of(instruction.ra, registers) >> (of(instruction.rb, registers) % 64),
-            pc,
-            registers,
-        ),
-        Op::Ltu => put(
-            instruction.rd,
-            u64::from(of(instruction.ra, registers) < of(instruction.rb, registers)),
-            pc,
-            registers,
-        ),
-        Op::Eq => put(
-            instruction.rd,
-            u64::from(of(instruction.ra, registers) == of(instruction.rb, registers)),
-            pc,
-            registers,
-        ),
-        Op::Addi => put(
-            instruction.rd,
-            of(instruction.ra, registers).wrapping_add(instruction.sx()),
-            pc,
-            registers,
-        ),
-        Op::Jmp => Some(u64::from(instruction.imm)),
-        Op::Jz if of(instruction.ra, registers) == 0 => Some(u64::from(instruction.imm)),
-        Op::Jnz if of(instruction.ra, registers) != 0 => Some(u64::from(instruction.imm)),
+        Op::Mov => put(i.rd, get(i.ra, r), pc, r),
+        Op::Add => put(i.rd, get(i.ra, r).wrapping_add(get(i.rb, r)), pc, r),
+        Op::Sub => put(i.rd, get(i.ra, r).wrapping_sub(get(i.rb, r)), pc, r),
+        Op::Mul => put(i.rd, get(i.ra, r).wrapping_mul(get(i.rb, r)), pc, r),
+        Op::Divu => put(i.rd, quotient(get(i.ra, r), get(i.rb, r)), pc, r),
+        Op::Remu => put(i.rd, remainder(get(i.ra, r), get(i.rb, r)), pc, r),
+        Op::And => put(i.rd, get(i.ra, r) & get(i.rb, r), pc, r),
+        Op::Or => put(i.rd, get(i.ra, r) | get(i.rb, r), pc, r),
+        Op::Xor => put(i.rd, get(i.ra, r) ^ get(i.rb, r), pc, r),
+        Op::Shl => put(i.rd, get(i.ra, r) << (get(i.rb, r) % 64), pc, r),
+        Op::Shr => put(i.rd, get(i.ra, r) >> (get(i.rb, r) % 64), pc, r),
+        Op::Ltu => put(i.rd, u64::from(get(i.ra, r) < get(i.rb, r)), pc, r),
+        Op::Eq => put(i.rd, u64::from(get(i.ra, r) == get(i.rb, r)), pc, r),
+        Op::Addi => put(i.rd, get(i.ra, r).wrapping_add(i.sx()), pc, r),
+        Op::Jmp => Some(u64::from(i.imm)),
+        Op::Jz if get(i.ra, r) == 0 => Some(u64::from(i.imm)),
+        Op::Jnz if get(i.ra, r) != 0 => Some(u64::from(i.imm)),
         Op::Jz | Op::Jnz => Some(pc.wrapping_add(1)),
         Op::Jal => {
-            let _next = put(instruction.rd, pc.wrapping_add(1), pc, registers);
-            Some(u64::from(instruction.imm))
+            let _next = put(i.rd, pc.wrapping_add(1), pc, r);
+            Some(u64::from(i.imm))
         }
-        Op::Jr => Some(of(instruction.ra, registers)),
+        Op::Jr => Some(get(i.ra, r)),
         // Shared operations are done elsewhere.
         Op::Ldb | Op::Ldw | Op::Stb | Op::Stw | Op::Sys | Op::Halt => None,
     }
@@ -149,34 +83,42 @@ pub(crate) fn after_private(instruction: &Instr, pc: u64, registers: &mut [u64; 
 
 /// The number in a register.
 #[inline(always)]
-fn of(register: u8, registers: &[u64; 16]) -> u64
+fn get(register: u8, r: &[u64; 16]) -> u64
     requires { register < 16 }
-    ensures { result ≡ slice_index registers.now register }
+    ensures { result ≡ slice_index r.now register }
 {
-    registers[register as usize]
+    r[register as usize]
 }
 
 /// Puts a number into a register, and answers the pc after this one.
 #[inline(always)]
-fn put(rd: u8, number: u64, pc: u64, registers: &mut [u64; 16]) -> Option<u64>
+fn put(rd: u8, number: u64, pc: u64, r: &mut [u64; 16]) -> Option<u64>
     requires { rd < 16 }
     ensures next { result ≡ Some ((pc + 1) % 2 ^ 64) }
-    ensures registers { registers.new ≡ slice_set registers.old rd number }
+    ensures registers { r.new ≡ slice_set r.old rd number }
 {
-    registers[rd as usize] = number;
+    r[rd as usize] = number;
     Some(pc.wrapping_add(1))
 }
 
-/// a divided by b, rounded down; the greatest number if b is 0.
-fn quotient(a: u64, b: u64) -> u64
-    ensures { result ≡ quotient a b }
+/// The quotient, rounded down; the greatest number if the divisor is 0.
+fn quotient(dividend: u64, divisor: u64) -> u64
+    ensures { result ≡ quotient dividend divisor }
 {
-    if b == 0 { u64::MAX } else { a / b }
+    if divisor == 0 {
+        u64::MAX
+    } else {
+        dividend / divisor
+    }
 }
 
-/// The remainder of a divided by b; a if b is 0.
-fn remainder(a: u64, b: u64) -> u64
-    ensures { result ≡ remainder a b }
+/// The remainder; the dividend if the divisor is 0.
+fn remainder(dividend: u64, divisor: u64) -> u64
+    ensures { result ≡ remainder dividend divisor }
 {
-    if b == 0 { a } else { a % b }
+    if divisor == 0 {
+        dividend
+    } else {
+        dividend % divisor
+    }
 }

@@ -51,7 +51,7 @@ impl Effect {
     }
 }
 
-/// Makes a step of thread `t` in place. Answers what has changed; `None` if the thread had ended. The only
+/// Makes a step of a thread in place. Answers what has changed; `None` if the thread had ended. The only
 /// error is out of memory, and then nothing has changed.
 #[inline(always)]
 pub fn step_thread<W: World>(
@@ -95,7 +95,7 @@ pub fn step_thread<W: World>(
     }
 }
 
-/// Ends a step of running thread `t`: in a serve its request is finished once the thread has ended, and
+/// Ends a step of a running thread: in a serve its request is finished once the thread has ended, and
 /// the worker waits at home again.
 #[inline(always)]
 fn settle<W: World>(
@@ -134,7 +134,7 @@ fn settle<W: World>(
     }
 }
 
-/// Makes a step of idle thread `t`: it begins the next request in a copy of its home, or ends if none is
+/// Makes a step of an idle thread: it begins the next request in a copy of its home, or ends if none is
 /// left. The only error is out of memory, and then nothing has changed.
 #[inline(never)]
 fn wake<W: World>(
@@ -181,7 +181,7 @@ fn wake<W: World>(
     }
 }
 
-/// Makes a step of running thread `t`.
+/// Makes a step of a running thread.
 #[inline(always)]
 #[tactic(auto, unfolding(crate::specs::Step::advance_outcome))]
 fn run_thread<W: World>(
@@ -255,7 +255,7 @@ fn advance_regs(text: &Text, regs: &mut Regs, proposal: Option<&Advance>) -> Nex
     }
 }
 
-/// Does what comes after the private instructions of thread `t`.
+/// Does what comes after the private instructions of a thread.
 #[inline(always)]
 #[tactic(auto, unfolding(crate::specs::Step::next_outcome))]
 fn run_next<W: World>(
@@ -288,7 +288,7 @@ fn run_next<W: World>(
     }
 }
 
-/// Does a shared instruction of thread `t`.
+/// Does a shared instruction of a thread.
 #[inline(always)]
 #[tactic(auto, using(guest_isa::proofs::Fields::in_range), unfolding(crate::specs::Step::shared_outcome))]
 fn execute<W: World>(

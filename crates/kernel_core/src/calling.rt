@@ -30,7 +30,7 @@ pub const LW_OVERLAY: u32 = 19;
 /// The number of the call that makes a plain one over the contexts that a mask chooses.
 pub const LW_SYSCALL: u32 = 20;
 
-/// Makes the call of a number for thread `t`. The only error is out of memory, and then the world and the
+/// Makes the call of a number for a thread. The only error is out of memory, and then the world and the
 /// channels are as before.
 #[inline(never)]
 #[tactic(auto, unfolding(crate::specs::Step::guest_calls))]
@@ -79,7 +79,7 @@ fn call_create<W: World>(world: &mut W, thread: &mut Thread) -> Result<Change, O
     Ok(end_call(thread, answer, Change::World))
 }
 
-/// Makes the call that takes thread `t` to another context.
+/// Makes the call that takes a thread to another context.
 fn call_switch<W: World>(world: &mut W, thread_number: u32, thread: &mut Thread) -> Change
     requires number { thread_number < MOST_THREADS }
     requires ready { CanAct (W.seen world.old) thread.old }

@@ -241,7 +241,7 @@ impl<W: World> Kernel<W> {
         })
     }
 
-    /// One step of thread `t`, which is kept unless the thread had ended. A proposal is used if it begins
+    /// One step of a thread, which is kept unless the thread had ended. A proposal is used if it begins
     /// with the thread's registers. The only error is out of memory, which comes only over a world that is
     /// not roomy, and then nothing has changed.
     pub fn step(&mut self, thread: u32, proposal: Option<&Advance>) -> Result<Turn, OutOfMemory>
@@ -313,7 +313,7 @@ impl<W: World> Kernel<W> {
         Ok(effect.finished)
     }
 
-    /// Notes in `last` what the last step of thread `t` left, which finished the request of this number, or
+    /// Notes in `last` what the last step of a thread left, which finished the request of this number, or
     /// none. It takes no memory.
     pub fn note_turn(&self, thread: u32, finished: Option<u16>, last: &mut Turn)
         requires { thread < thread_count self.now.inputs }
@@ -322,7 +322,7 @@ impl<W: World> Kernel<W> {
         last.note(&self.threads[thread as usize], self.recorded(finished));
     }
 
-    /// What the last step of thread `t` left, which finished the request of this number, or none.
+    /// What the last step of a thread left, which finished the request of this number, or none.
     fn turn(&self, thread: u32, finished: Option<u16>) -> Turn
         requires { thread < thread_count self.now.inputs }
         ensures { spec.turn_at (machine_of self.now) thread finished ≡ Some result }
@@ -394,7 +394,7 @@ impl<W: World> Kernel<W> {
         &self.world
     }
 
-    /// The status, the context and the registers of thread `t`.
+    /// The status, the context and the registers of a thread.
     pub fn thread(&self, thread_number: u32) -> ThreadView
         requires { thread_number < thread_count self.now.inputs }
         ensures { spec.view_of (machine_of self.now) thread_number ≡ Some result }
@@ -412,7 +412,7 @@ impl<W: World> Kernel<W> {
         work_of(self.threads.as_slice(), &self.serve, requests)
     }
 
-    /// How thread `t` is at the start, before any step.
+    /// How a thread is at the start, before any step.
     pub fn first_turn(&self, thread: u32) -> Turn
         requires within { thread < thread_count self.now.inputs }
         requires fresh { self.now.steps ≡ [] }
@@ -430,7 +430,7 @@ impl<W: World> Kernel<W> {
         self.channels.requests().len() as u32
     }
 
-    /// What is recorded of request `r`; `None` if it is not finished, or if there is none of this number. The
+    /// What is recorded of a request; `None` if it is not finished, or if there is none of this number. The
     /// bytes are lent: they are the first ones of the reply in the channels.
     pub fn reply(&self, request: u16) -> Option<FinishedView<'_>>
         ensures { result ≡ reply_of (machine_of self.now) request }
@@ -438,7 +438,7 @@ impl<W: World> Kernel<W> {
         recorded(&self.serve, &self.channels, request)
     }
 
-    /// How request `r` ended; `None` if it is not finished, or if there is none of this number.
+    /// How a request ended; `None` if it is not finished, or if there is none of this number.
     pub fn reply_status(&self, request: u16) -> Option<ThreadStatus>
         ensures { result ≡ option_map (λ x. x.status) (reply_of (machine_of self.now) request) }
     {

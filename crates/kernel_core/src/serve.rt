@@ -69,7 +69,7 @@ impl Serve {
         })
     }
 
-    /// Records the reply of request `r`, whose thread has ended with a status. It takes no memory, and copies
+    /// Records the reply of a request, whose thread has ended with a status. It takes no memory, and copies
     /// no byte of the reply.
     pub(crate) fn record_reply(&mut self, io: &Channels, request_number: u16, status: ThreadStatus)
         requires request { request_number < length io.now.requests }

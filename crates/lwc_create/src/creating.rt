@@ -16,7 +16,7 @@ use world_face::World;
 /// In r1 and in the new context's r0: there is no caller.
 const NO_CALLER: u64 = u64::MAX;
 
-/// Makes a new context from context `c`, for a job. The registers are those at the call: r1 has the address
+/// Makes a new context from another, for a job. The registers are those at the call: r1 has the address
 /// of the items, and r2 how many there are (`create`). The only error is out of memory, and then nothing has
 /// changed.
 #[tactic(auto, using(crate::proofs::Table::call_is))]

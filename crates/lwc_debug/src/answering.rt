@@ -66,7 +66,11 @@ fn move_line(out: &mut Vec<u8>, place: Option<usize>) -> Result<(), OutOfMemory>
 
 /// Appends the lines of a thread, or that there is no such thread.
 #[tactic(auto, using(crate::proofs::Living::no_view))]
-fn thread_answer<W: World>(out: &mut Vec<u8>, kernel: &Kernel<W>, thread_number: u32) -> Result<(), OutOfMemory>
+fn thread_answer<W: World>(
+    out: &mut Vec<u8>,
+    kernel: &Kernel<W>,
+    thread_number: u32,
+) -> Result<(), OutOfMemory>
     ensures ok { OnOk result (out.new.items ≡ out.old.items
         ++ option_map_or (lines.thread_lines thread_number) (view_of (machine_of kernel.now) thread_number)
         (codes "no thread\n")) }
@@ -133,19 +137,19 @@ fn slot_answer<W: World>(
     ensures ok { OnOk result (out.new.items ≡ out.old.items
         ++ spec.of_live (W.seen world.now) name
         (if nat_lt slot_number SLOTS then spec.slot_line name slot_number (slot_at (W.seen world.now) name slot_number)
-        else codes "no slot\slot_number")) }
+        else codes "no slot\n")) }
     ensures err { OnErr result (out.new.items ≡ out.old.items) }
 {
     if !is_live(world, name) {
-        return append(out, "no context\slot_number");
+        return append(out, "no context\n");
     }
     if slot_number >= u32::from(SLOTS) {
-        return append(out, "no slot\slot_number");
+        return append(out, "no slot\n");
     }
     let alloc = *out.allocator();
     let text = slot_text(alloc, world.slot(name, slot_number as SlotNumber))?;
     let name = name_text(alloc, name)?;
-    let line = format!(in alloc; "slot {name} {slot_number} {text}\slot_number")?;
+    let line = format!(in alloc; "slot {name} {slot_number} {text}\n")?;
     append(out, line.as_str())
 }
 

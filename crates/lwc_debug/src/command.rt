@@ -72,7 +72,7 @@ impl Script {
         self.commands.is_empty()
     }
 
-    /// Command `i`, from 0 on.
+    /// The command of this number, from 0 on.
     pub fn get(&self, index: usize) -> Command
         requires { index < length self.now }
         ensures { slice_get self.now index ≡ Some result }

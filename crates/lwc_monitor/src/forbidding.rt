@@ -10,7 +10,7 @@ use lwc_base::{Item, Items, Kind, Mode, Name, Regs};
 use res_spec::SpecCall;
 use world_face::World;
 
-/// Whether the slot in r1 of context `c` names a context whose monitor is another one.
+/// Whether the slot in r1 of a context names a context whose monitor is another one.
 #[tactic(auto, unfolding(crate::specs::Traps::names_anothers))]
 pub fn names_anothers<W: World>(traps: &Traps, world: &W, context: Name, regs: &Regs) -> bool
     requires live { IsLive (W.seen world.now) context }
@@ -23,7 +23,7 @@ pub fn names_anothers<W: World>(traps: &Traps, world: &W, context: Name, regs: &
     }
 }
 
-/// Whether a trap forbids an overlay in context `c`: its items are in order, and the slot in r1 names a
+/// Whether a trap forbids an overlay in a context: its items are in order, and the slot in r1 names a
 /// context whose monitor is another one, or a trapped one of which an item shares slots.
 #[tactic(auto, unfolding(crate::specs::Traps::forbids_overlay, crate::specs::Traps::names_anothers))]
 pub fn forbids_overlay<W: World>(traps: &Traps, world: &W, context: Name, regs: &Regs) -> bool

@@ -116,7 +116,7 @@ impl<W: World> Monitored<W> {
         })
     }
 
-    /// One step of thread `t`, which is kept unless the thread had ended. It leaves the slots of each trapped context
+    /// One step of a thread, which is kept unless the thread had ended. It leaves the slots of each trapped context
     /// that lives on, unless the thread is in its monitor; and if the thread is trapped it makes no call but an exit.
     /// The only error is out of memory: then nothing has changed, and the world has not taken all its memory at
     /// opening.

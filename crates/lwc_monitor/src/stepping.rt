@@ -25,7 +25,7 @@ use lwc_base::{Channels, Name, OutOfMemory, Regs, SlotNumber, ThreadStatus};
 use lwc_switch::enter;
 use world_face::World;
 
-/// Makes a step of thread `t` under traps in place. Answers what has changed; `None` if the thread had ended.
+/// Makes a step of a thread under traps in place. Answers what has changed; `None` if the thread had ended.
 /// The only error is out of memory: then the world, the channels and the traps are as before, and the thread
 /// may have changed.
 pub fn step_under<W: World>(
@@ -44,7 +44,7 @@ pub fn step_under<W: World>(
     requires room { fm.len traps.old < MOST_CONTEXTS }
     ensures outcome { IfOk result (λ effect.
         steps.thread_outcome (calls_under traps.old) thread_number (steps.beside (W.seen world.old) io.old) None
-            text.now
+        text.now
         thread.old thread.old.status
         ≡ made effect (steps.beside (W.seen world.new) io.new) None thread.new) }
     ensures traps { OnOk result (traps.new ≡ traps_after_call traps.old (W.seen world.old)
@@ -63,7 +63,7 @@ pub fn step_under<W: World>(
     }
 }
 
-/// Makes a step of running thread `t` under traps in place.
+/// Makes a step of a running thread under traps in place.
 fn run_under<W: World>(
     traps: &mut Traps,
     world: &mut W,
@@ -81,7 +81,7 @@ fn run_under<W: World>(
     requires room { fm.len traps.old < MOST_CONTEXTS }
     ensures outcome { IfOk result (λ effect.
         steps.thread_outcome (calls_under traps.old) thread_number (steps.beside (W.seen world.old) io.old) None
-            text.now
+        text.now
         thread.old ThreadStatus.Running
         ≡ made effect (steps.beside (W.seen world.new) io.new) None thread.new) }
     ensures traps { OnOk result (traps.new ≡ traps_after_call traps.old (W.seen world.old)
@@ -119,7 +119,7 @@ fn run_under<W: World>(
     }
 }
 
-/// Carries out a ruling on the call of a number that thread `t` makes. It cuts no link, so nothing is searched for
+/// Carries out a ruling on the call of a number that a thread makes. It cuts no link, so nothing is searched for
 /// what may be dropped.
 fn carry_out<W: World>(
     traps: &mut Traps,
@@ -156,7 +156,7 @@ fn carry_out<W: World>(
     }
 }
 
-/// Takes thread `t` to the monitor of its context, with the number of its call and that call's arguments.
+/// Takes a thread to the monitor of its context, with the number of its call and that call's arguments.
 fn enter_monitor<W: World>(
     world: &mut W,
     thread_number: u32,

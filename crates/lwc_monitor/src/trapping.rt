@@ -28,7 +28,7 @@ pub enum TrapRefusal {
     NotFresh,
 }
 
-/// The context that a call in context `c` traps: the one that the slot in r1 has a descriptor of.
+/// The context that a call in a context traps: the one that the slot in r1 has a descriptor of.
 ///
 /// # Errors
 ///

@@ -14,7 +14,7 @@ use guest_call::{context_for, with_answer};
 use lwc_base::{Grant, Lent, Moved, Name, Refusal, Regs, SlotNumber};
 use world_face::World;
 
-/// Takes a thread from context `c` to the context that the slot in r1 has a descriptor of, with r2 as the
+/// Takes a thread from a context to the context that the slot in r1 has a descriptor of, with r2 as the
 /// argument. The registers are those at the call (`switch`). A refusal changes nothing.
 #[tactic(auto, unfolding(crate::specs::Switch::switch))]
 pub fn switch<W: World>(world: &mut W, of_context: Name, thread: u32, regs: &Regs) -> Moved
@@ -34,8 +34,8 @@ pub fn switch<W: World>(world: &mut W, of_context: Name, thread: u32, regs: &Reg
     }
 }
 
-/// Takes thread `t`, with these registers, from context `c` to the context `target`. The registers are kept
-/// in `c`, and the slot of the target gets a descriptor of `c` without a key. Answers the registers that the
+/// Takes a thread, with these registers, from a context to the context `target`. The registers are kept in the
+/// first one, and the slot of the target gets a descriptor of it without a key. Answers the registers that the
 /// thread goes on with: the slot's number is in r1, and the argument in r2.
 #[tactic(auto, using(crate::proofs::Saving::live_after_save))]
 pub fn enter<W: World>(

@@ -23,7 +23,7 @@ use world_face::{World, bytes_for, is_within};
 /// How many bytes a write has at most that reads them into a short buffer, since a buffer is cleared first.
 const SHORT_WRITE_BYTES: usize = 64;
 
-/// Reads through the descriptor in slot `n`: at most `count` bytes go to the address `at`, for a job. The
+/// Reads through the descriptor in a slot: at most `count` bytes go to the address `at`, for a job. The
 /// only error is out of memory, and then nothing has changed.
 #[tactic(auto, unfolding(crate::specs::Plain::reading))]
 pub fn read<W: World>(
@@ -147,7 +147,7 @@ fn store_at<W: World>(
     world.store(context, at as u32, bytes, job)
 }
 
-/// Writes `count` bytes from the address `at` through the descriptor in slot `n`.
+/// Writes `count` bytes from the address `at` through the descriptor in a slot.
 #[inline(never)]
 #[tactic(auto, unfolding(crate::specs::Plain::writing))]
 pub fn write<W: World>(

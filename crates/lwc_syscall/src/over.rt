@@ -13,8 +13,8 @@ use guest_call::context_for;
 use lwc_base::{Channels, Kind, Name, OutOfMemory, Refusal, Regs};
 use world_face::World;
 
-/// Makes a plain call for context `c` and a job, over the contexts that the mask in r2 chooses: what it
-/// chooses is taken from the context that the slot in r1 names, and the rest from `c` (`lw_syscall`). The
+/// Makes a plain call for a context and a job, over the contexts that the mask in r2 chooses: what it
+/// chooses is taken from the context that the slot in r1 names, and the rest from `context` (`lw_syscall`). The
 /// only error is out of memory, and then nothing has changed.
 #[tactic(auto, unfolding(crate::specs::Syscall::lw_syscall))]
 pub fn lw_syscall<W: World>(

@@ -61,7 +61,7 @@ impl Schedule {
         self.steps.is_empty()
     }
 
-    /// The thread that makes step `i`.
+    /// The thread that makes the step of this number, from 0 on.
     pub fn get(&self, index: usize) -> &u8
         requires { index < length self.now }
         ensures step { slice_get self.now index ≡ Some result.now }

@@ -9,7 +9,7 @@ ghost use Rattle.world_face.specs.Calls.{HasPlace, IsLive};
 use lwc_base::{Items, Lent, Name, OutOfMemory};
 use world_face::World;
 
-/// Makes the context that request `r` is served in: a whole copy of the home, but for slots 0 and 1, which
+/// Makes the context that a request is served in: a whole copy of the home, but for slots 0 and 1, which
 /// have the request and its reply (`begin`). Answers its name. The only error is out of memory, and then
 /// nothing has changed.
 #[tactic(auto, using(crate::proofs::Copies::begins, lwc_base::proofs::Facts::changes))]

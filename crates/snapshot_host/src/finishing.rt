@@ -137,7 +137,7 @@ impl<'a> FinishedView<'a> {
     }
 }
 
-/// What is recorded of request `r`, whose thread has ended with a status: the bytes are those written so far.
+/// What is recorded of a request, whose thread has ended with a status: the bytes are those written so far.
 /// It takes no memory.
 pub fn finish(io: &Channels, request_number: u16, status: ThreadStatus) -> Finished
     requires { request_number < length io.now.requests }
