@@ -11,12 +11,12 @@ ghost use Rattle.kernel_core.specs.Kernel as kernel;
 ghost use Rattle.kernel_core.specs.Kernel.{machine_of};
 ghost use Rattle.kernel_core.specs.Runs.{kept};
 ghost use Rattle.kernel_core.specs.Settings.{IsSettings};
-ghost use Rattle.kernel_core.specs.Start.{start, thread_count};
+ghost use Rattle.kernel_core.specs.Start.{inputs_of, start, thread_count};
 ghost use Rattle.kernel_core.specs.declared.settings.Job.TheVariants as jobs;
 ghost use Rattle.lwc_types.specs.declared.limits.TheConstants.{MOST_STEPS};
 ghost use Rattle.lwc_debug.specs.Telling as telling;
 ghost use Rattle.lwc_debug.specs.Telling.{told_by, told_here};
-ghost use Rattle.lwc_debug.specs.Transcript.{inputs_of, transcript, transcript_of_schedule};
+ghost use Rattle.lwc_debug.specs.Transcript.{transcript, transcript_of_schedule};
 
 use crate::answering::answer;
 use crate::command::{Command, Script};
@@ -60,7 +60,7 @@ pub fn debug<W: World>(
     requires run { settings.now.job ≡ jobs.Run }
     requires threads { All (λ t. t < length image.now.entries) schedule.now }
     ensures text { IfOk result (λ text. text.items
-        ≡ transcript_of_schedule (inputs_of image.now settings.now) schedule.now script.now) }
+        ≡ transcript_of_schedule (inputs_of image.now [] settings.now) schedule.now script.now) }
     ensures too_large { settings.now.frames < length image.now.pages →
         result ≡ Err (OpenFault.ImageTooLarge (length image.now.pages) settings.now.frames) }
     ensures fits { length image.now.pages ≤ settings.now.frames →
@@ -82,8 +82,8 @@ fn steps_of_run<W: World>(
     requires run { settings.now.job ≡ jobs.Run }
     requires threads { All (λ t. t < length image.now.entries) schedule.now }
     ensures kept { IfOk result (λ steps. steps.items
-        ≡ kept (start (inputs_of image.now settings.now)) schedule.now) }
-    ensures legal { IfOk result (λ steps. IsLegal (start (inputs_of image.now settings.now)) steps.items) }
+        ≡ kept (start (inputs_of image.now [] settings.now)) schedule.now) }
+    ensures legal { IfOk result (λ steps. IsLegal (start (inputs_of image.now [] settings.now)) steps.items) }
     ensures threads { IfOk result (λ steps. All (λ t. t < length image.now.entries) steps.items) }
     ensures few { IfOk result (λ steps. length steps.items ≤ MOST_STEPS) }
     ensures too_large { settings.now.frames < length image.now.pages →
@@ -114,9 +114,9 @@ fn answers_of_run<W: World>(
     requires run { settings.now.job ≡ jobs.Run }
     requires few { length steps.now ≤ MOST_STEPS }
     requires threads { All (λ t. t < length image.now.entries) steps.now }
-    requires legal { IsLegal (start (inputs_of image.now settings.now)) steps.now }
+    requires legal { IsLegal (start (inputs_of image.now [] settings.now)) steps.now }
     ensures text { IfOk result (λ text. text.items
-        ≡ transcript (start (inputs_of image.now settings.now)) steps.now 0 script.now) }
+        ≡ transcript (start (inputs_of image.now [] settings.now)) steps.now 0 script.now) }
     ensures too_large { settings.now.frames < length image.now.pages →
         result ≡ Err (OpenFault.ImageTooLarge (length image.now.pages) settings.now.frames) }
     ensures fits { length image.now.pages ≤ settings.now.frames →
@@ -144,7 +144,7 @@ fn opened<W: World>(
     requires settings { IsSettings settings.now }
     requires run { settings.now.job ≡ jobs.Run }
     requires few { steps ≤ MOST_STEPS }
-    ensures opened { IfOk result (λ k. k ≡ kernel.opened (inputs_of image.now settings.now) steps) }
+    ensures opened { IfOk result (λ k. k ≡ kernel.opened (inputs_of image.now [] settings.now) steps) }
     ensures threads { IfOk result (λ k. thread_count k.inputs ≡ length image.now.entries) }
     ensures too_large { settings.now.frames < length image.now.pages →
         result ≡ Err (OpenFault.ImageTooLarge (length image.now.pages) settings.now.frames) }

@@ -1,16 +1,16 @@
 ghost use Rattle.std.specs.Prelude.{◌≡◌, ◌≢◌, ◌<◌, ◌≤◌, ◌++◌, false, true, IfErr, IfOk, IsOk, None, OnErr, OnOk};
-ghost use Rattle.std.specs.Prelude.{Some, length};
+ghost use Rattle.std.specs.Prelude.{Some, [], length};
 ghost use Rattle.std.specs.FinMap as fm;
 ghost use Rattle.guest_image.specs.Limits.{IsImage};
 ghost use Rattle.kernel_core.specs.declared.acting.Change.TheVariants as changes;
 ghost use Rattle.kernel_core.specs.Kernel as kernels;
 ghost use Rattle.kernel_core.specs.Machine.{is_ended};
 ghost use Rattle.kernel_core.specs.Settings.{IsSettings};
-ghost use Rattle.kernel_core.specs.Start.{thread_count};
+ghost use Rattle.kernel_core.specs.Start.{inputs_of, thread_count};
 ghost use Rattle.lwc_base.specs.World as worlds;
 ghost use Rattle.lwc_types.specs.declared.limits.TheConstants.{MOST_STEPS};
 ghost use Rattle.lwc_monitor.specs.Promises.{LeavesEachTrapped};
-ghost use Rattle.lwc_monitor.specs.Reports.{inputs_of, report_after_under, traps_text};
+ghost use Rattle.lwc_monitor.specs.Reports.{report_after_under, traps_text};
 ghost use Rattle.lwc_monitor.specs.Steady as spec;
 ghost use Rattle.lwc_monitor.specs.Steady.{state_of};
 ghost use Rattle.lwc_text.specs.Report.{threads_text};
@@ -81,7 +81,7 @@ impl<W: World> Monitored<W> {
         requires settings { IsSettings settings.now }
         requires run { settings.now.job ≡ Job.Run }
         requires steps { steps ≤ MOST_STEPS }
-        ensures opened { IfOk result (λ k. k ≡ kernels.opened (inputs_of image.now settings.now) steps) }
+        ensures opened { IfOk result (λ k. k ≡ kernels.opened (inputs_of image.now [] settings.now) steps) }
         ensures too_large { settings.now.frames < length image.now.pages →
             result ≡ Err (OpenFault.ImageTooLarge (length image.now.pages) settings.now.frames) }
         ensures fits { length image.now.pages ≤ settings.now.frames →
