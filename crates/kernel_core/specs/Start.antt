@@ -49,6 +49,11 @@ pub record Inputs : Type 0 where
   pub requests : List (List ℕ)
   pub settings : Settings
 
+-- an image alone, with these requests and settings
+abbrev pub inputs_of : Image → List (List ℕ) → Settings → Inputs
+inputs_of image requests settings =
+    record { image = image; vault = None; requests = requests; settings = settings }
+
 -- the number of threads: in a run one for each entry of the image, in a serve one for each worker
 abbrev pub threads_for : Image → Job → ℕ
 threads_for image Run = length image.entries

@@ -2,12 +2,10 @@
 use Rattle.std.specs.Prelude.{ℕ, ◌+◌, ◌-◌, ◌*◌, ◌++◌, if◌then◌else◌, List, [], ◌∷◌, Option, None, Some, codes}
 use Rattle.std.specs.Prelude.{decimal, length, nat_le, nat_lt, take}
 use Rattle.std.specs.Option.{option_map_or}
-use Rattle.guest_image.specs.declared.image.Image.{Image}
 use Rattle.kernel_core.specs.Kernel.{view_of}
 use Rattle.kernel_core.specs.Machine.{Machine}
 use Rattle.kernel_core.specs.Runs.{frames_of, kept, run}
 use Rattle.kernel_core.specs.Start.{Inputs, start}
-use Rattle.kernel_core.specs.declared.settings.Settings.{Settings}
 use Rattle.lwc_base.specs.Cells.{slot_at}
 use Rattle.lwc_base.specs.Memory.{load}
 use Rattle.lwc_base.specs.Summaries.{summary_of}
@@ -99,10 +97,6 @@ abbrev pub transcript : Machine → List ℕ → ℕ → List Command → List �
 transcript m steps at [] = []
 transcript m steps at (c ∷ cs) =
     answer (run m (take at steps)) (length steps) at c ++ transcript m steps (place_after (length steps) at c) cs
-
--- what a run of an image begins with
-abbrev pub inputs_of : Image → Settings → Inputs
-inputs_of image settings = record { image = image; vault = None; requests = []; settings = settings }
 
 -- the answers to a script in the run of the steps that are kept of a schedule
 unfoldable pub transcript_of_schedule : Inputs → List ℕ → List Command → List ℕ

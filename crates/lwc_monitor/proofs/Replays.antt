@@ -4,12 +4,12 @@ use Rattle.std.proofs.lemmas.List.{take_more}
 use Rattle.guest_image.specs.declared.image.Image.{Image}
 use Rattle.kernel_core.specs.Kernel.{History}
 use Rattle.kernel_core.specs.Machine.{is_ended}
-use Rattle.kernel_core.specs.Start.{Inputs, thread_count, threads_for}
+use Rattle.kernel_core.specs.Start.{Inputs, inputs_of, thread_count, threads_for}
 use Rattle.kernel_core.specs.declared.settings.Job.{Job}
 use Rattle.kernel_core.specs.declared.settings.Job.TheVariants as job
 use Rattle.kernel_core.specs.declared.settings.Settings.{Settings}
 use Rattle.lwc_monitor.proofs.Steadying.{longer}
-use Rattle.lwc_monitor.specs.Reports.{begun, inputs_of}
+use Rattle.lwc_monitor.specs.Reports.{begun}
 use Rattle.lwc_monitor.specs.Steady.{state_of, stepped_under}
 use Rattle.lwc_monitor.specs.Steps.{Monitored, kept_under, monitored_step, run_under}
 
@@ -69,6 +69,6 @@ module _ (before now next : History) (schedule : List ℕ) (i t : ℕ) (so_far :
   runs_on moves = run_by (is_ended (state_of now).machine t) refl moves (λ going. omega (arith, so_far.room, inside))
 
 -- the number of threads of a run
-pub count-is : (image : Image) (settings : Settings) → settings.job ≡ job.Run → thread_count (inputs_of image settings) ≡ length image.entries
+pub count-is : (image : Image) (settings : Settings) → settings.job ≡ job.Run → thread_count (inputs_of image [] settings) ≡ length image.entries
 unfolding thread_count
 count-is image settings run = ap (λ (j : Job). threads_for image j) run

@@ -21,7 +21,7 @@ use Rattle.kernel_core.specs.Machine.{Environment, Machine, has_ended, is_ended,
 use Rattle.kernel_core.proofs.Limits.{has_place}
 use Rattle.kernel_core.specs.Ready.{CanAct, IsReadyThread, IsRunnable, WhileRunning, jobs_of}
 use Rattle.kernel_core.specs.Runs.{frames_of, peak}
-use Rattle.kernel_core.specs.Start.{Inputs, serve_at, start, thread_count}
+use Rattle.kernel_core.specs.Start.{Inputs, inputs_of, serve_at, start, thread_count}
 use Rattle.kernel_core.specs.Settings.{IsSettings}
 use Rattle.kernel_core.specs.Steady.{history, machine}
 use Rattle.kernel_core.specs.Step.{AfterStep, after_outcome, after_thread, beside, contexts_of, roots, step_by, thread_outcome, with_regs}
@@ -49,7 +49,7 @@ use Rattle.lwc_monitor.specs.Promises.{LeavesEachTrapped}
 use Rattle.lwc_monitor.proofs.Promised.{kept-after}
 use Rattle.lwc_monitor.proofs.Tables.{acts_under}
 use Rattle.lwc_monitor.specs.Calls.{calls_under, traps_after_call}
-use Rattle.lwc_monitor.specs.Reports.{begun, inputs_of, report_after_under, report_under, traps_text}
+use Rattle.lwc_monitor.specs.Reports.{begun, report_after_under, report_under, traps_text}
 use Rattle.lwc_monitor.specs.Steady.{IsSteady, state_of, stepped_under, turn_under}
 use Rattle.lwc_monitor.specs.Steps.{Monitored, call_by, monitored_step, peak_under, run_under, traps_after}
 use Rattle.lwc_monitor.specs.Traps.{Traps}
@@ -299,23 +299,6 @@ module _ (w : World) (io : Channels) (threads : List Thread) (text : List Instr)
           pub stepped_to : stepped_under h t ≡ longer h t
           unfolding stepped_under
           stepped_to = ap (λ b. cond b h (longer h t)) going
-
-fits-by : (pages frames : ℕ) → (frames < pages → ⊥) → pages ≤ frames
-fits-by pages frames never = by (ltb frames pages) refl
-  where
-    by : (b : Bool) → ltb frames pages ≡ b → pages ≤ frames
-    by true is = absurd (never (ltb-true frames pages is))
-    by false is = ltb-false frames pages is
-
--- what a run of an image that fits is opened with
-pub can-open : (image : Image) (settings : Settings) → IsImage image → IsSettings settings → settings.job ≡ job.Run → (settings.frames < length image.pages → ⊥) → CanOpen (inputs_of image settings)
-can-open image settings of_image in_limits run never = record {
-  image = of_image;
-  vault = tt;
-  settings = in_limits;
-  fits = fits-by (length image.pages) settings.frames never;
-  requests = subst (λ (j : Job). MayHave j []) (sym run) refl;
-}
 
 -- the machine of a start's parts
 pub begins-with : (inputs : Inputs) → inputs.settings.job ≡ job.Run → (w : World) (io : Channels) (threads : List Thread) (text : List Instr) → w ≡ (start inputs).environment.world → io ≡ (start inputs).environment.channels →

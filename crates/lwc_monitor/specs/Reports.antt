@@ -1,11 +1,9 @@
 -- The report of a run under traps.
-use Rattle.std.specs.Prelude.{ℕ, List, [], ◌++◌, None}
+use Rattle.std.specs.Prelude.{ℕ, List, ◌++◌}
 use Rattle.std.specs.FinMap as fm
 use Rattle.std.specs.List.{flat_map}
-use Rattle.guest_image.specs.declared.image.Image.{Image}
 use Rattle.kernel_core.specs.Runs.{frames_of}
 use Rattle.kernel_core.specs.Start.{Inputs, start}
-use Rattle.kernel_core.specs.declared.settings.Settings.{Settings}
 use Rattle.lwc_monitor.specs.Steps.{Monitored, kept_under, peak_under, run_under, unmonitored}
 use Rattle.lwc_monitor.specs.Traps.{Traps}
 use Rattle.lwc_text.specs.Lines.{groups_line, tail_lines, trap_line}
@@ -21,10 +19,6 @@ report_under s most steps =
     threads_text s.machine ++ contexts_text s.machine.environment.world ++ traps_text s.traps
     ++ groups_line (fm.len s.machine.environment.world.groups) ++ replies_text s.machine
     ++ tail_lines s.machine.environment.channels.console (frames_of s.machine) most steps
-
--- what a run of an image begins with
-abbrev pub inputs_of : Image → Settings → Inputs
-inputs_of image settings = record { image = image; vault = None; requests = []; settings = settings }
 
 -- a run under traps begins without one
 abbrev pub begun : Inputs → Monitored

@@ -1,8 +1,8 @@
 ghost use Rattle.std.specs.Prelude.{◌≡◌, ◌<◌, ◌≤◌, [], All, IfOk, OnOk, length};
 ghost use Rattle.kernel_core.specs.Kernel.{CanOpen};
-ghost use Rattle.kernel_core.specs.Start.{thread_count};
+ghost use Rattle.kernel_core.specs.Start.{inputs_of, thread_count};
 ghost use Rattle.lwc_types.specs.declared.limits.TheConstants.{MOST_STEPS};
-ghost use Rattle.lwc_monitor.specs.Reports.{begun, inputs_of, monitored_text};
+ghost use Rattle.lwc_monitor.specs.Reports.{begun, monitored_text};
 ghost use Rattle.lwc_monitor.specs.Steps.{kept_under};
 
 use crate::monitored::Monitored;
@@ -22,21 +22,17 @@ pub fn monitor_replay<W: World>(
     schedule: &Schedule,
     settings: &Settings,
 ) -> Result<Vec<u8>, OutOfMemory>
-    requires can { CanOpen (inputs_of image.now settings.now) }
+    requires can { CanOpen (inputs_of image.now [] settings.now) }
     requires run { settings.now.job ≡ Job.Run }
     requires threads { All (λ t. t < length image.now.entries) schedule.now }
     requires short { length schedule.now ≤ MOST_STEPS }
     ensures { IfOk result (λ text.
-        text.items ≡ monitored_text (inputs_of image.now settings.now) schedule.now) }
+        text.items ≡ monitored_text (inputs_of image.now [] settings.now) schedule.now) }
 {
     let steps = schedule.len() as u32;
-    match Monitored::<W>::open(alloc, image, steps, settings) {
-        Ok(mut run) => {
-            make_steps(&mut run, schedule)?;
-            run.report(alloc)
-        }
-        Err(_) => Err(OutOfMemory),
-    }
+    let mut run: Monitored<W> = Monitored::open(alloc, image, steps, settings)?;
+    make_steps(&mut run, schedule)?;
+    run.report(alloc)
 }
 
 /// Makes the steps of the schedule, one after another.

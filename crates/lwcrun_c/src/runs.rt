@@ -6,7 +6,7 @@ ghost use Rattle.guest_image.specs.Reading.{image_at};
 ghost use Rattle.kernel_core.specs.Kernel.{AreRequests, MayHave, opened};
 ghost use Rattle.kernel_core.specs.Runs.{kept};
 ghost use Rattle.kernel_core.specs.Settings.{IsJob, IsSettings};
-ghost use Rattle.kernel_core.specs.Start.{start};
+ghost use Rattle.kernel_core.specs.Start.{inputs_of, start};
 ghost use Rattle.lwc_types.specs.declared.limits.TheConstants.{MOST_STEPS};
 ghost use Rattle.lwc_text.specs.Requests.{requests_at};
 ghost use Rattle.lwcrun_c.specs.Runs.{
@@ -18,7 +18,6 @@ ghost use Rattle.lwcrun_c.specs.Runs.{
   run_error_number,
   settings_of,
 };
-ghost use Rattle.lwcrun_core.specs.Works.{inputs_of};
 
 use guest_image::{Image, ImageFault, read_image};
 use kernel_core::{Job, Kernel, OpenFault, Settings};

@@ -21,7 +21,7 @@ use Rattle.kernel_core.specs.Kernel.{AreRequests, CanOpen, MayHave}
 use Rattle.kernel_core.specs.Machine.{reply_of}
 use Rattle.kernel_core.specs.Runs.{kept, run}
 use Rattle.kernel_core.specs.Machine as machine
-use Rattle.kernel_core.specs.Start.{Inputs, start, thread_count, threads_for}
+use Rattle.kernel_core.specs.Start.{Inputs, inputs_of, start, thread_count, threads_for}
 use Rattle.kernel_core.proofs.Others.{work_at_serve, work_at_start}
 use Rattle.lwc_text.proofs.Listed.{complete_listed}
 use Rattle.std.proofs.Math.Nat.{mul-le-mul_left, mul-le-mul_right}
@@ -70,7 +70,7 @@ use Rattle.lwcrun_core.specs.Headlines.{AreRequestsIn, Headline, IsFitting, IsLi
 use Rattle.lwcrun_inputs.specs.Ends.{End, Outside, Ended, IsUnwritten, NothingFailed, WriteFailed}
 use Rattle.lwcrun_inputs.specs.Ends as ends
 use Rattle.lwc_text.specs.Report.{report_of_schedule, stream_text}
-use Rattle.lwcrun_core.specs.Works.{AnyImage, BoundedRequests, FileKind, FittingImage, IsText, Named, Parts, Requests, Schedule, ScriptFile, Source, VaultFile, Work, inputs_from, inputs_of, plan_by, plan_of, read_by, read_file, read_files, requests_named, task_of, scheduled}
+use Rattle.lwcrun_core.specs.Works.{AnyImage, BoundedRequests, FileKind, FittingImage, IsText, Named, Parts, Requests, Schedule, ScriptFile, Source, VaultFile, Work, plan_by, plan_of, read_by, read_file, read_files, requests_named, task_of, scheduled}
 use Rattle.lwcrun_core.specs.Works as works
 use Rattle.lwcrun_inputs.specs.Inputs.{bounded, bounded_requests_of, fitted, fitting_image_of, image_of, or_rejected, requests_of, schedule_of, serve_steps, source_of, then_tested, worker_count}
 use Rattle.lwcrun_core.specs.Beside.{fitted_beside, fitting_vault_for, script_of, vault_for}
@@ -116,7 +116,7 @@ answered settings image steps script = plans.Write (works.Debugging (inputs_of i
 
 abbrev after_replay_schedule : Option (List ℕ) → Settings → Image → List ℕ → Plan Rejection Work
 after_replay_schedule requests settings image steps =
-    read_files (requests_named requests) settings (λ p. works.Replaying (inputs_from settings p) p.steps) (scheduled image steps)
+    read_files (requests_named requests) settings (λ p. works.Replaying (inputs_of p.image p.requests settings) p.steps) (scheduled image steps)
 
 abbrev after_replay_image : List ℕ → Option (List ℕ) → Settings → Image → Plan Rejection Work
 after_replay_image schedule requests settings image =

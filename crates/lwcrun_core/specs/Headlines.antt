@@ -10,7 +10,7 @@ use Rattle.guest_image.specs.declared.image.TheConstants.{VAULT_SLOT}
 use Rattle.guest_image.specs.declared.image.Vault.{Vault}
 use Rattle.kernel_core.specs.Histories.{IsComplete}
 use Rattle.kernel_core.specs.Runs.{kept, run}
-use Rattle.kernel_core.specs.Start.{Inputs, start, threads_for}
+use Rattle.kernel_core.specs.Start.{Inputs, inputs_of, start, threads_for}
 use Rattle.kernel_core.specs.declared.settings.Settings.{Settings}
 use Rattle.lift_law.specs.Lifting.{RunsLifted}
 use Rattle.lwc_types.specs.declared.limits.TheConstants.{MOST_STEPS}
@@ -34,7 +34,6 @@ use Rattle.lwcrun_line.specs.Lines.{Command}
 use Rattle.lwcrun_line.specs.Lines as commands
 use Rattle.lwcrun_inputs.specs.Ends.{Outside}
 use Rattle.lwcrun_inputs.specs.Inputs.{serve_steps}
-use Rattle.lwcrun_core.specs.Works.{inputs_of}
 use Rattle.request_isolation.specs.Restored.{IsRestored}
 
 -- the bytes are an image, whose pages fit the frames

@@ -10,7 +10,7 @@ use Rattle.guest_image.specs.declared.image.Image.{Image}
 use Rattle.guest_image.specs.declared.image.Vault.{Vault}
 use Rattle.kernel_core.specs.declared.settings.Settings.{Settings}
 use Rattle.kernel_core.specs.Histories.{IsComplete}
-use Rattle.kernel_core.specs.Start.{Inputs, start, threads_for}
+use Rattle.kernel_core.specs.Start.{Inputs, inputs_of, start, threads_for}
 use Rattle.lwc_gen.specs.Generated.{generated}
 use Rattle.lwc_gen.specs.Summary.{summary_after}
 use Rattle.lwc_debug.specs.Transcript.{transcript_of_schedule}
@@ -56,11 +56,6 @@ IsText (Monitoring inputs schedule) text = text ≡ monitored_text inputs schedu
 IsText (Debugging inputs schedule script) text = text ≡ transcript_of_schedule inputs schedule script
 IsText (Streaming inputs) text =
     (steps : List ℕ) × IsComplete (start inputs) steps × (text ≡ stream_text inputs steps)
-
--- what a kernel is opened with
-abbrev pub inputs_of : Image → List (List ℕ) → Settings → Inputs
-inputs_of image requests settings =
-    record { image = image; vault = None; requests = requests; settings = settings }
 
 -- what is read as a file: an image whose pages fit the frames, or any image; the image of a source; the steps of a
 -- schedule, at most this number; requests, or such that a serve of them takes no more steps than there may be; a vault
@@ -138,11 +133,6 @@ abbrev pub requests_named : Option (List ℕ) → Named
 requests_named None = []
 requests_named (Some name) = (Requests, name) ∷ []
 
--- what a kernel is opened with, by what was read
-abbrev pub inputs_from : Settings → Parts → Inputs
-inputs_from settings parts =
-    record { image = parts.image; vault = parts.vault; requests = parts.requests; settings = settings }
-
 -- a command's task: the files that it reads in order, the settings that these are tested with, and what is done with
 -- them
 pub record Task : Type 0 where
@@ -158,18 +148,19 @@ new_task files settings work = record { files = files; settings = settings; work
 abbrev pub replay_task : (Inputs → List ℕ → Work) → List ℕ → List ℕ → Option (List ℕ) → Settings → Task
 replay_task work image schedule requests settings =
     new_task ((FittingImage, image) ∷ (Schedule MOST_STEPS, schedule) ∷ requests_named requests) settings
-    (λ s p. work (inputs_from s p) p.steps)
+    (λ s p. work (inputs_of p.image p.requests s) p.steps)
 
 -- a serve or a stream
 abbrev pub server_task : (Inputs → Work) → List ℕ → List ℕ → Settings → Task
 server_task work image requests settings =
-    new_task ((FittingImage, image) ∷ (BoundedRequests, requests) ∷ []) settings (λ s p. work (inputs_from s p))
+    new_task ((FittingImage, image) ∷ (BoundedRequests, requests) ∷ []) settings
+    (λ s p. work (inputs_of p.image p.requests s))
 
 -- the table of what commands read and do
 abbrev pub task_of : Command → Task
 task_of (commands.Replay image schedule requests settings) = replay_task Replaying image schedule requests settings
 task_of (commands.Run image settings) =
-    new_task ((FittingImage, image) ∷ []) settings (λ s p. Running (inputs_from s p))
+    new_task ((FittingImage, image) ∷ []) settings (λ s p. Running (inputs_of p.image [] s))
 task_of (commands.Serve image requests settings) = server_task Running image requests settings
 task_of (commands.Asm source) = new_task ((Source, source) ∷ []) default_settings (λ s p. Spelling p.image)
 task_of (commands.Dis image) = new_task ((AnyImage, image) ∷ []) default_settings (λ s p. Disassembling p.image)
@@ -178,10 +169,10 @@ task_of (commands.Lift image) = new_task ((AnyImage, image) ∷ []) default_sett
 task_of (commands.Monitor image schedule settings) = replay_task Monitoring image schedule None settings
 task_of (commands.Vault image vault schedule settings) =
     new_task ((AnyImage, image) ∷ (VaultFile, vault) ∷ (Schedule MOST_STEPS, schedule) ∷ []) settings
-    (λ s p. Replaying (inputs_from s p) p.steps)
+    (λ s p. Replaying (record (inputs_of p.image [] s) { vault = p.vault }) p.steps)
 task_of (commands.Debug image schedule script settings) =
     new_task ((FittingImage, image) ∷ (Schedule MOST_DEBUGGED_STEPS, schedule) ∷ (ScriptFile, script) ∷ []) settings
-    (λ s p. Debugging (inputs_from s p) p.steps p.script)
+    (λ s p. Debugging (inputs_of p.image [] s) p.steps p.script)
 task_of (commands.Stream image requests settings) = server_task Streaming image requests settings
 
 -- what is done by a task

@@ -1,11 +1,10 @@
 ghost use Rattle.std.specs.Prelude.{◌≡◌, ◌≤◌, ◌<◌, [], All, IfOk, length};
 ghost use Rattle.guest_image.specs.Limits.{IsImage};
-ghost use Rattle.kernel_core.specs.Start.{threads_for};
+ghost use Rattle.kernel_core.specs.Start.{inputs_of, threads_for};
 ghost use Rattle.lwc_debug.specs.Transcript.{transcript_of_schedule};
 ghost use Rattle.lwcrun_inputs.specs.Ends.{Ended};
 ghost use Rattle.lwcrun_core.specs.Works.{IsText, plan_of};
 ghost use Rattle.lwcrun_line.specs.Lines as commands;
-ghost use Rattle.lwcrun_core.specs.Works.{inputs_of};
 ghost use Rattle.lwcrun_line.specs.Lines.{AreRunSettings};
 ghost use Rattle.lwcrun_inputs.specs.Plans.{AreFetchesOf};
 ghost use Rattle.lwcrun_inputs.specs.Reading.{Fetched};

@@ -3,11 +3,11 @@
 ghost use Rattle.std.specs.Prelude.{◌≡◌, ◌≤◌, ◌<◌, ◌+◌, ℕ, List, [], All, IfOk, None, length, option_map};
 ghost use Rattle.guest_image.specs.Limits.{IsImage};
 ghost use Rattle.kernel_core.specs.Kernel.{AreRequests, CanKeep};
-ghost use Rattle.kernel_core.specs.Start.{Inputs, threads_for};
+ghost use Rattle.kernel_core.specs.Start.{Inputs, inputs_of, threads_for};
 ghost use Rattle.lwc_types.specs.declared.limits.TheConstants.{MOST_STEPS};
 ghost use Rattle.lwc_vault.specs.Secrets.{beside};
 ghost use Rattle.lwcrun_core.specs.Works as works;
-ghost use Rattle.lwcrun_core.specs.Works.{Parts, Work, inputs_of, plan_by, plan_of, read_files};
+ghost use Rattle.lwcrun_core.specs.Works.{Parts, Work, plan_by, plan_of, read_files};
 ghost use Rattle.lwcrun_core.specs.Works.{replay_task, requests_named, scheduled, server_task};
 ghost use Rattle.lwcrun_line.specs.Lines as commands;
 ghost use Rattle.lwcrun_line.specs.Lines.{AreReplaySettings, AreRunSettings, AreServeSettings};

@@ -2,9 +2,9 @@ ghost use Rattle.std.specs.Prelude.{◌≡◌, ◌<◌, ◌≤◌, All, IfOk, le
 ghost use Rattle.guest_image.specs.Limits.{IsImage};
 ghost use Rattle.lwc_types.specs.declared.limits.TheConstants.{MOST_STEPS};
 ghost use Rattle.kernel_core.specs.Kernel.{CanOpen, opened};
-ghost use Rattle.kernel_core.specs.Start.{thread_count, threads_for};
+ghost use Rattle.kernel_core.specs.Start.{inputs_of, thread_count, threads_for};
 ghost use Rattle.lwcrun_inputs.specs.Ends.{Ended};
-ghost use Rattle.lwcrun_core.specs.Works.{IsText, inputs_of, plan_by, replay_task};
+ghost use Rattle.lwcrun_core.specs.Works.{IsText, plan_by, replay_task};
 ghost use Rattle.lwcrun_core.specs.Works as works;
 ghost use Rattle.lwc_text.specs.Report.{report_of_schedule};
 ghost use Rattle.lwcrun_line.specs.Lines.{AreReplaySettings};

@@ -1,12 +1,12 @@
 ghost use Rattle.std.specs.Prelude.{◌≡◌, ◌≤◌, ◌<◌, ◌+◌, [], All, IfOk, length};
 ghost use Rattle.guest_image.specs.Limits.{IsImage};
 ghost use Rattle.kernel_core.specs.Kernel.{CanKeep};
-ghost use Rattle.kernel_core.specs.Start.{threads_for};
+ghost use Rattle.kernel_core.specs.Start.{inputs_of, threads_for};
 ghost use Rattle.lwc_types.specs.declared.limits.TheConstants.{MOST_STEPS};
 ghost use Rattle.lwc_text.specs.Report.{report_of_schedule};
 ghost use Rattle.lwc_vault.specs.Secrets.{beside};
 ghost use Rattle.lwcrun_inputs.specs.Ends.{Ended};
-ghost use Rattle.lwcrun_core.specs.Works.{IsText, inputs_of, plan_of};
+ghost use Rattle.lwcrun_core.specs.Works.{IsText, plan_of};
 ghost use Rattle.lwcrun_line.specs.Lines as commands;
 ghost use Rattle.lwcrun_line.specs.Lines.{AreRunSettings};
 ghost use Rattle.lwcrun_inputs.specs.Plans.{AreFetchesOf};

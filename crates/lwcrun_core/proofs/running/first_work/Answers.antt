@@ -1,6 +1,6 @@
 use Rattle.std.proofs.Common.{refl, sym, ap, ◌∙◌, ◌*◌}
 use Rattle.kernel_core.proofs.Others.{work_at_serve, work_at_start}
-use Rattle.lwcrun_core.specs.Works.{inputs_of}
+use Rattle.kernel_core.specs.Start.{inputs_of}
 use Rattle.lwcrun_inputs.specs.Inputs.{serve_steps}
 use Rattle.lwcrun_core.proofs.running.first_work.Goals as goal
 

@@ -1,7 +1,8 @@
 use Rattle.std.proofs.Common.{◌≡◌, ◌≤◌, ◌*◌, ◌∙◌, IfOk, List, [], ℕ, length, refl, subst, arith}
 use Rattle.std.proofs.Math.Nat.{mul-le-mul_left, mul-le-mul_right}
 use Rattle.lwc_types.specs.declared.limits.TheConstants.{MOST_BUDGET, MOST_THREADS}
-use Rattle.lwcrun_core.specs.Works.{IsText, inputs_of, plan_by}
+use Rattle.kernel_core.specs.Start.{inputs_of}
+use Rattle.lwcrun_core.specs.Works.{IsText, plan_by}
 use Rattle.lwcrun_core.specs.Works as works
 use Rattle.kernel_core.proofs.Others.{work_at_start}
 use Rattle.lwcrun_inputs.proofs.Fetches.{nothing_fetched}

@@ -1,7 +1,8 @@
 use Rattle.std.proofs.Common.{◌≡◌, ap, arith}
 use Rattle.kernel_core.proofs.Others.{work_at_serve}
 use Rattle.lwcrun_inputs.specs.Inputs.{worker_count}
-use Rattle.lwcrun_core.specs.Works.{IsText, inputs_of}
+use Rattle.kernel_core.specs.Start.{inputs_of}
+use Rattle.lwcrun_core.specs.Works.{IsText}
 use Rattle.lwcrun_core.specs.Works as works
 use Rattle.lwcrun_inputs.proofs.Follows.{ended_before, ended_behind}
 use Rattle.lwcrun_core.proofs.running.serve.Goals as goal
