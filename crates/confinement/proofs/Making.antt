@@ -15,8 +15,9 @@ use Rattle.lwc_base.specs.Modes.{IsKey, mode, mode_or_copy}
 use Rattle.lwc_base.specs.Overlay.{overlaid_cell, overlay, with_overlay}
 use Rattle.lwc_base.specs.Sharing.{clone_context, cloned_cell, cloned_context, needs_group, share}
 use Rattle.lwc_base.specs.Sound.{HasItsGroups}
-use Rattle.lwc_base.specs.World.{World, Context, Counters, context, group, is_live, next_context}
+use Rattle.lwc_base.specs.World.{World, Context, context, group, is_live, next_context}
 use Rattle.lwc_types.specs.declared.key.TheConstants.{SLOTS}
+use Rattle.lwc_types.specs.declared.counters.Counters.{Counters}
 use Rattle.lwc_types.specs.declared.key.Key.{Key}
 use Rattle.lwc_types.specs.declared.key.Key.TheVariants.{Page, Slot}
 use Rattle.lwc_types.specs.declared.name.Name.{Name}

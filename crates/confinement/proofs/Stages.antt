@@ -20,8 +20,9 @@ use Rattle.lwc_base.specs.Saved.{save, with_saved}
 use Rattle.lwc_base.specs.Sound.{HasItsGroups}
 use Rattle.lwc_base.specs.Store.{Piece, after_store, page_value_at, parting_count, stored_pages, put_pages, store}
 use Rattle.lwc_base.specs.Store as stores
-use Rattle.lwc_base.specs.World.{World, Context, Counters, context, group, change_counters, is_live}
+use Rattle.lwc_base.specs.World.{World, Context, context, group, change_counters, is_live}
 use Rattle.lwc_types.specs.declared.key.TheConstants.{SLOTS}
+use Rattle.lwc_types.specs.declared.counters.Counters.{Counters}
 use Rattle.lwc_types.specs.declared.key.Key.{Key}
 use Rattle.lwc_types.specs.declared.key.Key.TheVariants.{Page, Slot, Cred}
 use Rattle.lwc_types.specs.declared.name.Name.{Name}

@@ -2,7 +2,7 @@
 use Rattle.std.proofs.Common.{◌≡◌, ℕ, ◌<◌, ◌≤◌, ⊎_elim, cond, eqb, List, length, get_or, set, refl, sym, ◌∙◌, ap, arith, length-set, get_or-set_other}
 use Rattle.std.proofs.lemmas.List.{set-get_or, get_or_past}
 use Rattle.std.proofs.lemmas.Bool.{cases_lt}
-use Rattle.pool_base.specs.Counts.{Places, free_count}
+use Rattle.pool_base.specs.HoldCounts.{Places, free_count}
 use Rattle.pool_base.specs.Padded.{padded}
 use Rattle.pool_base.specs.Paired.{paired}
 use Rattle.pool_base.proofs.PaddedLemmas.{length-padded, get_or-padded}

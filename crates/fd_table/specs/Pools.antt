@@ -1,6 +1,6 @@
 -- A pool of counted slots as the list of them.
 use Rattle.std.specs.Prelude.{◌≡◌, ℕ, ◌==◌, ◌≤◌, List, count_by, length, slice_index, slice_index_or, slice_set}
-use Rattle.pool_base.specs.Counts.{Places}
+use Rattle.pool_base.specs.HoldCounts.{Places}
 use Rattle.pool_base.specs.Padded.{padded}
 use Rattle.pool_base.specs.Paired.{paired}
 use Rattle.fd_table.specs.Slots.{Slot, empty_slot}

@@ -6,7 +6,7 @@ ghost use Rattle.fd_table.specs.Pools.{count_of, free_of, no_held, recount, slot
 use crate::filling::Filling;
 use crate::fillings::Fillings;
 use lwc_base::OutOfMemory;
-use pool_base::Counts;
+use pool_base::HoldCounts;
 use std::alloc::Global;
 use std::marker::Model;
 
@@ -14,7 +14,7 @@ use std::marker::Model;
 /// for. No call looks for a free one, and a filling's memory is first written when it is taken.
 #[derive(Drop)]
 pub(crate) struct Pool {
-    counts: Counts,
+    counts: HoldCounts,
     fillings: Fillings,
 }
 
@@ -40,7 +40,7 @@ impl Pool {
     pub(crate) fn open(alloc: Global, objects: u32) -> Result<Pool, OutOfMemory>
         ensures { IfOk result (λ pool. pool ≡ replicate objects no_held) }
     {
-        let counts = Counts::open(alloc, objects)?;
+        let counts = HoldCounts::open(alloc, objects)?;
         let fillings = Fillings::open(alloc, objects)?;
         Ok(Pool { counts, fillings })
     }

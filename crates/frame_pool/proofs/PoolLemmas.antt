@@ -4,7 +4,7 @@ use Rattle.std.proofs.lemmas.List.{set-get_or, get_or_past, get_or_read}
 use Rattle.std.proofs.lemmas.Bool.{cases_lt}
 use Rattle.lwc_types.specs.declared.name.Tag.{Tag}
 use Rattle.lwc_types.specs.Pages.{zero_page}
-use Rattle.pool_base.specs.Counts.{Places, free_count, held_count}
+use Rattle.pool_base.specs.HoldCounts.{Places, free_count, held_count}
 use Rattle.pool_base.specs.Padded.{padded}
 use Rattle.pool_base.specs.Paired.{paired}
 use Rattle.pool_base.proofs.PaddedLemmas.{length-padded, get_or-padded, get_or-padding}

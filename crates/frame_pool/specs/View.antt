@@ -2,7 +2,7 @@
 use Rattle.std.specs.Prelude.{◌≡◌, ℕ, ◌≤◌, List, length, slice_index}
 use Rattle.lwc_types.specs.declared.name.Tag.{Tag}
 use Rattle.lwc_types.specs.Pages.{zero_page}
-use Rattle.pool_base.specs.Counts.{Places}
+use Rattle.pool_base.specs.HoldCounts.{Places}
 use Rattle.pool_base.specs.Padded.{padded}
 use Rattle.pool_base.specs.Paired.{paired}
 use Rattle.frame_pool.specs.Frame.{Frame}

@@ -5,7 +5,7 @@ ghost use Rattle.lwc_types.specs.declared.page.TheConstants.{PAGE_BYTES};
 ghost use Rattle.pool_base.specs.Padded.{padded};
 
 use lwc_types::{OutOfMemory, PAGE_BYTES, Tag};
-use pool_base::{Counts, put_next};
+use pool_base::{HoldCounts, put_next};
 use std::alloc::Global;
 use std::marker::Model;
 
@@ -19,7 +19,7 @@ pub struct FrameNo {
 /// No call looks for a free frame, and a frame's memory is first written when the frame is taken.
 #[derive(Drop)]
 pub struct Pool {
-    counts: Counts,
+    counts: HoldCounts,
     stamps: Vec<Tag>,
     bytes: Vec<[u8; PAGE_BYTES]>,
 }
@@ -53,7 +53,7 @@ impl Pool {
     pub fn open(alloc: Global, frames: u32) -> Result<Pool, OutOfMemory>
         ensures { IfOk result (λ pool. pool ≡ replicate frames (zero_frame 0 (record { job = 0; k = 0 }))) }
     {
-        let counts = Counts::open(alloc, frames)?;
+        let counts = HoldCounts::open(alloc, frames)?;
         let stamps = Vec::with_capacity(alloc, frames as usize)?;
         let bytes = Vec::with_capacity(alloc, frames as usize)?;
         Ok(Pool {

@@ -13,8 +13,9 @@ use Rattle.lwc_base.specs.Facts.{AddsContext}
 use Rattle.lwc_base.specs.Fresh.{IsFresh}
 use Rattle.lwc_base.specs.Modes.{IsSpec}
 use Rattle.lwc_base.specs.Sharing.{clone_context}
-use Rattle.lwc_base.specs.World.{World, Counters, context, is_live, live_of, next_context}
+use Rattle.lwc_base.specs.World.{World, context, is_live, live_of, next_context}
 use Rattle.lwc_base.specs.declared.descriptor.Descriptor.TheVariants.{Reply, Request}
+use Rattle.lwc_types.specs.declared.counters.Counters.{Counters}
 use Rattle.lwc_types.specs.declared.name.Name.{Name}
 use Rattle.lwc_syscall.specs.Changes.{IsWell}
 use Rattle.snapshot_host.specs.Begin.{IsNewJob, begin, begun_context, request_context}

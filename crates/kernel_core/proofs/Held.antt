@@ -12,11 +12,12 @@ use Rattle.lwc_base.specs.Mapping.{map_pages, with_zeros}
 use Rattle.lwc_base.specs.Memory.{is_present}
 use Rattle.lwc_base.specs.Rights.{is_writable, may_write, right_at}
 use Rattle.lwc_base.specs.Store.{Done, after_store, bytes_after, page_value_at, parting_count, stored_pages, put_pages, store, stored_value}
-use Rattle.lwc_base.specs.World.{World, Context, Counters, add_context, change_context, change_counters, changed_context, context, is_live, new_context, next_context}
+use Rattle.lwc_base.specs.World.{World, Context, add_context, change_context, change_counters, changed_context, context, is_live, new_context, next_context}
 use Rattle.lwc_base.specs.declared.cell.Cell.TheVariants.{Own}
 use Rattle.lwc_base.proofs.Facts.{orders}
 use Rattle.lwc_types.specs.Pages.{bytes_of, zero_page}
 use Rattle.lwc_types.specs.Registers.{fresh_registers}
+use Rattle.lwc_types.specs.declared.counters.Counters.{Counters}
 use Rattle.lwc_types.specs.declared.right.Right.TheVariants.{Write}
 use Rattle.lwc_types.specs.declared.key.Key.{Key}
 use Rattle.lwc_types.specs.declared.key.Key.TheVariants.{Page}

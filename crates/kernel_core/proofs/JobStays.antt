@@ -17,7 +17,7 @@ use Rattle.lwc_base.specs.Memory.{touched}
 use Rattle.lwc_base.specs.Refusals.{first_refusal}
 use Rattle.lwc_base.specs.Sharing.{clone_context, needs_group, share}
 use Rattle.lwc_base.specs.Store.{Done, Piece, after_store, parting_count, stored_pages, put_pages, store}
-use Rattle.lwc_base.specs.World.{World, Context, Counters, add_context, change_context, change_counters, context, is_live}
+use Rattle.lwc_base.specs.World.{World, Context, add_context, change_context, change_counters, context, is_live}
 use Rattle.lwc_base.specs.declared.answer.Answer.{Answer}
 use Rattle.lwc_base.specs.declared.answer.Answer.TheVariants as answers
 use Rattle.lwc_base.specs.declared.answer.Moved.{Moved}
@@ -29,6 +29,7 @@ use Rattle.lwc_base.specs.declared.descriptor.Descriptor.{Descriptor}
 use Rattle.lwc_base.specs.declared.descriptor.Descriptor.TheVariants.{Ctx, Empty, Reply, Request}
 use Rattle.lwc_base.specs.declared.item.Item.{Item}
 use Rattle.lwc_types.specs.Names.{name_cmp}
+use Rattle.lwc_types.specs.declared.counters.Counters.{Counters}
 use Rattle.lwc_types.specs.declared.key.Key.{Key}
 use Rattle.lwc_types.specs.declared.key.Key.TheVariants.{Page, Slot, Cred}
 use Rattle.lwc_types.specs.declared.name.Name.{Name}

@@ -26,8 +26,9 @@ use Rattle.kernel_core.specs.Step.{AfterStep, Calls, Outcome, advance_outcome, a
 use Rattle.kernel_core.specs.declared.thread.Thread.{Thread}
 use Rattle.lwc_base.specs.Life.{is_among, reap}
 use Rattle.lwc_base.specs.Jobs.{NamesKeepToJobs, own_names}
-use Rattle.lwc_base.specs.World.{World, Counters, context, is_live}
+use Rattle.lwc_base.specs.World.{World, context, is_live}
 use Rattle.lwc_types.specs.declared.fault.ThreadStatus.{ThreadStatus}
+use Rattle.lwc_types.specs.declared.counters.Counters.{Counters}
 use Rattle.lwc_types.specs.declared.fault.ThreadStatus.TheVariants.{Idle, Running, Done, Faulted}
 use Rattle.lwc_types.specs.declared.limits.TheConstants.{MOST_STEPS}
 use Rattle.lwc_types.specs.declared.name.Name.{Name}

@@ -34,7 +34,7 @@ use Rattle.lwc_base.specs.Life.{HasItsContexts, IsReaped, Link, Reaches, Root, i
 use Rattle.lwc_base.specs.Mapping.{map_pages}
 use Rattle.lwc_base.specs.Sound.{IsSound}
 use Rattle.lwc_base.specs.Store.{Done, Piece, store}
-use Rattle.lwc_base.specs.World.{World, Context, Counters, Group, add_context, change_counters, context, groups_of, is_live, live_of, new_context}
+use Rattle.lwc_base.specs.World.{World, Context, Group, add_context, change_counters, context, groups_of, is_live, live_of, new_context}
 use Rattle.lwc_base.specs.declared.descriptor.Descriptor.TheVariants.{Ctx, Empty}
 use Rattle.lwc_base.proofs.Common.{put-itself}
 use Rattle.lwc_base.proofs.Counted.{count_by-same}
@@ -48,6 +48,7 @@ use Rattle.lwc_base.proofs.Sound.{sound-add_new_context, sound-map_pages, sound-
 use Rattle.lwc_base.proofs.Tables.{contains_key-insert, entry-insert}
 use Rattle.lwc_types.specs.Names.{name_cmp}
 use Rattle.lwc_types.specs.Registers.{fresh_registers}
+use Rattle.lwc_types.specs.declared.counters.Counters.{Counters}
 use Rattle.lwc_types.specs.declared.key.Key.TheVariants.{Slot}
 use Rattle.lwc_types.specs.declared.key.TheConstants.{NOBODY}
 use Rattle.lwc_types.specs.declared.name.Name.{Name}

@@ -25,8 +25,9 @@ use Rattle.lwc_base.specs.Capabilities.{empty_cap}
 use Rattle.lwc_base.specs.Cells.{put_slot}
 use Rattle.lwc_base.specs.Channels.{opened}
 use Rattle.lwc_base.specs.Keys.{ValueOf}
-use Rattle.lwc_base.specs.World.{World, Context, Counters, change_counters}
+use Rattle.lwc_base.specs.World.{World, Context, change_counters}
 use Rattle.lwc_types.specs.declared.key.TheConstants.{SLOTS}
+use Rattle.lwc_types.specs.declared.counters.Counters.{Counters}
 use Rattle.lwc_types.specs.declared.fault.ThreadStatus.TheVariants.{Running}
 use Rattle.lwc_types.specs.declared.key.Key.{Key}
 use Rattle.lwc_types.specs.declared.key.Key.TheVariants.{Page, Slot, Cred}

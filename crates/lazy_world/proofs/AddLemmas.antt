@@ -11,8 +11,9 @@ use Rattle.lwc_base.specs.declared.descriptor.Descriptor.TheVariants.{Empty, Con
 use Rattle.lwc_base.specs.Fresh.{IsFresh}
 use Rattle.lwc_base.specs.Keys.{with_key}
 use Rattle.lwc_base.specs.Summaries.{is_empty}
-use Rattle.lwc_base.specs.World.{World, Counters, add_context, change_counters, group, new_context, new_value, next_context}
+use Rattle.lwc_base.specs.World.{World, add_context, change_counters, group, new_context, new_value, next_context, nothing_counted}
 use Rattle.lwc_types.specs.declared.key.Key.{Key}
+use Rattle.lwc_types.specs.declared.counters.Counters.{Counters}
 use Rattle.lwc_types.specs.declared.key.Key.TheVariants.{Page, Slot, Cred}
 use Rattle.lwc_types.specs.declared.name.Name.{Name}
 use Rattle.lwc_types.specs.declared.name.Tag.{Tag}
@@ -21,12 +22,11 @@ use Rattle.lwc_types.specs.declared.page.PageValue.TheVariants.{Data}
 use Rattle.lwc_types.specs.declared.regs.Regs.{Regs}
 use Rattle.lwc_types.specs.declared.right.Right.TheVariants.{Write}
 use Rattle.ctx_table.specs.NameTables.{ArePlaced, NameTable}
-use Rattle.lazy_world.specs.declared.counts.Counts.{Counts}
 use Rattle.lazy_world.specs.Registers.{KeptRegisters}
 use Rattle.lazy_world.specs.Cells.{Row, is_nothing, put_row}
 use Rattle.lazy_world.specs.Mapped.{mapped}
 use Rattle.lazy_world.specs.Sound.{HasOldTags, IsAllOwn, IsEmpty, IsSound, IsWithin}
-use Rattle.lazy_world.specs.States.{Parts, context_at, context_of, counters_of, group_at, group_of, no_registers, nothing_counted, registers_at, world_of}
+use Rattle.lazy_world.specs.States.{Parts, context_at, context_of, group_at, group_of, no_registers, registers_at, world_of}
 use Rattle.lazy_world.proofs.MappedLemmas.{mapped-insert, mapped-same}
 use Rattle.lazy_world.proofs.PageLemmas.{pages-row, pages-same}
 use Rattle.lazy_world.proofs.PlaceLemmas.{choose, pass, set_at}
@@ -80,10 +80,6 @@ no_common row empty p g is = let none = sym is ∙ no_page (row (Page p)) p (emp
 pub no_tags : (next : ℕ → Counters) (row : Row) → IsEmpty row → HasOldTags next row
 no_tags next row empty p tag bytes is = absurd (no_tag row empty p tag bytes is)
 
-counters_choice : (b : Bool) (m n : Counts) → counters_of (cond b m n) ≡ cond b (counters_of m) (counters_of n)
-counters_choice true m n = refl
-counters_choice false m n = refl
-
 pub some_name : (name : Name) (o : Option Name) → o ≡ Some name → o ≡ None → ⊥
 some_name name o is none = let both = sym is ∙ none in cc
 
@@ -92,18 +88,18 @@ module _ (s : Parts) (sound : IsSound s) where
   now = world_of s
 
   -- what the jobs have counted, where one counts something else
-  pub counted-at : (job : ℕ) (n : Counts) (f : Counters → Counters) → job < length s.counts → counters_of n ≡ f (counters_of (get_or s.counts job nothing_counted)) →
-      (j : ℕ) → counters_of (get_or (set s.counts job n) j nothing_counted) ≡ cond (eqb j job) (f (now.next j)) (now.next j)
+  pub counted-at : (job : ℕ) (n : Counters) (f : Counters → Counters) → job < length s.counts → n ≡ f (get_or s.counts job nothing_counted) →
+      (j : ℕ) → get_or (set s.counts job n) j nothing_counted ≡ cond (eqb j job) (f (now.next j)) (now.next j)
   unfolding world_of
   counted-at job n f known is j =
-      ap counters_of (set_at s.counts job j n nothing_counted known) ∙ counters_choice (eqb j job) n (get_or s.counts j nothing_counted)
-      ∙ at (eqb j job) (λ same. is ∙ ap (λ i. f (counters_of (get_or s.counts i nothing_counted))) (sym (same_number j job same)))
+      set_at s.counts job j n nothing_counted known
+      ∙ at (eqb j job) (λ same. is ∙ ap (λ i. f (get_or s.counts i nothing_counted)) (sym (same_number j job same)))
     where
       same_number : (j job : ℕ) → eqb j job ≡ true → j ≡ job
       same_number j job e = grind (arith, nat_tests)
 
-      at : (b : Bool) → (b ≡ true → counters_of n ≡ f (counters_of (get_or s.counts j nothing_counted))) →
-          cond b (counters_of n) (counters_of (get_or s.counts j nothing_counted)) ≡ cond b (f (counters_of (get_or s.counts j nothing_counted))) (counters_of (get_or s.counts j nothing_counted))
+      at : (b : Bool) → (b ≡ true → n ≡ f (get_or s.counts j nothing_counted)) →
+          cond b n (get_or s.counts j nothing_counted) ≡ cond b (f (get_or s.counts j nothing_counted)) (get_or s.counts j nothing_counted)
       at true same = same refl
       at false same = refl
 
@@ -111,7 +107,7 @@ module _ (s : Parts) (sound : IsSound s) where
   module _ (placed : ArePlaced s.contexts) (job : ℕ) (c : Name) (named : c ≡ next_context now job) (known : job < s.size.jobs)
       (p : ℕ) (inside : p < length s.contexts.places) (is_free : get_or s.contexts.places p None ≡ None)
       (table : NameTable) (map : table.map ≡ fm.insert s.contexts.map c p) (places : table.places ≡ set s.contexts.places p (Some c))
-      (uid : ℕ) (entry : Regs) (n : Counts) (counted : counters_of n ≡ record (counters_of (get_or s.counts job nothing_counted)) { contexts = (counters_of (get_or s.counts job nothing_counted)).contexts + 1 })
+      (uid : ℕ) (entry : Regs) (n : Counters) (counted : n ≡ record (get_or s.counts job nothing_counted) { contexts = (get_or s.counts job nothing_counted).contexts + 1 })
       (bare : (q : ℕ) → s.rights p q ≡ Write) where
     abbrev registers : KeptRegisters
     registers = record { entry = entry; saved = replicate 16 None }
@@ -151,7 +147,7 @@ module _ (s : Parts) (sound : IsSound s) where
         ∙ (λ e. fm.insert (mapped-same (context_at s) s.contexts.map (context_at later) elsewhere e) c (here e)) in
         let groups : mapped (group_at later) s.groups.map ≡ mapped (group_at s) s.groups.map =
         mapped-same (group_at s) s.groups.map (group_at later) (λ d j at_j. ap group_of (pass p (s.size.contexts + j) row (s.rows (s.size.contexts + j)) (behind j))) in
-        let next : (j : ℕ) → counters_of (get_or (set s.counts job n) j nothing_counted) ≡ cond (eqb j job) (record (now.next j) { contexts = (now.next j).contexts + 1 }) (now.next j) =
+        let next : (j : ℕ) → get_or (set s.counts job n) j nothing_counted ≡ cond (eqb j job) (record (now.next j) { contexts = (now.next j).contexts + 1 }) (now.next j) =
         counted-at job n (λ m. record m { contexts = m.contexts + 1 }) (omega (arith, known, sound.sizes.counts)) counted in
         (λ e. record { contexts = contexts e; groups = groups e; next = λ j. next j e; size = s.size })
         ∙ ap (λ d. record {

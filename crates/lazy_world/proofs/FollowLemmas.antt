@@ -9,8 +9,9 @@ use Rattle.lwc_base.specs.Fresh.{IsFresh}
 use Rattle.lwc_base.specs.Modes.{IsSpec}
 use Rattle.lwc_base.specs.Ranges as base
 use Rattle.lwc_base.specs.Ranges.{ranges_of}
-use Rattle.lwc_base.specs.World.{World, Context, Counters, change_context, changed_context, context, new_context}
+use Rattle.lwc_base.specs.World.{World, Context, change_context, changed_context, context, new_context}
 use Rattle.lwc_types.specs.declared.key.Key.TheVariants.{Page}
+use Rattle.lwc_types.specs.declared.counters.Counters.{Counters}
 use Rattle.lwc_types.specs.declared.limits.TheConstants.{MOST_PAGES}
 use Rattle.lwc_types.specs.declared.name.Name.{Name}
 use Rattle.lwc_types.specs.declared.name.Tag.{Tag}

@@ -9,21 +9,21 @@ use Rattle.lwc_base.specs.Fresh.{IsFresh}
 use Rattle.lwc_base.specs.Keys.{with_key}
 use Rattle.lwc_base.specs.Modes.{mode_or_copy}
 use Rattle.lwc_base.specs.Sharing.{moved_values}
-use Rattle.lwc_base.specs.World.{World, Context, Counters, Group, add_group, change_counters, change_group, context, group, new_group, new_value, next_group}
+use Rattle.lwc_base.specs.World.{World, Context, Group, add_group, change_counters, change_group, context, group, new_group, new_value, next_group, nothing_counted}
 use Rattle.lwc_types.specs.declared.key.Key.{Key}
+use Rattle.lwc_types.specs.declared.counters.Counters.{Counters}
 use Rattle.lwc_types.specs.declared.key.Key.TheVariants.{Page, Slot, Cred}
 use Rattle.lwc_types.specs.declared.key.TheConstants.{NOBODY}
 use Rattle.lwc_types.specs.declared.name.Name.{Name}
 use Rattle.lwc_types.specs.declared.right.Right.{Right}
 use Rattle.ctx_table.specs.NameTables.{ArePlaced, NameTable}
-use Rattle.lazy_world.specs.declared.counts.Counts.{Counts}
 use Rattle.lazy_world.specs.declared.key_value.KeyValue.TheVariants as values
 use Rattle.lazy_world.specs.declared.transfer.Transfer.TheVariants.{Move}
 use Rattle.lazy_world.specs.Cells.{Row, put_row}
 use Rattle.lazy_world.specs.Mapped.{mapped}
 use Rattle.lazy_world.specs.Transfers.{transferred_row}
 use Rattle.lazy_world.specs.Sound.{HasOldTags, HasOneHome, IsAllOwn, IsEmpty, IsSound, IsWithin}
-use Rattle.lazy_world.specs.States.{Parts, context_at, context_of, counters_of, group_at, group_of, held, nothing_counted, registers_at, world_of}
+use Rattle.lazy_world.specs.States.{Parts, context_at, context_of, group_at, group_of, held, registers_at, world_of}
 use Rattle.lazy_world.proofs.AddLemmas.{counted-at, new_row, no_common, no_tag, no_tags, some_name, still_empty}
 use Rattle.lazy_world.proofs.KeyLemmas.{own-put}
 use Rattle.lazy_world.proofs.MappedLemmas.{mapped-insert, mapped-same}
@@ -44,7 +44,7 @@ module _ (s : Parts) (sound : IsSound s) (placed : ArePlaced s.contexts) (placed
   module _ (job : ℕ) (g : Name) (named : g ≡ next_group now job) (known : job < s.size.jobs)
       (p : ℕ) (inside : p < length s.groups.places) (is_free : get_or s.groups.places p None ≡ None)
       (table : NameTable) (map : table.map ≡ fm.insert s.groups.map g p) (places : table.places ≡ set s.groups.places p (Some g))
-      (n : Counts) (counted : counters_of n ≡ record (counters_of (get_or s.counts job nothing_counted)) { groups = (counters_of (get_or s.counts job nothing_counted)).groups + 1 }) where
+      (n : Counters) (counted : n ≡ record (get_or s.counts job nothing_counted) { groups = (get_or s.counts job nothing_counted).groups + 1 }) where
     abbrev at : ℕ
     at = s.size.contexts + p
 
@@ -80,7 +80,7 @@ module _ (s : Parts) (sound : IsSound s) (placed : ArePlaced s.contexts) (placed
         let groups : mapped (group_at later) table.map ≡ fm.insert now.groups g new_group =
         ap (mapped (group_at later)) map ∙ mapped-insert (group_at later) s.groups.map g p
         ∙ (λ e. fm.insert (mapped-same (group_at s) s.groups.map (group_at later) elsewhere e) g (here e)) in
-        let next : (j : ℕ) → counters_of (get_or (set s.counts job n) j nothing_counted) ≡ cond (eqb j job) (record (now.next j) { groups = (now.next j).groups + 1 }) (now.next j) =
+        let next : (j : ℕ) → get_or (set s.counts job n) j nothing_counted ≡ cond (eqb j job) (record (now.next j) { groups = (now.next j).groups + 1 }) (now.next j) =
         counted-at s sound job n (λ m. record m { groups = m.groups + 1 }) (omega (arith, known, sound.sizes.counts)) counted in
         (λ e. record { contexts = contexts e; groups = groups e; next = λ j. next j e; size = s.size })
         ∙ ap (λ d. record {

@@ -9,8 +9,9 @@ use Rattle.lwc_base.specs.declared.descriptor.Descriptor.{Descriptor}
 use Rattle.lwc_base.specs.Cells.{put_at, with_cell, with_value}
 use Rattle.lwc_base.specs.Fresh.{IsFresh}
 use Rattle.lwc_base.specs.Keys.{ValueOf, is_there, with_key}
-use Rattle.lwc_base.specs.World.{World, Context, Counters, Group, change_context, change_group, group}
+use Rattle.lwc_base.specs.World.{World, Context, Group, change_context, change_group, group}
 use Rattle.lwc_types.specs.declared.key.Key.{Key}
+use Rattle.lwc_types.specs.declared.counters.Counters.{Counters}
 use Rattle.lwc_types.specs.declared.key.Key.TheVariants as key
 use Rattle.lwc_types.specs.declared.name.Name.{Name}
 use Rattle.ctx_table.specs.NameTables.{ArePlaced}

@@ -3,7 +3,7 @@ use Rattle.std.proofs.Common.{◌≡◌, ℕ, List, length, refl, sym, subst, No
 use Rattle.std.specs.FinMap as fm
 use Rattle.std.proofs.lemmas.List.{length-replicate}
 use Rattle.lwc_base.specs.Fresh.{IsFresh}
-use Rattle.lwc_base.specs.World.{empty_world}
+use Rattle.lwc_base.specs.World.{empty_world, nothing_counted}
 use Rattle.lwc_types.specs.declared.key.Key.TheVariants.{Page, Slot, Cred}
 use Rattle.lwc_types.specs.declared.size.WorldSize.{WorldSize}
 use Rattle.world_face.specs.Calls.{IsSize}
@@ -12,7 +12,7 @@ use Rattle.cow_space.specs.Cells.{all_write}
 use Rattle.lazy_world.specs.Cells.{no_row}
 use Rattle.ctx_table.specs.NameTables.{NameTable}
 use Rattle.lazy_world.specs.Sound.{IsEmpty, IsSound}
-use Rattle.lazy_world.specs.States.{Parts, context_at, counters_of, group_at, nothing_counted, world_of}
+use Rattle.lazy_world.specs.States.{Parts, context_at, group_at, world_of}
 use Rattle.lazy_world.proofs.AddLemmas.{no_common, no_tag, no_tags}
 use Rattle.lazy_world.proofs.MappedLemmas.{mapped-empty}
 use Rattle.lwc_base.proofs.Facts.{stays_fresh}
@@ -44,7 +44,7 @@ module _ (size : WorldSize) (is_size : IsSize size) (registers : List KeptRegist
   world-opened = λ e. record {
     contexts = mapped-empty (context_at opened) e;
     groups = mapped-empty (group_at opened) e;
-    next = λ job. counters_of (at-new size.jobs job nothing_counted e);
+    next = λ job. at-new size.jobs job nothing_counted e;
     size = size;
   }
 

@@ -9,19 +9,19 @@ use Rattle.lwc_base.specs.declared.cell.Cell.TheVariants.{Own, Common}
 use Rattle.lwc_base.specs.Cells.{put_page, with_cell, with_value}
 use Rattle.lwc_base.specs.Fresh.{IsFresh}
 use Rattle.lwc_base.specs.Keys.{with_key}
-use Rattle.lwc_base.specs.World.{World, Context, Counters, change_counters, group}
+use Rattle.lwc_base.specs.World.{World, Context, change_counters, group, nothing_counted}
 use Rattle.lwc_types.specs.declared.key.Key.{Key}
+use Rattle.lwc_types.specs.declared.counters.Counters.{Counters}
 use Rattle.lwc_types.specs.declared.key.Key.TheVariants.{Page, Slot, Cred}
 use Rattle.lwc_types.specs.declared.name.Name.{Name}
 use Rattle.lwc_types.specs.declared.name.Tag.{Tag}
 use Rattle.lwc_types.specs.declared.page.PageValue.{PageValue}
 use Rattle.lwc_types.specs.declared.page.PageValue.TheVariants.{Data}
 use Rattle.ctx_table.specs.NameTables.{ArePlaced}
-use Rattle.lazy_world.specs.declared.counts.Counts.{Counts}
 use Rattle.lazy_world.specs.Cells.{Row, is_nothing, is_own, put_row}
 use Rattle.lazy_world.specs.Memory.{holder, holder_of}
 use Rattle.lazy_world.specs.Sound.{HasOldTags, HasOneHome, IsAllOwn, IsSound, IsWithin}
-use Rattle.lazy_world.specs.States.{Parts, counters_of, group_of, held, nothing_counted, world_of}
+use Rattle.lazy_world.specs.States.{Parts, group_of, held, world_of}
 use Rattle.lazy_world.proofs.AddLemmas.{counted-at}
 use Rattle.lazy_world.proofs.PageLemmas.{no_group, pages-put_page, pages-row}
 use Rattle.lazy_world.proofs.PlaceLemmas.{choose, pass}
@@ -179,12 +179,12 @@ module _ (s : Parts) (sound : IsSound s) where
         (pages-row s later j (with_page p v (s.rows j)) sound.pages refl pages (λ q g is. pages g q (sound.pages j q g (common-page p q v (s.rows j) g is))))
 
   -- a job takes tags
-  module _ (job : ℕ) (known : job < s.size.jobs) (n : Counts) (taken : ℕ)
-      (counted : counters_of n ≡ record (counters_of (get_or s.counts job nothing_counted)) { tags = (counters_of (get_or s.counts job nothing_counted)).tags + taken }) where
+  module _ (job : ℕ) (known : job < s.size.jobs) (n : Counters) (taken : ℕ)
+      (counted : n ≡ record (get_or s.counts job nothing_counted) { tags = (get_or s.counts job nothing_counted).tags + taken }) where
     abbrev more : Parts
     more = record s { counts = set s.counts job n }
 
-    next-now : (k : ℕ) → counters_of (get_or (set s.counts job n) k nothing_counted) ≡ cond (eqb k job) (record (now.next k) { tags = (now.next k).tags + taken }) (now.next k)
+    next-now : (k : ℕ) → get_or (set s.counts job n) k nothing_counted ≡ cond (eqb k job) (record (now.next k) { tags = (now.next k).tags + taken }) (now.next k)
     next-now = counted-at s sound job n (λ m. record m { tags = m.tags + taken }) (omega (arith, known, sound.sizes.counts)) counted
 
     pub counted-world : world_of more ≡ change_counters now job (λ m. record m { tags = m.tags + taken })

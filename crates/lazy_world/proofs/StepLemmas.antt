@@ -6,8 +6,9 @@ use Rattle.std.proofs.lemmas.Bool.{and_parts}
 use Rattle.std.proofs.lemmas.List.FromFn.{get_or-range_with_len, length-range_with_len}
 use Rattle.lwc_base.specs.Cells.{page_at, put_page}
 use Rattle.lwc_base.specs.Store.{Piece}
-use Rattle.lwc_base.specs.World.{World, Counters, change_counters, is_live}
+use Rattle.lwc_base.specs.World.{World, change_counters, is_live}
 use Rattle.lwc_types.specs.declared.key.Key.{Key}
+use Rattle.lwc_types.specs.declared.counters.Counters.{Counters}
 use Rattle.lwc_types.specs.declared.key.Key.TheVariants.{Page}
 use Rattle.lwc_types.specs.declared.name.Name.{Name}
 use Rattle.lwc_types.specs.declared.page.PageValue.TheVariants.{Zero}

@@ -12,8 +12,9 @@ use Rattle.lwc_base.specs.Frames.{is_parting, used}
 use Rattle.lwc_base.specs.Memory.{is_present, touched}
 use Rattle.lwc_base.specs.Rights.{is_writable, may_write}
 use Rattle.lwc_base.specs.Store.{Piece, Stored, Absent, ReadOnly, Full, Done, after_store, bytes_after, page_value_at, parting_count, stored_pages, put_pages, store, stored_value}
-use Rattle.lwc_base.specs.World.{World, Context, Counters, Group, change_context, change_counters, change_group, changed_context, changed_group, context, group}
+use Rattle.lwc_base.specs.World.{World, Context, Group, change_context, change_counters, change_group, changed_context, changed_group, context, group}
 use Rattle.lwc_types.specs.declared.key.Key.TheVariants.{Page}
+use Rattle.lwc_types.specs.declared.counters.Counters.{Counters}
 use Rattle.lwc_types.specs.declared.name.Name.{Name}
 use Rattle.lwc_types.specs.declared.page.PageValue.{PageValue}
 use Rattle.lwc_types.specs.declared.page.PageValue.TheVariants.{Zero}

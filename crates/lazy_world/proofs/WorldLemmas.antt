@@ -5,7 +5,7 @@ use Rattle.std.specs.Option.{option_map}
 use Rattle.std.specs.FinMap as fm
 use Rattle.std.proofs.lemmas.List.{get_or-set_same}
 use Rattle.lwc_base.specs.Cells.{slot_at, value_at, value_of}
-use Rattle.lwc_base.specs.World.{World, Context, Group, change_context, changed_context, change_group, changed_group, context, group, is_live, new_context, new_group}
+use Rattle.lwc_base.specs.World.{World, Context, Group, change_context, changed_context, change_group, changed_group, context, group, is_live, new_context, new_group, nothing_counted}
 use Rattle.lwc_types.specs.declared.key.Key.TheVariants.{Page, Slot}
 use Rattle.lwc_types.specs.declared.name.Name.{Name}
 use Rattle.lwc_types.specs.declared.right.Right.{Right}
@@ -18,7 +18,7 @@ use Rattle.lwc_base.specs.declared.cell.Cell.{Cell}
 use Rattle.lwc_base.specs.declared.cell.Cell.TheVariants.{Own, Common}
 use Rattle.lwc_types.specs.declared.page.PageValue.{PageValue}
 use Rattle.lazy_world.specs.Mapped.{mapped}
-use Rattle.lazy_world.specs.States.{Parts, context_at, context_of, counters_of, group_at, group_of, held, no_registers, nothing_counted, registers_at, world_of}
+use Rattle.lazy_world.specs.States.{Parts, context_at, context_of, group_at, group_of, held, no_registers, registers_at, world_of}
 use Rattle.lazy_world.proofs.MappedLemmas.{mapped-change, mapped-get, mapped-len, mapped-keys, mapped-live, mapped-same}
 use Rattle.lazy_world.proofs.PlaceLemmas.{choose, pass}
 use Rattle.lwc_types.proofs.Small.{same_some}
@@ -107,7 +107,7 @@ module _ (s : Parts) where
         (λ e. record {
           contexts = (ap (λ (table : NameTable). mapped (context_at t) table.map) contexts ∙ mapped-change (context_at s) s.contexts.map (context_at t) c i found others) e;
           groups = (ap (λ (table : NameTable). mapped (group_at t) table.map) groups ∙ mapped-same (group_at s) s.groups.map (group_at t) same_groups) e;
-          next = λ job. counters_of (get_or (counts e) job nothing_counted);
+          next = λ job. get_or (counts e) job nothing_counted;
           size = size e;
         })
         ∙ ap (λ x. record now { contexts = fm.insert now.contexts c x }) is

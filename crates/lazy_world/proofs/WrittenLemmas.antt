@@ -9,8 +9,9 @@ use Rattle.lwc_base.specs.Cells.{page_at, put_page}
 use Rattle.lwc_base.specs.Frames as frames
 use Rattle.lwc_base.specs.Frames.{own_value}
 use Rattle.lwc_base.specs.Store.{Piece, bytes_after, page_value_at, stored_value}
-use Rattle.lwc_base.specs.World.{World, Counters, change_counters}
+use Rattle.lwc_base.specs.World.{World, change_counters, nothing_counted}
 use Rattle.lwc_types.specs.declared.key.Key.TheVariants.{Page}
+use Rattle.lwc_types.specs.declared.counters.Counters.{Counters}
 use Rattle.lwc_types.specs.declared.name.Name.{Name}
 use Rattle.lwc_types.specs.declared.name.Tag.{Tag}
 use Rattle.lwc_types.specs.declared.page.PageValue.{PageValue}
@@ -23,11 +24,10 @@ use Rattle.cow_space.specs.Tags as places
 use Rattle.cow_space.specs.Tags.{own_values, parts}
 use Rattle.cow_space.specs.Writes.{page_value, write_page, written_value}
 use Rattle.ctx_table.specs.NameTables.{ArePlaced}
-use Rattle.lazy_world.specs.declared.counts.Counts.{Counts}
 use Rattle.lazy_world.specs.Cells.{Row, is_nothing, put_row}
 use Rattle.lazy_world.specs.Memory.{holder, page_in}
 use Rattle.lazy_world.specs.Sound.{IsSound}
-use Rattle.lazy_world.specs.States.{Parts, context_at, counters_of, nothing_counted, world_of}
+use Rattle.lazy_world.specs.States.{Parts, context_at, world_of}
 use Rattle.lazy_world.specs.Stores.{parts_at, store_pages, taken_at, value_after}
 use Rattle.lazy_world.proofs.HolderLemmas.{holder-own, page-held, page-lost}
 use Rattle.lazy_world.proofs.MemoryLemmas.{page-in}
@@ -175,8 +175,8 @@ module _ (s : Parts) (sound : IsSound s) (placed : ArePlaced s.contexts) (placed
             ∙ sym (ap (λ (b : Bool). change_counters (put_page w c p (value_after w c job piece p)) job (λ m. record m { tags = m.tags + cond b 1 0 })) stays)
             ∙ sym (store-one w c job piece p)
 
-    module _ (known : job < s.size.jobs) (inside : j < length cells) (piece : Piece) (n : Counts)
-        (counted : counters_of n ≡ record (counters_of (get_or s.counts job nothing_counted)) { tags = (counters_of (get_or s.counts job nothing_counted)).tags + taken_at w c p }) where
+    module _ (known : job < s.size.jobs) (inside : j < length cells) (piece : Piece) (n : Counters)
+        (counted : n ≡ record (get_or s.counts job nothing_counted) { tags = (get_or s.counts job nothing_counted).tags + taken_at w c p }) where
       abbrev v : PageValue
       v = written_value cells j p piece tag
 

@@ -3,14 +3,14 @@ use Rattle.std.specs.Prelude.{ℕ, ◌+◌, List, [], None, slice_index_or}
 use Rattle.lwc_base.specs.declared.cell.Cell.{Cell}
 use Rattle.lwc_base.specs.declared.cell.Cell.TheVariants.{Own, Common}
 use Rattle.lwc_base.specs.Keys.{ValueOf, nothing}
-use Rattle.lwc_base.specs.World.{Context, Counters, Group, World}
+use Rattle.lwc_base.specs.World.{Context, Group, World, nothing_counted}
 use Rattle.lwc_types.specs.declared.key.Key.{Key}
+use Rattle.lwc_types.specs.declared.counters.Counters.{Counters}
 use Rattle.lwc_types.specs.declared.right.Right.{Right}
 use Rattle.lwc_types.specs.declared.size.WorldSize.{WorldSize}
 use Rattle.lwc_types.specs.Registers.{fresh_registers}
 use Rattle.ctx_table.specs.NameTables.{NameTable}
 use Rattle.lazy_world.specs.Registers.{KeptRegisters}
-use Rattle.lazy_world.specs.declared.counts.Counts.{Counts}
 use Rattle.lazy_world.specs.Cells.{Row}
 use Rattle.lazy_world.specs.Mapped.{mapped}
 
@@ -23,7 +23,7 @@ pub record Parts : Type 0 where
   pub registers : List KeptRegisters
   pub contexts : NameTable
   pub groups : NameTable
-  pub counts : List Counts
+  pub counts : List Counters
 
 -- the registers of a context before it has any
 abbrev pub no_registers : KeptRegisters
@@ -59,19 +59,11 @@ context_at s i = context_of (s.rows i) (s.rights i) (registers_at s.registers i)
 abbrev pub group_at : Parts → ℕ → Group
 group_at s j = group_of (s.rows (s.size.contexts + j))
 
--- what a job has counted
-abbrev pub counters_of : Counts → Counters
-counters_of counts = record { contexts = counts.contexts; groups = counts.groups; tags = counts.tags }
-
--- what a job has counted before it has named anything
-abbrev pub nothing_counted : Counts
-nothing_counted = record { contexts = 0; groups = 0; tags = 0 }
-
 -- the world of these parts
 unfoldable pub world_of : Parts → World
 world_of s = record {
   contexts = mapped (context_at s) s.contexts.map;
   groups = mapped (group_at s) s.groups.map;
-  next = λ job. counters_of (slice_index_or s.counts job nothing_counted);
+  next = λ job. slice_index_or s.counts job nothing_counted;
   size = s.size;
 }

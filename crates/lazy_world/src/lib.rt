@@ -4,7 +4,6 @@
 
 pub mod cloning;
 pub mod copying;
-pub mod counts;
 pub mod dropping;
 pub mod face;
 pub mod key_value;

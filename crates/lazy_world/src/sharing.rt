@@ -12,12 +12,11 @@ ghost use Rattle.lwc_types.specs.declared.key.Key.TheVariants.{Page, Slot, Cred}
 ghost use Rattle.lwc_types.specs.declared.limits.TheConstants.{MOST_PAGES, MOST_RANGES};
 ghost use Rattle.lazy_world.specs.Transfers.{moves};
 
-use crate::counts::Counts;
 use crate::pieces::Origins;
 use crate::ranges::names_slots;
 use crate::transfer::Transfer;
 use crate::world::PlacedWorld;
-use lwc_base::{Cell, Item, Items, Key, Mode, NOBODY, Name, PageNumber, Range, SLOTS};
+use lwc_base::{Cell, Counters, Item, Items, Key, Mode, NOBODY, Name, PageNumber, Range, SLOTS};
 use range_map::{PageState, SegmentKind};
 use res_spec::mode_of;
 
@@ -224,7 +223,7 @@ impl PlacedWorld {
         let j = self.groups.insert(name);
         self.places
             .put_uid(self.size.contexts as usize + j, Cell::Own(NOBODY));
-        self.counts[job as usize] = Counts {
+        self.counts[job as usize] = Counters {
             groups: counts.groups + 1,
             ..counts
         };

@@ -14,10 +14,9 @@ ghost use Rattle.cow_space.specs.Writes.{write_page, written_value};
 ghost use Rattle.lazy_world.specs.Cells.{put_row};
 ghost use Rattle.lazy_world.specs.Seen.{count, frame_count, pages, rights, rows};
 
-use crate::counts::Counts;
 use crate::places::Places;
 use crate::world::PlacedWorld;
-use lwc_base::{Name, PageNumber, Range, Right, StoreFault, Tag, touched_pages};
+use lwc_base::{Counters, Name, PageNumber, Range, Right, StoreFault, Tag, touched_pages};
 use range_map::SegmentKind;
 
 impl Places {
@@ -204,7 +203,7 @@ impl PlacedWorld {
             k: counts.tags,
         };
         let parted = self.places.write(j, page, at, piece, tag);
-        self.counts[job as usize] = Counts {
+        self.counts[job as usize] = Counters {
             tags: counts.tags + u32::from(parted),
             ..counts
         };

@@ -5,14 +5,13 @@ ghost use Rattle.ctx_table.specs.NameTables.{ArePlaced};
 ghost use Rattle.world_face.specs.Calls.{IsSize};
 ghost use Rattle.lazy_world.specs.Seen.{count, frame_count, rights, rows};
 ghost use Rattle.lazy_world.specs.Sound.{IsSound, named_cell-prop};
-ghost use Rattle.lazy_world.specs.States.{nothing_counted};
+ghost use Rattle.lwc_base.specs.World.{nothing_counted};
 
-use crate::counts::Counts;
 use crate::places::Places;
 use crate::registers::Registers;
 use ctx_table::Names;
 use late_rows::LateRows;
-use lwc_base::{OutOfMemory, WorldSize};
+use lwc_base::{Counters, OutOfMemory, WorldSize};
 use std::alloc::Global;
 
 /// A world whose contexts and groups share pages and descriptors. The context at place i of `contexts`
@@ -25,7 +24,7 @@ pub struct PlacedWorld {
     pub(crate) registers: LateRows<Registers>,
     pub(crate) contexts: Names,
     pub(crate) groups: Names,
-    pub(crate) counts: Vec<Counts>,
+    pub(crate) counts: Vec<Counters>,
     ghost placed: { ArePlaced contexts },
     ghost placed_groups: { ArePlaced groups },
     ghost count: { count places ≡ size.contexts + size.groups },
@@ -42,10 +41,10 @@ pub struct PlacedWorld {
 }
 
 /// What the jobs have counted before they have named anything. The only error is out of memory.
-fn nothing_counted(alloc: Global, jobs: u32) -> Result<Vec<Counts>, OutOfMemory>
+fn nothing_counted(alloc: Global, jobs: u32) -> Result<Vec<Counters>, OutOfMemory>
     ensures { IfOk result (λ counts. counts.items ≡ replicate jobs nothing_counted) }
 {
-    let nothing = Counts {
+    let nothing = Counters {
         contexts: 0,
         groups: 0,
         tags: 0,
@@ -58,7 +57,7 @@ fn nothing_counted(alloc: Global, jobs: u32) -> Result<Vec<Counts>, OutOfMemory>
 fn nothing_kept(
     alloc: Global,
     size: &WorldSize,
-) -> Result<(LateRows<Registers>, Vec<Counts>), OutOfMemory>
+) -> Result<(LateRows<Registers>, Vec<Counters>), OutOfMemory>
     requires { IsSize size.now }
     ensures registers { IfOk result (λ kept. length kept.0 ≡ size.now.contexts) }
     ensures counts { IfOk result (λ kept. kept.1.items ≡ replicate size.now.jobs nothing_counted) }

@@ -3,11 +3,10 @@ ghost use Rattle.std.specs.FinMap as fm;
 ghost use Rattle.lwc_types.specs.declared.key.TheConstants.{SLOTS};
 ghost use Rattle.lwc_types.specs.declared.limits.TheConstants.{MOST_THREADS};
 
-use crate::counts::Counts;
 use crate::key_value::KeyValue;
 use crate::world::PlacedWorld;
 use access_cap::owned;
-use lwc_base::{Lent, Name, Regs, SlotNumber};
+use lwc_base::{Counters, Lent, Name, Regs, SlotNumber};
 
 impl PlacedWorld {
     ghost use Rattle.lwc_base.specs.Cells.{put_at, put_slot, put_uid, slot_at, with_value};
@@ -127,7 +126,7 @@ impl PlacedWorld {
         let i = self.contexts.insert(name);
         self.places.put(i, KeyValue::Cred(uid));
         self.registers[i].begin(entry);
-        self.counts[job as usize] = Counts {
+        self.counts[job as usize] = Counters {
             contexts: counts.contexts + 1,
             ..counts
         };

@@ -17,11 +17,12 @@ use Rattle.lwc_base.specs.Modes.{mode, mode_or_copy}
 use Rattle.lwc_base.specs.Overlay.{overlaid_cell, with_overlay}
 use Rattle.lwc_base.specs.Sharing.{is_moved, moved_value, moved_values, with_shared, share, cloned_cell, cloned_context}
 use Rattle.lwc_base.specs.Store.{Piece, after_store, stored_pages, put_pages}
-use Rattle.lwc_base.specs.World.{World, Context, Group, Counters, context, group, is_live, change_context, change_group, change_counters, add_context, next_context, add_group, next_group, empty_world}
+use Rattle.lwc_base.specs.World.{World, Context, Group, context, group, is_live, change_context, change_group, change_counters, add_context, next_context, add_group, next_group, empty_world}
 use Rattle.lwc_base.proofs.Keys.{with_key-cases, on_pages-cases}
 use Rattle.lwc_base.proofs.Lookups.{group-dead, after_change_context, after_change_group}
 use Rattle.lwc_base.proofs.Puts.{live_of_common, after_put_at}
 use Rattle.lwc_base.proofs.Tables.{each-insert}
+use Rattle.lwc_types.specs.declared.counters.Counters.{Counters}
 use Rattle.lwc_types.specs.declared.key.Key.{Key}
 use Rattle.lwc_types.specs.declared.key.Key.TheVariants.{Page}
 use Rattle.lwc_types.specs.declared.name.Name.{Name}

@@ -16,7 +16,7 @@ use Rattle.lwc_base.specs.Memory.{byte_at, is_present, touched}
 use Rattle.lwc_base.specs.Modes.{IsKey, number_of}
 use Rattle.lwc_base.specs.Sound.{HasItsGroups, IsSound, IsSoundPage, common_keys, sound_pages}
 use Rattle.lwc_base.specs.Store.{Piece, Done, after_store, byte_after, bytes_after, page_value_at, parting_count, stored_pages, put_pages, store, stored_value}
-use Rattle.lwc_base.specs.World.{World, Counters, context, group, is_live, change_counters}
+use Rattle.lwc_base.specs.World.{World, context, group, is_live, change_counters}
 use Rattle.lwc_base.proofs.Common.{put-itself, put-other_key}
 use Rattle.lwc_base.proofs.Fresh.{fresh-after_store}
 use Rattle.lwc_base.proofs.Holders.{keeps-change_counters, keeps-put_at, keeps-put_pages, may_have-free}
@@ -24,6 +24,7 @@ use Rattle.lwc_base.proofs.Puts.{names-put_at, takes-after_store}
 use Rattle.lwc_base.proofs.Sound.{groups-change_counters, groups-put_at, page_at-sound, pages-extends}
 use Rattle.lwc_base.proofs.Stored.{IsDone, first_touched, is_done, length-bytes_after, length-zero_page, present_value, touched_count, touched-covers, touched-range}
 use Rattle.lwc_base.proofs.Tags.{times, times-itself, times-nothing, times-other, times-put_page, used-more, used-same}
+use Rattle.lwc_types.specs.declared.counters.Counters.{Counters}
 use Rattle.lwc_types.specs.declared.key.Key.TheVariants.{Page}
 use Rattle.lwc_types.specs.declared.name.Name.{Name}
 use Rattle.lwc_types.specs.declared.name.Tag.{Tag}

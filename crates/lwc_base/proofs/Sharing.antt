@@ -12,9 +12,10 @@ use Rattle.lwc_base.specs.Fresh.{IsFresh}
 use Rattle.lwc_base.specs.Keys.{ValueOf, nothing}
 use Rattle.lwc_base.specs.Modes.{mode_or_copy}
 use Rattle.lwc_base.specs.Sharing.{is_moved, moved_value, moved_values, needs_group, shared_cell, with_shared, share}
-use Rattle.lwc_base.specs.World.{World, Context, Counters, Group, context, group, change_context, add_group, next_group}
+use Rattle.lwc_base.specs.World.{World, Context, Group, context, group, change_context, add_group, next_group}
 use Rattle.lwc_base.proofs.Lookups.{changes-change_context, adds-add_group}
 use Rattle.lwc_base.proofs.Puts.{live_of_common}
+use Rattle.lwc_types.specs.declared.counters.Counters.{Counters}
 use Rattle.lwc_types.specs.declared.key.Key.{Key}
 use Rattle.lwc_types.specs.declared.key.Key.TheVariants.{Page, Slot, Cred}
 use Rattle.lwc_types.specs.declared.name.Name.{Name}

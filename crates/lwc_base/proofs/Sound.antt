@@ -19,7 +19,7 @@ use Rattle.lwc_base.specs.Overlay.{overlay, with_overlay}
 use Rattle.lwc_base.specs.Saved.{save, with_saved}
 use Rattle.lwc_base.specs.Sharing.{cloned_context, clone_context, is_moved, moved_value, moved_values, needs_group, share}
 use Rattle.lwc_base.specs.Sound.{HasItsGroups, HasValue, IsSound, IsSoundPage, IsSoundValue, common_keys, live_groups, sound_pages}
-use Rattle.lwc_base.specs.World.{World, Context, Counters, Group, context, group, is_live, new_context, new_value, change_context, change_counters, change_group, add_context, empty_world, next_group}
+use Rattle.lwc_base.specs.World.{World, Context, Group, context, group, is_live, new_context, new_value, change_context, change_counters, change_group, add_context, empty_world, next_group}
 use Rattle.lwc_base.proofs.Fresh.{fresh-empty_world, fresh-put_at, fresh-map_pages, fresh-unmap_pages, fresh-add_context, fresh-overlay, fresh-save, fresh-share, rises-itself, rises-with_context, rises-with_group}
 use Rattle.lwc_base.proofs.Holders.{keeps-weaker, in_cell-weaker, keeps-empty_world, keeps-change_counters, keeps-put_at, keeps-on_pages, keeps-add_context, keeps-change_context, keeps-share, keeps-with_overlay, value_at-keeps, in_clone, lets-everywhere}
 use Rattle.lwc_base.proofs.ItemModes.{named-key}
@@ -29,6 +29,7 @@ use Rattle.lwc_base.proofs.Puts.{after_put_at}
 use Rattle.lwc_base.proofs.Reaped.{context-kept, group-kept, group-left, live-was_live}
 use Rattle.lwc_base.proofs.Reaps.{fresh-reap, keeps-reap}
 use Rattle.lwc_base.proofs.Sharing.{shares-share}
+use Rattle.lwc_types.specs.declared.counters.Counters.{Counters}
 use Rattle.lwc_types.specs.declared.key.Key.{Key}
 use Rattle.lwc_types.specs.declared.key.Key.TheVariants.{Page, Slot, Cred}
 use Rattle.lwc_types.specs.declared.name.Name.{Name}

@@ -14,9 +14,10 @@ use Rattle.lwc_base.specs.Overlay.{overlay, with_overlay}
 use Rattle.lwc_base.specs.Saved.{save, with_saved}
 use Rattle.lwc_base.specs.Sharing.{clone_context, cloned_context, moved_values, needs_group, share, with_shared}
 use Rattle.lwc_base.specs.Store.{Piece, after_store, parting_count, put_pages}
-use Rattle.lwc_base.specs.World.{World, Context, Counters, Group, add_context, add_group, change_context}
+use Rattle.lwc_base.specs.World.{World, Context, Group, add_context, add_group, change_context}
 use Rattle.lwc_base.specs.World.{change_counters, change_group, context, empty_world, group, groups_of, is_live}
 use Rattle.lwc_base.specs.World.{live_of, next_context, next_group}
+use Rattle.lwc_types.specs.declared.counters.Counters.{Counters}
 use Rattle.lwc_types.specs.declared.key.Key.{Key}
 use Rattle.lwc_types.specs.declared.name.Name.{Name}
 use Rattle.lwc_types.specs.declared.page.PageValue.{PageValue}

@@ -1,7 +1,8 @@
 -- Worlds in which each name is below what its job has counted, so that the next names of a job are new.
 use Rattle.std.specs.Prelude.{◌≡◌, ℕ, ◌<◌, ◌≤◌, true}
 use Rattle.lwc_base.specs.Holders.{Rules, everywhere, InContext, IsGroup, Keeps}
-use Rattle.lwc_base.specs.World.{World, Context, Counters, is_live}
+use Rattle.lwc_base.specs.World.{World, Context, is_live}
+use Rattle.lwc_types.specs.declared.counters.Counters.{Counters}
 use Rattle.lwc_types.specs.declared.name.Name.{Name}
 
 -- a job has named a context

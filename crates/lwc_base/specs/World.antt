@@ -5,6 +5,7 @@ use Rattle.lwc_base.specs.declared.cell.Cell.{Cell}
 use Rattle.lwc_base.specs.declared.cell.Cell.TheVariants.{Own}
 use Rattle.lwc_base.specs.declared.descriptor.Descriptor.TheVariants.{Empty}
 use Rattle.lwc_base.specs.Keys.{ValueOf, nothing}
+use Rattle.lwc_types.specs.declared.counters.Counters.{Counters}
 use Rattle.lwc_types.specs.declared.key.Key.{Key}
 use Rattle.lwc_types.specs.declared.key.Key.TheVariants.{Page, Slot, Cred}
 use Rattle.lwc_types.specs.declared.name.Name.{Name}
@@ -26,12 +27,6 @@ pub record Context : Type 0 where
 -- a group: the values that contexts have in common, and nothing under the other keys
 pub record Group : Type 0 where
   pub value : (k : Key) → ValueOf k
-
--- the numbers of contexts, groups and tags that a job has named; each is the number of the next one
-pub record Counters : Type 0 where
-  pub contexts : ℕ
-  pub groups : ℕ
-  pub tags : ℕ
 
 -- the world: contexts and groups, what each job has counted, and the size
 pub record World : Type 0 where
@@ -89,12 +84,16 @@ change_group w g change = changed_group w g change (fm.get w.groups g)
 unfoldable pub change_counters : World → ℕ → (Counters → Counters) → World
 change_counters w job change = record w { next = λ j. if j == job then change (w.next j) else w.next j }
 
+-- what a job has counted before it has named anything
+abbrev pub nothing_counted : Counters
+nothing_counted = record { contexts = 0; groups = 0; tags = 0 }
+
 -- a world of a size, without contexts and groups, in which nothing has been counted
 unfoldable pub empty_world : WorldSize → World
 empty_world size = record {
   contexts = fm.empty;
   groups = fm.empty;
-  next = λ j. record { contexts = 0; groups = 0; tags = 0 };
+  next = λ j. nothing_counted;
   size = size;
 }
 

@@ -12,11 +12,11 @@ use Rattle.kernel_core.specs.Machine.{home_of}
 use Rattle.kernel_core.specs.Start.{counted, first_page, first_slot, first_workers, home_context, home_value, image_tag, serve_world, start, world_of}
 use Rattle.lwc_base.proofs.Facts.{orders}
 use Rattle.lwc_base.specs.Channels.{opened}
-use Rattle.lwc_base.specs.World.{Counters}
 use Rattle.lwc_base.specs.declared.cell.Cell.TheVariants.{Own}
 use Rattle.lwc_base.specs.declared.descriptor.Descriptor.{Descriptor}
 use Rattle.lwc_base.specs.declared.descriptor.Descriptor.TheVariants.{Empty, Console, File}
 use Rattle.lwc_types.specs.Names.{name_cmp}
+use Rattle.lwc_types.specs.declared.counters.Counters.{Counters}
 use Rattle.lwc_types.specs.declared.key.TheConstants.{SLOTS}
 use Rattle.lwc_types.specs.declared.key.Key.{Key}
 use Rattle.lwc_types.specs.declared.key.Key.TheVariants.{Page, Slot, Cred}

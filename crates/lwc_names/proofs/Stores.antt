@@ -8,8 +8,9 @@ use Rattle.lwc_base.specs.Frames.{is_parting, used}
 use Rattle.lwc_base.specs.Memory.{is_present, touched}
 use Rattle.lwc_base.specs.Rights.{is_writable, may_write, right_at}
 use Rattle.lwc_base.specs.Store.{Piece, Absent, ReadOnly, Full, Done, after_store, bytes_after, page_value_at, parting_count, put_pages, store, stored_pages, stored_value}
-use Rattle.lwc_base.specs.World.{World, Context, Counters, change_counters}
+use Rattle.lwc_base.specs.World.{World, Context, change_counters}
 use Rattle.lwc_types.specs.Pages.{bytes_of}
+use Rattle.lwc_types.specs.declared.counters.Counters.{Counters}
 use Rattle.lwc_types.specs.declared.key.Key.TheVariants.{Page}
 use Rattle.lwc_types.specs.declared.name.Name.{Name}
 use Rattle.lwc_types.specs.declared.name.Tag.{Tag}

@@ -7,11 +7,12 @@ use Rattle.std.specs.FinMap as fm
 use Rattle.lwc_base.specs.Cells.{value_at, value_of}
 use Rattle.lwc_base.proofs.Facts.{orders}
 use Rattle.lwc_base.specs.Keys.{ValueOf, is_there, nothing}
-use Rattle.lwc_base.specs.World.{World, Context, Counters, Group, add_context, add_group, change_context, change_counters, change_group, changed_context, changed_group, context, group, is_live, new_context, new_group, new_value, next_context, next_group}
+use Rattle.lwc_base.specs.World.{World, Context, Group, add_context, add_group, change_context, change_counters, change_group, changed_context, changed_group, context, group, is_live, new_context, new_group, new_value, next_context, next_group}
 use Rattle.lwc_base.specs.declared.cell.Cell.{Cell}
 use Rattle.lwc_base.specs.declared.cell.Cell.TheVariants.{Own, Common}
 use Rattle.lwc_types.specs.Names.{name_cmp}
 use Rattle.lwc_types.specs.Registers.{fresh_registers}
+use Rattle.lwc_types.specs.declared.counters.Counters.{Counters}
 use Rattle.lwc_types.specs.declared.key.Key.{Key}
 use Rattle.lwc_types.specs.declared.key.Key.TheVariants.{Page, Slot, Cred}
 use Rattle.lwc_types.specs.declared.name.Name.{Name}

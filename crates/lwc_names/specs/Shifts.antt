@@ -4,22 +4,19 @@ use Rattle.std.specs.Option.{option_map}
 use Rattle.std.specs.FinMap as fm
 use Rattle.lwc_base.specs.Channels.{Channels}
 use Rattle.lwc_base.specs.Keys.{ValueOf}
-use Rattle.lwc_base.specs.World.{World, Context, Counters, Group}
+use Rattle.lwc_base.specs.World.{World, Context, Group, nothing_counted}
 use Rattle.lwc_base.specs.declared.cell.Cell.{Cell}
 use Rattle.lwc_base.specs.declared.cell.Cell.TheVariants.{Own, Common}
 use Rattle.lwc_base.specs.declared.descriptor.Descriptor.{Descriptor}
 use Rattle.lwc_base.specs.declared.descriptor.Descriptor.TheVariants.{Empty, Console, File, Request, Reply, Ctx}
 use Rattle.lwc_types.specs.Names.{name_cmp}
+use Rattle.lwc_types.specs.declared.counters.Counters.{Counters}
 use Rattle.lwc_types.specs.declared.key.Key.{Key}
 use Rattle.lwc_types.specs.declared.key.Key.TheVariants.{Page, Slot, Cred}
 use Rattle.lwc_types.specs.declared.name.Name.{Name}
 use Rattle.lwc_types.specs.declared.name.Tag.{Tag}
 use Rattle.lwc_types.specs.declared.page.PageValue.{PageValue}
 use Rattle.lwc_types.specs.declared.page.PageValue.TheVariants.{Zero, Data}
-
--- a job that has counted nothing
-abbrev pub nothing_counted : Counters
-nothing_counted = record { contexts = 0; groups = 0; tags = 0 }
 
 module _ (r : ℕ) where
   -- the number of a job: job 0 stays, and each other one is this many numbers further on

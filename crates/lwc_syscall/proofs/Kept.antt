@@ -12,9 +12,10 @@ use Rattle.lwc_base.specs.Life.{HasItsContexts, is_of}
 use Rattle.lwc_base.specs.Mapping.{mapped_or_not}
 use Rattle.lwc_base.specs.Memory.{touched}
 use Rattle.lwc_base.specs.Store.{Done, Piece, after_store, page_value_at, parting_count, store}
-use Rattle.lwc_base.specs.World.{World, Counters, is_live}
+use Rattle.lwc_base.specs.World.{World, is_live}
 use Rattle.lwc_base.specs.declared.descriptor.Descriptor.{Descriptor}
 use Rattle.lwc_base.specs.declared.descriptor.Descriptor.TheVariants.{Empty, Console, File, Request, Reply, Ctx}
+use Rattle.lwc_types.specs.declared.counters.Counters.{Counters}
 use Rattle.lwc_types.specs.declared.key.Key.TheVariants.{Slot, Cred}
 use Rattle.lwc_types.specs.declared.limits.TheConstants.{MOST_BYTES_OF_CALL}
 use Rattle.lwc_types.specs.declared.name.Name.{Name}

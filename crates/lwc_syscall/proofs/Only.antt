@@ -18,9 +18,10 @@ use Rattle.lwc_base.specs.Refusals.{first_refusal}
 use Rattle.lwc_base.specs.Slots.{lowest_empty}
 use Rattle.lwc_base.specs.Store.{Piece, Stored, after_store, page_value_at, parting_count, stored_pages, put_pages, store}
 use Rattle.lwc_base.specs.Store as stores
-use Rattle.lwc_base.specs.World.{World, Context, Counters, change_counters, context, group, is_live}
+use Rattle.lwc_base.specs.World.{World, Context, change_counters, context, group, is_live}
 use Rattle.lwc_base.specs.declared.descriptor.Descriptor.{Descriptor}
 use Rattle.lwc_base.specs.declared.descriptor.Descriptor.TheVariants.{Empty, File}
+use Rattle.lwc_types.specs.declared.counters.Counters.{Counters}
 use Rattle.lwc_types.specs.declared.key.Key.{Key}
 use Rattle.lwc_types.specs.declared.key.Key.TheVariants.{Page, Slot, Cred}
 use Rattle.lwc_types.specs.declared.name.Name.{Name}

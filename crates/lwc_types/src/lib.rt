@@ -1,6 +1,7 @@
 //! Plain types of the kernel, its limits, and what a reader of bytes answers. Nothing here speaks of a world.
 #![tactic(auto)]
 
+pub mod counters;
 pub mod fault;
 pub mod file_image;
 pub mod key;
@@ -16,6 +17,7 @@ pub mod right;
 pub mod sequence;
 pub mod size;
 
+pub use counters::Counters;
 pub use fault::{Fault, ThreadStatus};
 pub use file_image::FileImage;
 pub use key::{Key, Kind, NOBODY, PageNumber, SLOTS, SlotNumber};

@@ -1,6 +1,6 @@
 -- What a pool keeps, seen as the list of its nodes.
 use Rattle.std.specs.Prelude.{◌≡◌, ℕ, ◌≤◌, List, length, replicate, slice_index}
-use Rattle.pool_base.specs.Counts.{Places}
+use Rattle.pool_base.specs.HoldCounts.{Places}
 use Rattle.pool_base.specs.Padded.{padded}
 use Rattle.pool_base.specs.Paired.{paired}
 use Rattle.node_pool.specs.declared.pool.NodeContent.{NodeContent}

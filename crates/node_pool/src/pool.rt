@@ -2,7 +2,7 @@ ghost use Rattle.std.specs.Prelude.{◌≡◌, ℕ, ◌+◌, ◌-◌, ◌<◌, �
 ghost use Rattle.std.specs.Prelude.{replicate, slice_set};
 
 use lwc_types::OutOfMemory;
-use pool_base::{Counts, put_next};
+use pool_base::{HoldCounts, put_next};
 use std::alloc::Global;
 use std::marker::Model;
 
@@ -28,7 +28,7 @@ struct NodeContent {
 /// taken.
 #[derive(Drop)]
 pub struct NodePool {
-    counts: Counts,
+    counts: HoldCounts,
     contents: Vec<NodeContent>,
     steps: u64,
 }
@@ -58,7 +58,7 @@ impl NodePool {
         ensures nodes { IfOk result (λ pool. pool.all ≡ replicate nodes (empty_node 0 0)) }
         ensures no_step { IfOk result (λ pool. pool.steps ≡ 0) }
     {
-        let counts = Counts::open(alloc, nodes)?;
+        let counts = HoldCounts::open(alloc, nodes)?;
         let contents = Vec::with_capacity(alloc, nodes as usize)?;
         Ok(NodePool {
             counts,

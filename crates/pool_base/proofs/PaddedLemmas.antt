@@ -4,7 +4,7 @@ use Rattle.std.proofs.Math.Seq.{set-append_seam}
 use Rattle.std.proofs.lemmas.List.{get_or_append_left, get_or_past, length-replicate, get_or-replicate, set-append_left, length_push}
 use Rattle.std.proofs.lemmas.List.Sums.{sum_by-append, sum_by-cons}
 use Rattle.std.proofs.lemmas.Bool.{cases_lt}
-use Rattle.pool_base.specs.Counts.{held_count}
+use Rattle.pool_base.specs.HoldCounts.{held_count}
 use Rattle.pool_base.specs.Padded.{padded}
 
 pub length-padded : {A : Type 0} (size : ℕ) (fill : A) (xs : List A) → length xs ≤ size → length (padded size fill xs) ≡ size

@@ -5,7 +5,7 @@ use Rattle.std.proofs.lemmas.List.{get_or_append_left, get_or_push, length_push,
 use Rattle.std.proofs.lemmas.List.Sums.{sum_by-cons, sum_by_push, sum_by-set, get_or-le-sum_by}
 use Rattle.std.proofs.lemmas.Bool.{cases_eq, ne_eqb, cases_lt}
 use Rattle.std.proofs.lemmas.Bool.Decides.{nat_tests}
-use Rattle.pool_base.specs.Counts.{free_count, held_count, IsStack}
+use Rattle.pool_base.specs.HoldCounts.{free_count, held_count, IsStack}
 
 -- 1 where the test passes, else 0
 abbrev one_if : Bool → ℕ

@@ -1,3 +1,3 @@
-pub mod Counts
+pub mod HoldCounts
 pub mod Padded
 pub mod Paired

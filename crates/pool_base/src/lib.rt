@@ -1,6 +1,6 @@
 //! What pools stand on: counts of how often each place is held.
 #![tactic(auto)]
 
-pub mod counts;
+pub mod hold_counts;
 
-pub use counts::{Counts, put_next};
+pub use hold_counts::{HoldCounts, put_next};

@@ -6,14 +6,14 @@ use crate::checks::check_equal;
 use frame_pool::{FrameNo, Pool};
 use lwc_base::Tag;
 use node_pool::{NodeNo, NodePool};
-use pool_base::{Counts, put_next};
+use pool_base::{HoldCounts, put_next};
 use std::alloc::Global;
 use std::process::Abort;
 use std::test::Fail;
 
 #[test]
 fn two_places_are_taken_held_and_given_back(rt: HostRuntime) -> Result<(), Fail> {
-    let mut counts = Counts::open(rt.alloc(), 2)?;
+    let mut counts = HoldCounts::open(rt.alloc(), 2)?;
     let first = counts.take().expect(&rt, "none is held");
     let second = counts.take().expect(&rt, "one is held");
     assert!(rt; counts.take().is_none());

@@ -6,8 +6,9 @@ use Rattle.lwc_base.specs.declared.cell.Cell.{Cell}
 use Rattle.lwc_base.specs.declared.cell.Cell.TheVariants.{Own, Common}
 use Rattle.lwc_base.specs.Holders.{InCell, InContext}
 use Rattle.lwc_base.specs.Keys.{ValueOf}
-use Rattle.lwc_base.specs.World.{World, Context, Counters, change_counters, add_context, is_live, next_context}
+use Rattle.lwc_base.specs.World.{World, Context, change_counters, add_context, is_live, next_context}
 use Rattle.lwc_base.proofs.Facts.{stays_fresh}
+use Rattle.lwc_types.specs.declared.counters.Counters.{Counters}
 use Rattle.lwc_types.specs.declared.name.Name.{Name}
 use Rattle.lwc_types.specs.declared.key.Key.{Key}
 use Rattle.std.proofs.lemmas.Bool.{eq-eqb}

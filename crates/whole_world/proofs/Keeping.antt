@@ -12,7 +12,7 @@ use Rattle.lwc_types.specs.Registers.{fresh_registers}
 use Rattle.lwc_types.specs.declared.name.Name.{Name}
 use Rattle.lwc_types.specs.declared.size.WorldSize.{WorldSize}
 use Rattle.whole_world.specs.declared.context_row.ContextRow.{ContextRow}
-use Rattle.whole_world.specs.declared.counts.Counts.{Counts}
+use Rattle.lwc_types.specs.declared.counters.Counters.{Counters}
 use Rattle.whole_world.specs.declared.group_row.GroupRow.{GroupRow}
 use Rattle.whole_world.specs.Rows.{context_of, group_of}
 use Rattle.whole_world.specs.Sound.{IsSound, IsWhole, IsWholeGroup}
@@ -68,7 +68,7 @@ module _ (w : World) (p : Name → Bool) (fresh : IsFresh w) where
 fewer : {X : Type 0} (test : X → Bool) (xs : List X) (most : ℕ) → length xs ≤ most → length (filter test xs) ≤ most
 fewer test xs most few = omega (arith, few, length-filter test xs, count_by-le-length test xs)
 
-module _ (size : WorldSize) (contexts : List (Name × ContextRow)) (groups : List (Name × GroupRow)) (counts : List Counts) (sound : IsSound size contexts groups counts)
+module _ (size : WorldSize) (contexts : List (Name × ContextRow)) (groups : List (Name × GroupRow)) (counts : List Counters) (sound : IsSound size contexts groups counts)
     (p : Name → Bool) where
   abbrev now : World
   now = world_of size contexts groups counts

@@ -4,15 +4,15 @@ use Rattle.std.specs.Prelude.{replicate}
 use Rattle.std.specs.FinMap as fm
 use Rattle.std.proofs.lemmas.List.Elements.{All-nil}
 use Rattle.lwc_base.specs.Fresh.{IsFresh}
-use Rattle.lwc_base.specs.World.{empty_world}
+use Rattle.lwc_base.specs.World.{empty_world, nothing_counted}
 use Rattle.lwc_types.specs.Names.{name_cmp}
 use Rattle.lwc_types.specs.declared.name.Name.{Name}
 use Rattle.lwc_types.specs.declared.size.WorldSize.{WorldSize}
 use Rattle.world_face.specs.Calls.{IsSize}
-use Rattle.whole_world.specs.declared.counts.Counts.{Counts}
+use Rattle.lwc_types.specs.declared.counters.Counters.{Counters}
 use Rattle.whole_world.specs.declared.context_row.ContextRow.{ContextRow}
 use Rattle.whole_world.specs.declared.group_row.GroupRow.{GroupRow}
-use Rattle.whole_world.specs.States.{counters_of, nothing_counted, world_of}
+use Rattle.whole_world.specs.States.{world_of}
 use Rattle.whole_world.specs.Sound.{IsSound, IsWhole, IsWholeGroup}
 use Rattle.whole_world.proofs.Places.{place_of_replicate}
 use Rattle.lwc_base.proofs.Facts.{stays_fresh}
@@ -20,19 +20,19 @@ use Rattle.lwc_base.proofs.Facts.{stays_fresh}
 no_rows : {X : Type 0} → fm.from_sorted {X = X} {R = name_cmp} [] ≡ fm.empty
 no_rows {X} = fm.empty_of_len (fm.from_sorted []) (fm.len-entries (fm.from_sorted []) ∙ ap length (fm.entries-from_sorted {X = X} name_cmp [] tt))
 
-nothing_there : (size : WorldSize) (counts : List Counts) → counts ≡ replicate size.jobs nothing_counted →
+nothing_there : (size : WorldSize) (counts : List Counters) → counts ≡ replicate size.jobs nothing_counted →
     world_of size [] [] counts ≡ empty_world size
 unfolding world_of empty_world
 nothing_there size counts nothing =
     let each : (job : ℕ) → get_or counts job nothing_counted ≡ nothing_counted =
     λ job. ap (λ l. get_or l job nothing_counted) nothing ∙ place_of_replicate size.jobs nothing_counted job in
-    λ i. record { contexts = no_rows i; groups = no_rows i; next = λ job. counters_of (each job i); size = size }
+    λ i. record { contexts = no_rows i; groups = no_rows i; next = λ job. each job i; size = size }
 
-pub nothing_counted_yet : (size : WorldSize) (contexts : List (Name × ContextRow)) (groups : List (Name × GroupRow)) (counts : List Counts) → contexts ≡ [] → groups ≡ [] →
+pub nothing_counted_yet : (size : WorldSize) (contexts : List (Name × ContextRow)) (groups : List (Name × GroupRow)) (counts : List Counters) → contexts ≡ [] → groups ≡ [] →
     counts ≡ replicate size.jobs nothing_counted → world_of size contexts groups counts ≡ empty_world size
 nothing_counted_yet size contexts groups counts none no_group nothing = (λ i. world_of size (none i) (no_group i) counts) ∙ nothing_there size counts nothing
 
-sound_there : (size : WorldSize) (counts : List Counts) → IsSize size → length counts ≡ size.jobs →
+sound_there : (size : WorldSize) (counts : List Counters) → IsSize size → length counts ≡ size.jobs →
     counts ≡ replicate size.jobs nothing_counted → IsSound size [] [] counts
 sound_there size counts is_size many nothing = record {
   some_job = is_size.jobs.0;
@@ -49,7 +49,7 @@ sound_there size counts is_size many nothing = record {
   fresh = subst IsFresh (sym (nothing_there size counts nothing)) (stays_fresh.empty size);
 }
 
-pub sound-opened : (size : WorldSize) (contexts : List (Name × ContextRow)) (groups : List (Name × GroupRow)) (counts : List Counts) → contexts ≡ [] → groups ≡ [] →
+pub sound-opened : (size : WorldSize) (contexts : List (Name × ContextRow)) (groups : List (Name × GroupRow)) (counts : List Counters) → contexts ≡ [] → groups ≡ [] →
     IsSize size → length counts ≡ size.jobs → counts ≡ replicate size.jobs nothing_counted → IsSound size contexts groups counts
 sound-opened size contexts groups counts none no_group is_size many nothing =
     subst (λ (rows : List (Name × ContextRow)). IsSound size rows groups counts) (sym none)

@@ -19,8 +19,9 @@ use Rattle.lwc_base.specs.Overlay.{overlaid_cell, overlaid_right, overlay, range
 use Rattle.lwc_base.specs.Ranges.{ranges, ranges_of}
 use Rattle.lwc_base.specs.Rights.{right_at}
 use Rattle.lwc_base.specs.Sharing.{cloned_cell, cloned_context, cloned_right, share}
-use Rattle.lwc_base.specs.World.{World, Context, Counters, change_context, context, is_live, new_context, next_group}
+use Rattle.lwc_base.specs.World.{World, Context, change_context, context, is_live, new_context, next_group}
 use Rattle.lwc_types.specs.declared.key.Key.{Key}
+use Rattle.lwc_types.specs.declared.counters.Counters.{Counters}
 use Rattle.lwc_types.specs.declared.key.Key.TheVariants.{Page}
 use Rattle.lwc_types.specs.declared.name.Name.{Name}
 use Rattle.lwc_types.specs.declared.regs.Regs.{Regs}

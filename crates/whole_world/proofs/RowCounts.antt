@@ -6,7 +6,7 @@ use Rattle.lwc_base.specs.World.{groups_of, live_of}
 use Rattle.lwc_types.specs.declared.name.Name.{Name}
 use Rattle.lwc_types.specs.declared.size.WorldSize.{WorldSize}
 use Rattle.whole_world.specs.declared.context_row.ContextRow.{ContextRow}
-use Rattle.whole_world.specs.declared.counts.Counts.{Counts}
+use Rattle.lwc_types.specs.declared.counters.Counters.{Counters}
 use Rattle.whole_world.specs.declared.group_row.GroupRow.{GroupRow}
 use Rattle.whole_world.specs.Sound.{IsSound}
 use Rattle.whole_world.specs.States.{world_of}
@@ -19,7 +19,7 @@ count-names {T} job (e ∷ es) =
     ∙ ap (λ n. cond (e.0.job == job) 1 0 + n) (count-names job es)
     ∙ sym (sum_by-cons (λ (row : Name × T). cond (row.0.job == job) 1 0) e es)
 
-module _ (size : WorldSize) (contexts : List (Name × ContextRow)) (groups : List (Name × GroupRow)) (counts : List Counts) (sound : IsSound size contexts groups counts) where
+module _ (size : WorldSize) (contexts : List (Name × ContextRow)) (groups : List (Name × GroupRow)) (counts : List Counters) (sound : IsSound size contexts groups counts) where
   pub live_of-rows : (job : ℕ) → live_of (world_of size contexts groups counts) job ≡ count_by (λ row. row.0.job == job) contexts
   unfolding live_of
   live_of-rows job = ap (count_by (λ (c : Name). c.job == job)) (names-contexts size contexts groups counts sound) ∙ count-names job contexts

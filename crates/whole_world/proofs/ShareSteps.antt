@@ -8,8 +8,9 @@ use Rattle.lwc_base.specs.Fresh.{IsFresh, IsNamedGroup, named_groups}
 use Rattle.lwc_base.specs.Holders.{InCell}
 use Rattle.lwc_base.specs.Keys.{ValueOf}
 use Rattle.lwc_base.specs.Sharing.{with_shared, moved_values, needs_group, share}
-use Rattle.lwc_base.specs.World.{World, Context, Counters, Group, add_group, change_context, changed_context, context, change_counters, is_live, next_group}
+use Rattle.lwc_base.specs.World.{World, Context, Group, add_group, change_context, changed_context, context, change_counters, is_live, next_group}
 use Rattle.lwc_base.proofs.Facts.{changes, stays_fresh}
+use Rattle.lwc_types.specs.declared.counters.Counters.{Counters}
 use Rattle.lwc_types.specs.declared.name.Name.{Name}
 use Rattle.lwc_types.specs.declared.key.Key.{Key}
 use Rattle.std.proofs.lemmas.Bool.{eq-eqb}

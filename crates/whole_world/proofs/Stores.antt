@@ -8,8 +8,9 @@ use Rattle.lwc_base.specs.Frames.{is_parting, used}
 use Rattle.lwc_base.specs.Memory.{touched, is_present}
 use Rattle.lwc_base.specs.Rights.{is_writable, may_write, right_at}
 use Rattle.lwc_base.specs.Store.{Piece, Stored, Absent, ReadOnly, Full, Done, bytes_after, stored_pages, put_pages, stored_value, page_value_at, parting_count, after_store, store}
-use Rattle.lwc_base.specs.World.{World, Counters, change_counters}
+use Rattle.lwc_base.specs.World.{World, change_counters}
 use Rattle.lwc_types.specs.declared.limits.TheConstants.{MOST_PAGES}
+use Rattle.lwc_types.specs.declared.counters.Counters.{Counters}
 use Rattle.lwc_types.specs.declared.name.Name.{Name}
 use Rattle.lwc_types.specs.declared.page.PageValue.{PageValue}
 use Rattle.lwc_types.specs.Pages.{bytes_of}

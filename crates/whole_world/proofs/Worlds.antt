@@ -13,7 +13,7 @@ use Rattle.lwc_base.specs.Holders.{InContext}
 use Rattle.lwc_base.specs.Keys.{nothing}
 use Rattle.lwc_base.specs.Mapping.{map_pages, mapped_or_not, unmap_pages}
 use Rattle.lwc_base.specs.Modes.{IsKey, kind_of, limit, number_of}
-use Rattle.lwc_base.specs.World.{World, Context, Group, change_counters, changed_context, change_context, changed_group, change_group, context, group, is_live, new_context, new_group}
+use Rattle.lwc_base.specs.World.{World, Context, Group, change_counters, changed_context, change_context, changed_group, change_group, context, group, is_live, new_context, new_group, nothing_counted}
 use Rattle.lwc_types.specs.Registers.{fresh_registers}
 use Rattle.lwc_types.specs.declared.key.TheConstants.{SLOTS}
 use Rattle.lwc_types.specs.declared.key.Key.{Key}
@@ -23,7 +23,7 @@ use Rattle.lwc_types.specs.declared.right.Right.TheVariants.{Write}
 use Rattle.lwc_types.specs.declared.size.WorldSize.{WorldSize}
 use Rattle.lwc_types.specs.Names.{name_cmp}
 use Rattle.whole_world.specs.declared.context_row.ContextRow.{ContextRow}
-use Rattle.whole_world.specs.declared.counts.Counts.{Counts}
+use Rattle.lwc_types.specs.declared.counters.Counters.{Counters}
 use Rattle.whole_world.specs.declared.group_row.GroupRow.{GroupRow}
 use Rattle.whole_world.specs.declared.world.WholeWorld.{WholeWorld}
 use Rattle.whole_world.specs.declared.holder.Holder.TheVariants.{Nobody}
@@ -31,7 +31,7 @@ use Rattle.whole_world.specs.Holders.{holder_of}
 use Rattle.whole_world.specs.Rows.{context_of, group_of, with_pages}
 use Rattle.whole_world.specs.Sound.{HasGroupSizeOf, HasKey, HasSizeOf, HasSlot, IsSound, IsWhole, IsWholeGroup}
 use Rattle.whole_world.specs.Tables.{has_name}
-use Rattle.whole_world.specs.States.{counters_of, nothing_counted, world_of}
+use Rattle.whole_world.specs.States.{world_of}
 use Rattle.whole_world.specs.Worlds.{seen}
 use Rattle.whole_world.proofs.Places.{place_after_set}
 use Rattle.whole_world.proofs.Rows.{cell-past, right-past}
@@ -42,10 +42,6 @@ get_or_default : {A : Type 0} (xs : List A) (i : ℕ) (d e : A) → i < length x
 get_or_default [] i d e h = absurd (omega arith)
 get_or_default (x ∷ xs) zero d e h = refl
 get_or_default (x ∷ xs) (suc i) d e h = get_or_default xs i d e (omega arith)
-
-counters_of_choice : (b : Bool) (m n : Counts) → counters_of (cond b m n) ≡ cond b (counters_of m) (counters_of n)
-counters_of_choice true m n = refl
-counters_of_choice false m n = refl
 
 nothing_mapped : {A B : Type 0} (f : A → B) (o : Option A) → is_some (option_map f o) ≡ false → o ≡ None
 nothing_mapped f None none = refl
@@ -60,7 +56,7 @@ pub if_missed : {E : Type 0} (Q : Type 0) (o : Option (Bor E)) (found : Option E
 if_missed Q None found same known = known (sym same)
 if_missed Q (Some b) found same known = tt
 
-module _ (size : WorldSize) (contexts : List (Name × ContextRow)) (groups : List (Name × GroupRow)) (counts : List Counts) (sound : IsSound size contexts groups counts) where
+module _ (size : WorldSize) (contexts : List (Name × ContextRow)) (groups : List (Name × GroupRow)) (counts : List Counters) (sound : IsSound size contexts groups counts) where
   abbrev now : World
   now = world_of size contexts groups counts
 
@@ -152,16 +148,16 @@ module _ (size : WorldSize) (contexts : List (Name × ContextRow)) (groups : Lis
   names-groups = map-keys group_of groups sound.groups_sorted
 
   -- what a job has counted
-  pub next-counted : (job : ℕ) (n : Counts) → job < length counts → n ≡ get_or counts job n → now.next job ≡ counters_of n
+  pub next-counted : (job : ℕ) (n : Counters) → job < length counts → n ≡ get_or counts job n → now.next job ≡ n
   unfolding world_of
-  next-counted job n there is = ap counters_of (get_or_default counts job nothing_counted n there ∙ sym is)
+  next-counted job n there is = get_or_default counts job nothing_counted n there ∙ sym is
 
   -- a job has counted something else
-  pub change_counters-at : (job : ℕ) (n : Counts) → job < length counts → world_of size contexts groups (set counts job n) ≡ change_counters now job (λ _. counters_of n)
+  pub change_counters-at : (job : ℕ) (n : Counters) → job < length counts → world_of size contexts groups (set counts job n) ≡ change_counters now job (λ _. n)
   unfolding world_of change_counters
   change_counters-at job n there =
-      let each : (j : ℕ) → counters_of (get_or (set counts job n) j nothing_counted) ≡ cond (eqb j job) (counters_of n) (counters_of (get_or counts j nothing_counted)) =
-      λ j. ap counters_of (place_after_set counts job n j nothing_counted there) ∙ counters_of_choice (eqb j job) n (get_or counts j nothing_counted) in
+      let each : (j : ℕ) → get_or (set counts job n) j nothing_counted ≡ cond (eqb j job) n (get_or counts j nothing_counted) =
+      λ j. place_after_set counts job n j nothing_counted there in
       λ i. record now { next = λ j. each j i }
 
   -- a row is put under the name of a context
@@ -323,7 +319,7 @@ module _ (size : WorldSize) (contexts : List (Name × ContextRow)) (groups : Lis
           (sound-put_group g new whole few (subst IsFresh (sym changed_group_at) (stays_fresh.group_changed now g change sound.fresh)))
 
   -- the world stays sound where it has counted no less
-  pub sound-counts : (job : ℕ) (n : Counts) → job < length counts → Rises (now.next job) (counters_of n) → IsSound size contexts groups (set counts job n)
+  pub sound-counts : (job : ℕ) (n : Counters) → job < length counts → Rises (now.next job) n → IsSound size contexts groups (set counts job n)
   sound-counts job n there rises = record {
     some_job = sound.some_job;
     few_pages = sound.few_pages;
@@ -336,7 +332,7 @@ module _ (size : WorldSize) (contexts : List (Name × ContextRow)) (groups : Lis
     groups_sorted = sound.groups_sorted;
     contexts_whole = sound.contexts_whole;
     groups_whole = sound.groups_whole;
-    fresh = subst IsFresh (sym (change_counters-at job n there)) (stays_fresh.counted now job (λ _. counters_of n) rises sound.fresh);
+    fresh = subst IsFresh (sym (change_counters-at job n there)) (stays_fresh.counted now job (λ _. n) rises sound.fresh);
   }
 
 -- names of the world are old

@@ -7,8 +7,8 @@ use Rattle.lwc_base.specs.declared.cell.Cell.TheVariants.{Common, Own}
 use Rattle.lwc_base.specs.Fresh.{IsFresh, named_groups}
 use Rattle.lwc_base.specs.Holders.{InCell}
 use Rattle.lwc_base.specs.Keys.{ValueOf}
-use Rattle.lwc_base.specs.World.{Counters}
 use Rattle.lwc_types.specs.declared.key.TheConstants.{SLOTS}
+use Rattle.lwc_types.specs.declared.counters.Counters.{Counters}
 use Rattle.lwc_types.specs.declared.key.Key.{Key}
 use Rattle.lwc_types.specs.declared.key.Key.TheVariants.{Page, Slot, Cred}
 use Rattle.lwc_types.specs.declared.limits.TheConstants.{MOST_CONTEXTS, MOST_GROUPS, MOST_PAGES}
@@ -16,7 +16,6 @@ use Rattle.lwc_types.specs.declared.name.Name.{Name}
 use Rattle.lwc_types.specs.declared.size.WorldSize.{WorldSize}
 use Rattle.lwc_types.specs.Names.{name_cmp}
 use Rattle.whole_world.specs.declared.context_row.ContextRow.{ContextRow}
-use Rattle.whole_world.specs.declared.counts.Counts.{Counts}
 use Rattle.whole_world.specs.declared.group_row.GroupRow.{GroupRow}
 use Rattle.whole_world.specs.States.{world_of}
 
@@ -56,7 +55,7 @@ pub record HasGroupSizeOf (old new : GroupRow) : Type 0 where
 -- the sizes are within the limits, rows are whole and in the order of their names, and jobs have counted each
 -- name
 pub record IsSound (size : WorldSize) (contexts : List (Name × ContextRow)) (groups : List (Name × GroupRow))
-    (counts : List Counts) : Type 0 where
+    (counts : List Counters) : Type 0 where
   pub some_job : 1 ≤ size.jobs
   pub few_pages : size.pages ≤ MOST_PAGES
   pub size_contexts : size.contexts ≤ MOST_CONTEXTS

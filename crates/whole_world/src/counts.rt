@@ -1,26 +1,17 @@
 ghost use Rattle.std.specs.Prelude.{◌≡◌, ◌+◌, ◌<◌, ◌^◌};
 
 use crate::world::WholeWorld;
-use lwc_base::Name;
-
-/// How many contexts, groups and tags a job has named.
-#[derive(Clone, Copy, PartialEq, Eq)]
-pub struct Counts {
-    pub contexts: u32,
-    pub groups: u32,
-    pub tags: u32,
-}
+use lwc_base::{Counters, Name};
 
 impl WholeWorld {
     ghost use Rattle.lwc_base.specs.World.{change_counters, next_context, next_group};
     ghost use Rattle.lwc_base.specs.Fresh.{Rises};
     ghost use Rattle.whole_world.specs.Worlds.{HasRoom, seen};
-    ghost use Rattle.whole_world.specs.States.{counters_of};
 
     /// What a job has counted.
-    pub(crate) fn counts_of(&self, job: u32) -> Counts
+    pub(crate) fn counts_of(&self, job: u32) -> Counters
         requires { job < (seen self.now).size.jobs }
-        ensures { (seen self.now).next job ≡ counters_of result }
+        ensures { (seen self.now).next job ≡ result }
     {
         self.counts[job as usize]
     }
@@ -44,10 +35,10 @@ impl WholeWorld {
     }
 
     /// A job has counted this much, which is no less than before.
-    fn set_counts(&mut self, job: u32, counts: Counts)
+    fn set_counts(&mut self, job: u32, counts: Counters)
         requires known { job < (seen self.old).size.jobs }
-        requires rises { Rises ((seen self.old).next job) (counters_of counts) }
-        ensures world { seen self.new ≡ change_counters (seen self.old) job (λ _. counters_of counts) }
+        requires rises { Rises ((seen self.old).next job) counts }
+        ensures world { seen self.new ≡ change_counters (seen self.old) job (λ _. counts) }
         ensures room { HasRoom self.old.contexts → HasRoom self.new.contexts }
         ensures group_room { HasRoom self.old.groups → HasRoom self.new.groups }
     {
@@ -64,7 +55,7 @@ impl WholeWorld {
     {
         let counts = self.counts_of(job);
         let contexts = counts.contexts + 1;
-        self.set_counts(job, Counts { contexts, ..counts });
+        self.set_counts(job, Counters { contexts, ..counts });
     }
 
     /// A job counts one more group.
@@ -78,7 +69,7 @@ impl WholeWorld {
     {
         let counts = self.counts_of(job);
         let groups = counts.groups + 1;
-        self.set_counts(job, Counts { groups, ..counts });
+        self.set_counts(job, Counters { groups, ..counts });
     }
 
     /// A job counts more tags.
@@ -90,6 +81,6 @@ impl WholeWorld {
     {
         let counts = self.counts_of(job);
         let tags = counts.tags + more;
-        self.set_counts(job, Counts { tags, ..counts });
+        self.set_counts(job, Counters { tags, ..counts });
     }
 }

@@ -1,17 +1,16 @@
 ghost use Rattle.std.specs.Prelude.{◌≡◌, IfOk, replicate, vec_len};
 ghost use Rattle.std.proofs.Props.{props};
 ghost use Rattle.whole_world.specs.Sound.{IsSound, named_cell-prop};
-ghost use Rattle.whole_world.specs.States.{nothing_counted};
+ghost use Rattle.lwc_base.specs.World.{nothing_counted};
 
 use crate::context_row::ContextRow;
-use crate::counts::Counts;
 use crate::group_row::GroupRow;
 use crate::key_value::KeyValue;
 use crate::table::Table;
 use access_cap::owned;
 use lwc_base::{
-    Items, Lent, Mode, Name, OutOfMemory, PageNumber, Range, Regs, SLOTS, SlotNumber, StoreFault,
-    Summary, WorldSize, touched_pages,
+    Counters, Items, Lent, Mode, Name, OutOfMemory, PageNumber, Range, Regs, SLOTS, SlotNumber,
+    StoreFault, Summary, WorldSize, touched_pages,
 };
 use std::alloc::Global;
 use world_face::World;
@@ -23,7 +22,7 @@ pub struct WholeWorld {
     pub(crate) size: WorldSize,
     pub(crate) contexts: Table<ContextRow>,
     pub(crate) groups: Table<GroupRow>,
-    pub(crate) counts: Vec<Counts>,
+    pub(crate) counts: Vec<Counters>,
     ghost sound: { IsSound size contexts.rows.items groups.rows.items counts.items } by { Prim.hlevel
         (props, named_cell-prop) },
 }
@@ -217,13 +216,13 @@ impl World for WholeWorld {
 }
 
 /// What the jobs have counted before they have named anything. The only error is out of memory.
-fn nothing_counted(alloc: Global, jobs: u32) -> Result<Vec<Counts>, OutOfMemory>
+fn nothing_counted(alloc: Global, jobs: u32) -> Result<Vec<Counters>, OutOfMemory>
     ensures nothing { IfOk result (λ counts. counts.items ≡ replicate jobs nothing_counted) }
     ensures each { IfOk result (λ counts. vec_len counts ≡ jobs) }
 {
     let mut counts = Vec::with_capacity(alloc, jobs as usize)?;
     for _ in 0..jobs {
-        counts.push(Counts {
+        counts.push(Counters {
             contexts: 0,
             groups: 0,
             tags: 0,

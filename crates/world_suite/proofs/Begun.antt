@@ -4,10 +4,11 @@ use Rattle.std.specs.FinMap as fm
 use Rattle.lwc_base.specs.Facts.{AddsContext, KeepsNames}
 use Rattle.lwc_base.specs.Fresh.{IsFresh}
 use Rattle.lwc_base.specs.Mapping.{map_pages}
-use Rattle.lwc_base.specs.World.{World, Context, Counters, Group, is_live, next_context, add_context, empty_world}
+use Rattle.lwc_base.specs.World.{World, Context, Group, is_live, next_context, add_context, empty_world}
 use Rattle.lwc_base.specs.Life.{Root, reap}
 use Rattle.lwc_base.proofs.Facts.{changes, counts, stays_fresh}
 use Rattle.lwc_base.proofs.Reaped.{kept-by_way}
+use Rattle.lwc_types.specs.declared.counters.Counters.{Counters}
 use Rattle.lwc_types.specs.declared.name.Name.{Name}
 use Rattle.lwc_types.specs.declared.size.WorldSize.{WorldSize}
 use Rattle.lwc_types.specs.Names.{name_cmp}

@@ -18,7 +18,7 @@ use Rattle.lwc_base.specs.Rights.{is_writable, read_right, right_at}
 use Rattle.lwc_base.specs.Saved.{save, with_saved}
 use Rattle.lwc_base.specs.Sharing.{clone_context, cloned_cell, cloned_context, cloned_right, moved_values, any_key, needs_group, ranges_after_clone, share, with_shared}
 use Rattle.lwc_base.specs.Store.{Absent, Done, Full, Piece, ReadOnly, after_store, bytes_after, page_value_at, parting_count, put_pages, store, stored_pages, stored_value}
-use Rattle.lwc_base.specs.World.{World, Context, Counters, Group, add_context, add_group, change_context, change_counters, change_group, changed_context, changed_group, context, next_context, next_group}
+use Rattle.lwc_base.specs.World.{World, Context, Group, add_context, add_group, change_context, change_counters, change_group, changed_context, changed_group, context, next_context, next_group}
 use Rattle.lwc_base.specs.declared.cell.Cell.{Cell}
 use Rattle.lwc_base.specs.declared.cell.Cell.TheVariants.{Own, Common}
 use Rattle.lwc_base.specs.declared.item.Item.{Item}
@@ -27,6 +27,7 @@ use Rattle.lwc_base.specs.declared.item.Mode.TheVariants.{Copy, Share, Unmap, Co
 use Rattle.lwc_base.proofs.Clones.{next_context-share}
 use Rattle.lwc_types.specs.Names.{name_cmp}
 use Rattle.lwc_types.specs.Pages.{bytes_of}
+use Rattle.lwc_types.specs.declared.counters.Counters.{Counters}
 use Rattle.lwc_types.specs.declared.key.Key.{Key}
 use Rattle.lwc_types.specs.declared.key.Key.TheVariants.{Cred, Page, Slot}
 use Rattle.lwc_types.specs.declared.name.Name.{Name}

@@ -14,7 +14,7 @@ use Rattle.lwc_base.specs.Overlay.{overlaid_cell, overlaid_right, overlay, with_
 use Rattle.lwc_base.specs.Saved.{save, with_saved}
 use Rattle.lwc_base.specs.Sharing.{clone_context, cloned_cell, cloned_context, cloned_right, moved_value, moved_values, needs_group, share, with_shared}
 use Rattle.lwc_base.specs.Store.{Piece, after_store, bytes_after, page_value_at, parting_count, stored_pages, put_pages, stored_value}
-use Rattle.lwc_base.specs.World.{World, Context, Counters, add_group, change_context, change_counters, context, next_group}
+use Rattle.lwc_base.specs.World.{World, Context, add_group, change_context, change_counters, context, next_group}
 use Rattle.lwc_base.specs.declared.cell.Cell.{Cell}
 use Rattle.lwc_base.specs.declared.cell.Cell.TheVariants.{Own, Common}
 use Rattle.lwc_base.specs.declared.item.Item.{Item}
@@ -23,6 +23,7 @@ use Rattle.lwc_base.specs.declared.item.Mode.TheVariants.{Copy, Share, Unmap, Co
 use Rattle.lwc_base.specs.Ranges.{is_page}
 use Rattle.lwc_base.specs.Rights.{read_right}
 use Rattle.lwc_types.specs.Pages.{bytes_of}
+use Rattle.lwc_types.specs.declared.counters.Counters.{Counters}
 use Rattle.lwc_types.specs.declared.key.Key.{Key}
 use Rattle.lwc_types.specs.declared.key.Key.TheVariants.{Page}
 use Rattle.lwc_types.specs.declared.name.Name.{Name}

@@ -10,10 +10,11 @@ use Rattle.lwc_base.specs.Life.{IsReaped, Root, is_among, reap}
 use Rattle.lwc_base.specs.Overlay.{overlay, ranges_after_overlay}
 use Rattle.lwc_base.specs.Ranges.{ranges}
 use Rattle.lwc_base.specs.Sharing.{cloned_context, ranges_after_clone, share}
-use Rattle.lwc_base.specs.World.{World, Context, Counters, add_context, context, groups_of, live_of}
+use Rattle.lwc_base.specs.World.{World, Context, add_context, context, groups_of, live_of}
 use Rattle.lwc_base.specs.declared.item.Item.{Item}
 use Rattle.lwc_base.proofs.Reaped.{context-kept, kept-by_way, reap-reaped, reap-stays}
 use Rattle.lwc_base.proofs.Reaps.{keeps-reap}
+use Rattle.lwc_types.specs.declared.counters.Counters.{Counters}
 use Rattle.lwc_types.specs.declared.key.Key.TheVariants.{Page}
 use Rattle.lwc_types.specs.declared.name.Name.{Name}
 use Rattle.lwc_types.specs.declared.size.WorldSize.{WorldSize}

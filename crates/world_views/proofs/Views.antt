@@ -5,9 +5,10 @@ use Rattle.std.specs.Prelude.{unwrap_or}
 use Rattle.std.specs.Option.{option_map}
 use Rattle.std.specs.Ordering.{eq_by_cmp}
 use Rattle.std.specs.FinMap as fm
-use Rattle.lwc_base.specs.World.{World, Context, Group, Counters, add_context, add_group, change_context, change_counters, change_group, next_context, next_group}
+use Rattle.lwc_base.specs.World.{World, Context, Group, add_context, add_group, change_context, change_counters, change_group, next_context, next_group}
 use Rattle.lwc_base.proofs.Facts.{changes, orders}
 use Rattle.lwc_types.specs.Names.{name_cmp}
+use Rattle.lwc_types.specs.declared.counters.Counters.{Counters}
 use Rattle.lwc_types.specs.declared.name.Name.{Name}
 use Rattle.lwc_types.specs.declared.size.WorldSize.{WorldSize}
 use Rattle.world_views.proofs.JobTables.{at, other_job}

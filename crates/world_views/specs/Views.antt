@@ -3,7 +3,8 @@ use Rattle.std.specs.Prelude.{ℕ, List, Option, slice_get}
 use Rattle.std.specs.Option.{option_map}
 use Rattle.std.specs.FinMap as fm
 use Rattle.lwc_base.specs.Channels.{Channels}
-use Rattle.lwc_base.specs.World.{World, Context, Group, Counters}
+use Rattle.lwc_base.specs.World.{World, Context, Group}
+use Rattle.lwc_types.specs.declared.counters.Counters.{Counters}
 use Rattle.lwc_types.specs.declared.file_image.FileImage.{FileImage}
 
 -- what a job sees of a world: its contexts and groups by number, what it has counted, and the number of pages

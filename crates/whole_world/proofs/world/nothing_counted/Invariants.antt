@@ -1,6 +1,6 @@
 use Rattle.std.proofs.Common.{◌≡◌}
 use Rattle.std.specs.Prelude.{replicate}
-use Rattle.whole_world.specs.States.{nothing_counted}
+use Rattle.lwc_base.specs.World.{nothing_counted}
 use Rattle.whole_world.proofs.world.nothing_counted.Given as goal
 
 abbrev pub invariant-loop : goal.invariant-loop

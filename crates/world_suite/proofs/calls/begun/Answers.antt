@@ -1,6 +1,7 @@
 use Rattle.std.proofs.Common.{◌≡◌, ◌≤◌, ◌∙◌, ap, refl, arith}
 use Rattle.std.specs.FinMap as fm
-use Rattle.lwc_base.specs.World.{World, Counters}
+use Rattle.lwc_base.specs.World.{World}
+use Rattle.lwc_types.specs.declared.counters.Counters.{Counters}
 use Rattle.lwc_types.specs.declared.size.WorldSize.{WorldSize}
 use Rattle.world_suite.proofs.Begun.{counts-empty, live-begun, live-made, next-begun, no_group-begun, none-empty, one-begun, size-begun, size-empty, size-made}
 use Rattle.world_suite.proofs.calls.begun.Goals as goal

@@ -3,21 +3,21 @@ use Rattle.std.specs.FinMap as fm
 use Rattle.lwc_base.specs.declared.cell.Cell.{Cell}
 use Rattle.lwc_base.specs.declared.cell.Cell.TheVariants.{Own}
 use Rattle.lwc_base.specs.Keys.{with_key}
-use Rattle.lwc_base.specs.World.{add_context, new_context, next_context}
+use Rattle.lwc_base.specs.World.{add_context, new_context, next_context, nothing_counted}
 use Rattle.lwc_types.specs.declared.key.Key.TheVariants.{Page, Cred}
 use Rattle.lwc_types.specs.declared.regs.Regs.{Regs}
 use Rattle.lwc_types.specs.declared.name.Name.{Name}
 use Rattle.lwc_types.specs.declared.right.Right.TheVariants.{Write}
 use Rattle.ctx_table.specs.Contexts.{first_free}
 use Rattle.ctx_table.specs.NameTables.{NameTable}
-use Rattle.lazy_world.specs.declared.counts.Counts.{Counts}
+use Rattle.lwc_types.specs.declared.counters.Counters.{Counters}
 use Rattle.lazy_world.specs.declared.places.Places.{Places}
 use Rattle.lazy_world.specs.Registers.{KeptRegisters}
 use Rattle.lazy_world.specs.declared.world.PlacedWorld.{PlacedWorld}
 use Rattle.lazy_world.specs.Cells.{put_row}
 use Rattle.lazy_world.specs.Seen.{rights, rows}
 use Rattle.lazy_world.specs.Sound.{IsSound}
-use Rattle.lazy_world.specs.States.{Parts, counters_of, nothing_counted, world_of}
+use Rattle.lazy_world.specs.States.{Parts, world_of}
 use Rattle.lazy_world.specs.Worlds.{parts, seen}
 use Rattle.ctx_table.proofs.Taken.{first_free-free}
 use Rattle.lwc_base.proofs.Facts.{stays_fresh}
@@ -28,18 +28,18 @@ use Rattle.lazy_world.proofs.WorldLemmas.{len-contexts, live-there}
 use Rattle.lazy_world.proofs.world.PlacedWorld.add_context.Goals as goal
 
 -- a job that makes its next context
-module _ (w : PlacedWorld) (job : ℕ) (known : job < (seen w).size.jobs) (n : Counts) (read : n ≡ get_or w.counts.items job n) where
+module _ (w : PlacedWorld) (job : ℕ) (known : job < (seen w).size.jobs) (n : Counters) (read : n ≡ get_or w.counts.items job n) where
   abbrev name : Name
   name = record { job = job; k = n.contexts }
 
   name-is : name ≡ next_context (seen w) job
   unfolding seen parts world_of
-  name-is = ap (λ (m : Counts). record { job = job; k = m.contexts }) (read-counts w job known n read)
+  name-is = ap (λ (m : Counters). record { job = job; k = m.contexts }) (read-counts w job known n read)
 
   -- which gets the first free place
   module _ (p : ℕ) (within : p < length w.contexts.places) (first : p ≡ first_free w.contexts.places) (table : NameTable) (map : table.map ≡ fm.insert w.contexts.map name p) (places : table.places ≡ set w.contexts.places p (Some name))
       (uid : ℕ) (entry : Regs) (q : Places) (rows_are : rows q ≡ put_row (rows w.places) (p) (with_key Cell Cred (Own uid) (rows w.places p))) (rights_are : rights q ≡ rights w.places) (registers : KeptRegisters) (registers_are : registers ≡ record { entry = entry; saved = replicate 16 None }) where
-    abbrev more : Counts
+    abbrev more : Counters
     more = record { contexts = n.contexts + 1; groups = n.groups; tags = n.tags }
 
     abbrev later : Parts
@@ -59,8 +59,8 @@ module _ (w : PlacedWorld) (job : ℕ) (known : job < (seen w).size.jobs) (n : C
     free : get_or w.contexts.places p None ≡ None
     free = ap (λ i. get_or w.contexts.places i None) first ∙ first_free-free w.contexts.places (subst (λ i. i < length w.contexts.places) first within)
 
-    counted : counters_of more ≡ record (counters_of (get_or w.counts.items job nothing_counted)) { contexts = (counters_of (get_or w.counts.items job nothing_counted)).contexts + 1 }
-    counted = ap (λ (m : Counts). counters_of (record { contexts = m.contexts + 1; groups = m.groups; tags = m.tags })) (read-counts w job known n read)
+    counted : more ≡ record (get_or w.counts.items job nothing_counted) { contexts = (get_or w.counts.items job nothing_counted).contexts + 1 }
+    counted = ap (λ (m : Counters). record { contexts = m.contexts + 1; groups = m.groups; tags = m.tags }) (read-counts w job known n read)
 
     bare : (k : ℕ) → rights w.places p k ≡ Write
     bare k = no-right w.places p k (no_page (rows w.places p (Page k)) k (w.sound.free p (omega (arith, within, w.sound.sizes.contexts)) free (Page k)))
@@ -90,7 +90,7 @@ insert-i-requires-clause-room c =
 pub overflow_add-counts : goal.overflow_add-counts
 unfolding seen parts world_of
 overflow_add-counts c =
-    let same = ap (λ (n : Counts). n.contexts) (read-counts c.args.self.now c.args.job c.requires.known c.index-counts.result.now c.index-counts.ensures) in
+    let same = ap (λ (n : Counters). n.contexts) (read-counts c.args.self.now c.args.job c.requires.known c.index-counts.result.now c.index-counts.ensures) in
     omega (arith, same, c.requires.few)
 
 pub index_mut-requires-2 : goal.index_mut-requires-2

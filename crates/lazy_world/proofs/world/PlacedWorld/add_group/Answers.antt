@@ -3,19 +3,19 @@ use Rattle.std.specs.FinMap as fm
 use Rattle.lwc_base.specs.declared.cell.Cell.{Cell}
 use Rattle.lwc_base.specs.declared.cell.Cell.TheVariants.{Own}
 use Rattle.lwc_base.specs.Keys.{with_key}
-use Rattle.lwc_base.specs.World.{add_group, new_group, next_group}
+use Rattle.lwc_base.specs.World.{add_group, new_group, next_group, nothing_counted}
 use Rattle.lwc_types.specs.declared.key.Key.TheVariants.{Cred}
 use Rattle.lwc_types.specs.declared.key.TheConstants.{NOBODY}
 use Rattle.lwc_types.specs.declared.name.Name.{Name}
 use Rattle.ctx_table.specs.Contexts.{first_free}
 use Rattle.ctx_table.specs.NameTables.{NameTable}
-use Rattle.lazy_world.specs.declared.counts.Counts.{Counts}
+use Rattle.lwc_types.specs.declared.counters.Counters.{Counters}
 use Rattle.lazy_world.specs.declared.places.Places.{Places}
 use Rattle.lazy_world.specs.declared.world.PlacedWorld.{PlacedWorld}
 use Rattle.lazy_world.specs.Cells.{put_row}
 use Rattle.lazy_world.specs.Seen.{rights, rows}
 use Rattle.lazy_world.specs.Sound.{IsSound}
-use Rattle.lazy_world.specs.States.{Parts, counters_of, nothing_counted, world_of}
+use Rattle.lazy_world.specs.States.{Parts, world_of}
 use Rattle.lazy_world.specs.Worlds.{parts, seen}
 use Rattle.ctx_table.proofs.Taken.{first_free-free}
 use Rattle.lwc_base.proofs.Facts.{stays_fresh}
@@ -25,18 +25,18 @@ use Rattle.lazy_world.proofs.WorldLemmas.{len-groups, group-there}
 use Rattle.lazy_world.proofs.world.PlacedWorld.add_group.Goals as goal
 
 -- a job that makes its next group
-module _ (w : PlacedWorld) (job : ℕ) (known : job < (seen w).size.jobs) (n : Counts) (read : n ≡ get_or w.counts.items job n) where
+module _ (w : PlacedWorld) (job : ℕ) (known : job < (seen w).size.jobs) (n : Counters) (read : n ≡ get_or w.counts.items job n) where
   abbrev name : Name
   name = record { job = job; k = n.groups }
 
   name-is : name ≡ next_group (seen w) job
   unfolding seen parts world_of
-  name-is = ap (λ (m : Counts). record { job = job; k = m.groups }) (read-counts w job known n read)
+  name-is = ap (λ (m : Counters). record { job = job; k = m.groups }) (read-counts w job known n read)
 
   -- which gets the first free place
   module _ (p : ℕ) (within : p < length w.groups.places) (first : p ≡ first_free w.groups.places) (table : NameTable) (map : table.map ≡ fm.insert w.groups.map name p) (places : table.places ≡ set w.groups.places p (Some name))
       (q : Places) (rows_are : rows q ≡ put_row (rows w.places) (w.size.contexts + p) (with_key Cell Cred (Own NOBODY) (rows w.places (w.size.contexts + p)))) (rights_are : rights q ≡ rights w.places) where
-    abbrev more : Counts
+    abbrev more : Counters
     more = record { contexts = n.contexts; groups = n.groups + 1; tags = n.tags }
 
     abbrev later : Parts
@@ -56,8 +56,8 @@ module _ (w : PlacedWorld) (job : ℕ) (known : job < (seen w).size.jobs) (n : C
     free : get_or w.groups.places p None ≡ None
     free = ap (λ i. get_or w.groups.places i None) first ∙ first_free-free w.groups.places (subst (λ i. i < length w.groups.places) first within)
 
-    counted : counters_of more ≡ record (counters_of (get_or w.counts.items job nothing_counted)) { groups = (counters_of (get_or w.counts.items job nothing_counted)).groups + 1 }
-    counted = ap (λ (m : Counts). counters_of (record { contexts = m.contexts; groups = m.groups + 1; tags = m.tags })) (read-counts w job known n read)
+    counted : more ≡ record (get_or w.counts.items job nothing_counted) { groups = (get_or w.counts.items job nothing_counted).groups + 1 }
+    counted = ap (λ (m : Counters). record { contexts = m.contexts; groups = m.groups + 1; tags = m.tags }) (read-counts w job known n read)
 
     sound-later : IsSound later
     unfolding seen parts
@@ -84,7 +84,7 @@ insert-j-requires-clause-room c =
 pub overflow_add-counts : goal.overflow_add-counts
 unfolding seen parts world_of
 overflow_add-counts c =
-    let same = ap (λ (n : Counts). n.groups) (read-counts c.args.self.now c.args.job c.requires.known c.index-counts.result.now c.index-counts.ensures) in
+    let same = ap (λ (n : Counters). n.groups) (read-counts c.args.self.now c.args.job c.requires.known c.index-counts.result.now c.index-counts.ensures) in
     omega (arith, same, c.requires.few)
 
 pub index_mut-requires : goal.index_mut-requires

@@ -1,6 +1,7 @@
 use Rattle.std.proofs.Common.{◌<◌, arith, ap, length}
-use Rattle.lazy_world.specs.declared.counts.Counts.{Counts}
-use Rattle.lazy_world.specs.States.{nothing_counted, world_of}
+use Rattle.lwc_base.specs.World.{nothing_counted}
+use Rattle.lwc_types.specs.declared.counters.Counters.{Counters}
+use Rattle.lazy_world.specs.States.{world_of}
 use Rattle.lazy_world.specs.Worlds.{parts, seen}
 use Rattle.std.proofs.lemmas.List.{get_or_read}
 use Rattle.lazy_world.proofs.world.PlacedWorld.next_name.Goals as goal
@@ -14,4 +15,4 @@ unfolding seen parts world_of
 returns c =
     let s = parts c.args.self.now in
     let known : c.args.job < length s.counts = omega (arith, c.args.self.now.sound.sizes.counts, c.requires) in
-    ap (λ (n : Counts). record { job = c.args.job; k = n.contexts }) (get_or_read s.counts c.args.job _ known c.index.ensures nothing_counted)
+    ap (λ (n : Counters). record { job = c.args.job; k = n.contexts }) (get_or_read s.counts c.args.job _ known c.index.ensures nothing_counted)

@@ -1,7 +1,8 @@
 use Rattle.std.proofs.Common.{◌<◌, ap, arith, length}
 use Rattle.std.proofs.lemmas.List.{get_or_read}
-use Rattle.lazy_world.specs.declared.counts.Counts.{Counts}
-use Rattle.lazy_world.specs.States.{nothing_counted, world_of}
+use Rattle.lwc_base.specs.World.{nothing_counted}
+use Rattle.lwc_types.specs.declared.counters.Counters.{Counters}
+use Rattle.lazy_world.specs.States.{world_of}
 use Rattle.lazy_world.specs.Worlds.{parts, seen}
 use Rattle.lazy_world.proofs.world.PlacedWorld.unnamed.Goals as goal
 
@@ -14,4 +15,4 @@ unfolding seen parts world_of
 returns c =
     let s = parts c.args.self.now in
     let known : 0 < length s.counts = omega (arith, c.args.self.now.sound.sizes.counts, c.args.self.now.sound.sizes.size.jobs.0) in
-    ap (λ (m : Counts). record { job = 0; k = m.groups }) (get_or_read s.counts 0 _ known c.index.ensures nothing_counted)
+    ap (λ (m : Counters). record { job = 0; k = m.groups }) (get_or_read s.counts 0 _ known c.index.ensures nothing_counted)

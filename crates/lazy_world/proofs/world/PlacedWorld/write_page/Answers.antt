@@ -4,21 +4,21 @@ use Rattle.std.specs.Prelude.{is_some}
 use Rattle.lwc_base.specs.Cells.{page_at}
 use Rattle.lwc_base.specs.Frames.{used}
 use Rattle.lwc_base.specs.Store.{Piece}
-use Rattle.lwc_base.specs.World.{Counters}
 use Rattle.lwc_types.specs.declared.key.Key.TheVariants.{Page}
+use Rattle.lwc_types.specs.declared.counters.Counters.{Counters}
 use Rattle.lwc_types.specs.declared.name.Name.{Name}
 use Rattle.lwc_types.specs.declared.name.Tag.{Tag}
 use Rattle.cow_space.specs.Cells.{place_of}
 use Rattle.cow_space.specs.Tags as places
 use Rattle.cow_space.specs.Writes.{write_page, written_value}
-use Rattle.lazy_world.specs.declared.counts.Counts.{Counts}
+use Rattle.lwc_base.specs.World.{nothing_counted}
 use Rattle.lazy_world.specs.declared.places.Places.{Places}
 use Rattle.lazy_world.specs.declared.world.PlacedWorld.{PlacedWorld}
 use Rattle.lazy_world.specs.Cells.{Row, put_row}
 use Rattle.lazy_world.specs.Memory.{holder}
 use Rattle.lazy_world.specs.Seen.{count, frame_count, pages, rights, rows}
 use Rattle.lazy_world.specs.Sound.{IsSound}
-use Rattle.lazy_world.specs.States.{Parts, counters_of, nothing_counted, world_of}
+use Rattle.lazy_world.specs.States.{Parts, world_of}
 use Rattle.lazy_world.specs.Stores.{parts_at, store_pages, taken_at}
 use Rattle.lazy_world.specs.Worlds.{parts, seen}
 use mir.Val.{bool_byte}
@@ -36,7 +36,7 @@ as_number : (b : Bool) → bool_byte b ≡ cond b 1 0
 as_number true = refl
 as_number false = refl
 
-next-is : (s : Parts) (job : ℕ) → (world_of s).next job ≡ counters_of (get_or s.counts job nothing_counted)
+next-is : (s : Parts) (job : ℕ) → (world_of s).next job ≡ get_or s.counts job nothing_counted
 unfolding world_of
 next-is s job = refl
 
@@ -46,13 +46,13 @@ frames-are w = sym w.frames
 
 -- a page of a context, at the place that holds it, and what the job has counted
 module _ (w : PlacedWorld) (c : Name) (i p j job : ℕ) (found : fm.get (parts w).contexts.map c ≡ Some i) (there : holder (parts w) i p ≡ Some j) (is_there : is_some (page_at (seen w) c p) ≡ true)
-    (known : job < (seen w).size.jobs) (now : Counts) (read : now ≡ get_or w.counts.items job now) where
+    (known : job < (seen w).size.jobs) (now : Counters) (read : now ≡ get_or w.counts.items job now) where
   is_now : now ≡ get_or w.counts.items job nothing_counted
   is_now = read-counts w job known now read
 
   is_tag : tag_with job now.tags ≡ tag_with job ((seen w).next job).tags
   unfolding seen parts
-  is_tag = ap (λ (m : Counts). tag_with job m.tags) is_now ∙ sym (ap (λ (m : Counters). tag_with job m.tags) (next-is (parts w) job))
+  is_tag = ap (λ (m : Counters). tag_with job m.tags) is_now ∙ sym (ap (λ (m : Counters). tag_with job m.tags) (next-is (parts w) job))
 
   new : places.IsNewTag (pages w.places) (tag_with job now.tags)
   unfolding seen parts
@@ -68,7 +68,7 @@ module _ (w : PlacedWorld) (c : Name) (i p j job : ℕ) (found : fm.get (parts w
   module _ (q : Places) (piece : Piece) (parted : Bool) (taken : ℕ) (inside : j < count w.places) (is_parted : parted ≡ places.is_parting (pages w.places) j p) (is_taken : taken ≡ bool_byte parted)
       (pages_are : pages q ≡ write_page (pages w.places) j p piece (tag_with job now.tags))
       (rows_are : rows q ≡ put_row (rows w.places) j (with_page p (written_value (pages w.places) j p piece (tag_with job now.tags)) (rows w.places j))) (rights_are : rights q ≡ rights w.places) where
-    abbrev n : Counts
+    abbrev n : Counters
     n = record { contexts = now.contexts; groups = now.groups; tags = now.tags + taken }
 
     abbrev written : Tag → ℕ → Row
@@ -87,10 +87,10 @@ module _ (w : PlacedWorld) (c : Name) (i p j job : ℕ) (found : fm.get (parts w
     rows_now : rows q ≡ written (tag_with job ((seen w).next job).tags)
     rows_now = rows_are ∙ ap written is_tag
 
-    counted : counters_of n ≡ record (counters_of (get_or w.counts.items job nothing_counted)) { tags = (counters_of (get_or w.counts.items job nothing_counted)).tags + taken_at (seen w) c p }
+    counted : n ≡ record (get_or w.counts.items job nothing_counted) { tags = (get_or w.counts.items job nothing_counted).tags + taken_at (seen w) c p }
     counted =
         let one = is_taken ∙ as_number parted ∙ ap {B = ℕ} (λ (b : Bool). cond b 1 0) (is_parted ∙ part) in
-        λ e. counters_of (record { contexts = (is_now e).contexts; groups = (is_now e).groups; tags = (is_now e).tags + one e })
+        λ e. record { contexts = (is_now e).contexts; groups = (is_now e).groups; tags = (is_now e).tags + one e }
 
     inside_pages : j < length (pages w.places)
     inside_pages = subst (λ m. j < m) (sym (count-pages w.places)) inside

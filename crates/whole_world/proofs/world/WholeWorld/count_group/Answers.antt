@@ -1,14 +1,13 @@
 use Rattle.std.proofs.Common.{◌∙◌, ◌+◌, ap, arith, subst, sym}
-use Rattle.lwc_base.specs.World.{Counters}
+use Rattle.lwc_types.specs.declared.counters.Counters.{Counters}
 use Rattle.lwc_base.specs.Fresh.{Rises}
 use Rattle.whole_world.proofs.Stores.{count_on_as}
-use Rattle.whole_world.specs.States.{counters_of}
 use Rattle.whole_world.specs.Worlds.{seen}
 use Rattle.whole_world.proofs.world.WholeWorld.count_group.Goals as goal
 
 pub set_counts-requires-clause-rises : goal.set_counts-requires-clause-rises
 set_counts-requires-clause-rises c =
-    subst (λ n. Rises n (counters_of (record c.counts_of-counts.result { groups = c.counts_of-counts.result.groups + 1 }))) (sym c.counts_of-counts.ensures)
+    subst (λ n. Rises n (record c.counts_of-counts.result { groups = c.counts_of-counts.result.groups + 1 })) (sym c.counts_of-counts.ensures)
     (record { contexts = omega arith; groups = omega arith; tags = omega arith })
 
 pub returns-clause-world : goal.returns-clause-world

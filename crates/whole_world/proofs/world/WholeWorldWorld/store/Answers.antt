@@ -1,6 +1,7 @@
 use Rattle.std.proofs.Common.{◌≡◌, ℕ, ◌∙◌, ap, sym, refl, arith}
 use Rattle.lwc_base.specs.Store.{store, parting_count, Absent, ReadOnly, Full, Done, after_store}
-use Rattle.lwc_base.specs.World.{World, Counters}
+use Rattle.lwc_base.specs.World.{World}
+use Rattle.lwc_types.specs.declared.counters.Counters.{Counters}
 use Rattle.lwc_types.specs.declared.size.WorldSize.{WorldSize}
 use Rattle.whole_world.specs.Worlds.{seen}
 use Rattle.whole_world.proofs.Stores.{after_store-counted, few_pages-seen, frames-seen, store-absent, store-full, store-done, store-read_only, is_present-touched, is_writable-touched, parting_count-touched}

@@ -3,7 +3,7 @@ use Rattle.std.proofs.Math.ListN.{length-set}
 use Rattle.std.proofs.lemmas.List.{get_or_read}
 use Rattle.pool_base.proofs.PaddedLemmas.{padded-set, held-in_list, get_or-padded}
 use Rattle.pool_base.proofs.StackLemmas.{IsStack-hold}
-use Rattle.pool_base.proofs.counts.Counts.hold.Goals as goal
+use Rattle.pool_base.proofs.hold_counts.HoldCounts.hold.Goals as goal
 
 pub invariant_of-self : goal.invariant_of-self
 invariant_of-self c =

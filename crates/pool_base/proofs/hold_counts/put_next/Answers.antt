@@ -1,7 +1,7 @@
 use Rattle.std.proofs.Common.{refl, arith}
 use Rattle.std.proofs.Math.ListN.{length-set}
 use Rattle.pool_base.proofs.PaddedLemmas.{padded-set, padded-push}
-use Rattle.pool_base.proofs.counts.put_next.Goals as goal
+use Rattle.pool_base.proofs.hold_counts.put_next.Goals as goal
 
 pub returns-then-place-len-clause-padded : goal.returns-then-place-len-clause-padded
 returns-then-place-len-clause-padded g c = λ size fill lt.

@@ -3,7 +3,7 @@ use Rattle.std.proofs.Math.ListN.{length-set}
 use Rattle.std.proofs.lemmas.List.{get_or_read}
 use Rattle.pool_base.proofs.PaddedLemmas.{padded-set, held-in_list, get_or-padded}
 use Rattle.pool_base.proofs.StackLemmas.{IsStack-drop, IsStack-hold, length-free-held}
-use Rattle.pool_base.proofs.counts.Counts.drop_hold.Goals as goal
+use Rattle.pool_base.proofs.hold_counts.HoldCounts.drop_hold.Goals as goal
 
 pub push_reserved-requires : goal.push_reserved-requires
 push_reserved-requires c =

@@ -1,8 +1,8 @@
 use Rattle.std.proofs.Common.{ap, arith}
-use Rattle.pool_base.specs.Counts.{held_count}
+use Rattle.pool_base.specs.HoldCounts.{held_count}
 use Rattle.pool_base.proofs.PaddedLemmas.{held-padded}
 use Rattle.pool_base.proofs.StackLemmas.{free-held}
-use Rattle.pool_base.proofs.counts.Counts.used.Goals as goal
+use Rattle.pool_base.proofs.hold_counts.HoldCounts.used.Goals as goal
 
 pub returns-clause-held : goal.returns-clause-held
 returns-clause-held c =

@@ -2,7 +2,7 @@ use Rattle.std.proofs.Common.{ap, arith, refl, ◌∙◌, set}
 use Rattle.std.proofs.Math.ListN.{length-set}
 use Rattle.pool_base.proofs.PaddedLemmas.{padded-set, padded-push}
 use Rattle.pool_base.proofs.StackLemmas.{IsStack-take, top-inside}
-use Rattle.pool_base.proofs.counts.Counts.take.Goals as goal
+use Rattle.pool_base.proofs.hold_counts.HoldCounts.take.Goals as goal
 
 pub invariant_of-self : goal.invariant_of-self
 invariant_of-self c =

@@ -1,6 +1,6 @@
 ghost use Rattle.std.specs.Prelude.{◌≡◌, ◌≤◌, ℕ, ◌+◌, ◌-◌, ◌<◌, ◌^◌, ◌↔◌, List, IfOk, IfSome, IfNone, IsNone, length};
 ghost use Rattle.std.specs.Prelude.{max, replicate, slice_index, slice_set, vec_capacity};
-ghost use Rattle.pool_base.specs.Counts.{free_count, held_count};
+ghost use Rattle.pool_base.specs.HoldCounts.{free_count, held_count};
 ghost use Rattle.pool_base.specs.Padded.{padded};
 
 use std::alloc::{AllocError, Global};
@@ -9,14 +9,14 @@ use std::marker::Model;
 /// How often each of a fixed number of places is held. Places that were given back are kept on a stack, and
 /// the others are taken in order, so that no call searches for a free one, and opening writes none.
 #[derive(Drop)]
-pub struct Counts {
+pub struct HoldCounts {
     counts: Vec<u32>,
     free: Vec<u32>,
     places: u32,
 }
 
-impl Model for Counts {
-    ghost use Rattle.pool_base.specs.Counts.{Places, IsStack};
+impl Model for HoldCounts {
+    ghost use Rattle.pool_base.specs.HoldCounts.{Places, IsStack};
 
     ghost Value = { Places };
 
@@ -36,14 +36,14 @@ impl Model for Counts {
     } };
 }
 
-impl Counts {
+impl HoldCounts {
     /// This number of places, none of them held. The error says that memory ran out.
-    pub fn open(alloc: Global, places: u32) -> Result<Counts, AllocError>
+    pub fn open(alloc: Global, places: u32) -> Result<HoldCounts, AllocError>
         ensures { IfOk result (λ counts. counts ≡ record { counts = replicate places 0; taken = 0 }) }
     {
         let counts = Vec::with_capacity(alloc, places as usize)?;
         let free = Vec::with_capacity(alloc, places as usize)?;
-        Ok(Counts {
+        Ok(HoldCounts {
             counts,
             free,
             places,
