@@ -79,42 +79,42 @@ pub put-returns-else-level-eq-LEAF_LEVEL-clause-moves : goal.put-returns-else-le
 put-returns-else-level-eq-LEAF_LEVEL-clause-moves t c =
     let up : 1 < c.args.level = omega (arith, c.requires.low, c.if-level-eq-LEAF_LEVEL.false) in
     let swap = c.swap-old.ensures in
-    Moves-put c.args.level _ _ _ _ _ _ _ _ c.args.node.n c.args.i c.args.link up c.requires.place c.requires.sound c.requires.own (λ m is. (c.requires.held up m is).0)
+    Moves-put c.args.level _ _ _ _ _ _ _ _ c.args.node.n c.args.index c.args.link up c.requires.place c.requires.sound c.requires.own (λ m is. (c.requires.held up m is).0)
     c.hold_link.ensures.sound c.hold_link.ensures.moves (rw swap.was at swap.moves) swap.nodes swap.own swap.sound (rw swap.was at swap.loose) c.release.ensures.sound (rw swap.was at c.release.ensures.moves)
 
 pub put-returns-else-level-eq-LEAF_LEVEL-clause-sound : goal.put-returns-else-level-eq-LEAF_LEVEL-clause-sound
 put-returns-else-level-eq-LEAF_LEVEL-clause-sound t c =
     let up : 1 < c.args.level = omega (arith, c.requires.low, c.if-level-eq-LEAF_LEVEL.false) in
     let swap = c.swap-old.ensures in
-    IsSound-put c.args.level _ _ _ _ _ _ _ _ c.args.node.n c.args.i c.args.link up c.requires.place c.requires.sound c.requires.own (λ m is. (c.requires.held up m is).0)
+    IsSound-put c.args.level _ _ _ _ _ _ _ _ c.args.node.n c.args.index c.args.link up c.requires.place c.requires.sound c.requires.own (λ m is. (c.requires.held up m is).0)
     c.hold_link.ensures.sound c.hold_link.ensures.moves (rw swap.was at swap.moves) swap.nodes swap.own swap.sound (rw swap.was at swap.loose) c.release.ensures.sound (rw swap.was at c.release.ensures.moves)
 
 pub put-returns-else-level-eq-LEAF_LEVEL-clause-here : goal.put-returns-else-level-eq-LEAF_LEVEL-clause-here
 put-returns-else-level-eq-LEAF_LEVEL-clause-here t c =
     let up : 1 < c.args.level = omega (arith, c.requires.low, c.if-level-eq-LEAF_LEVEL.false) in
     let swap = c.swap-old.ensures in
-    here-put c.args.level _ _ _ _ _ _ _ _ c.args.node.n c.args.i c.args.link up c.requires.place c.requires.sound c.requires.own (λ m is. (c.requires.held up m is).0)
+    here-put c.args.level _ _ _ _ _ _ _ _ c.args.node.n c.args.index c.args.link up c.requires.place c.requires.sound c.requires.own (λ m is. (c.requires.held up m is).0)
     c.hold_link.ensures.sound c.hold_link.ensures.moves (rw swap.was at swap.moves) swap.nodes swap.own swap.sound (rw swap.was at swap.loose) c.release.ensures.sound (rw swap.was at c.release.ensures.moves)
 
 pub put-returns-else-level-eq-LEAF_LEVEL-clause-others : goal.put-returns-else-level-eq-LEAF_LEVEL-clause-others
 put-returns-else-level-eq-LEAF_LEVEL-clause-others t c =
     let up : 1 < c.args.level = omega (arith, c.requires.low, c.if-level-eq-LEAF_LEVEL.false) in
     let swap = c.swap-old.ensures in
-    others-put c.args.level _ _ _ _ _ _ _ _ c.args.node.n c.args.i c.args.link up c.requires.place c.requires.sound c.requires.own (λ m is. (c.requires.held up m is).0)
+    others-put c.args.level _ _ _ _ _ _ _ _ c.args.node.n c.args.index c.args.link up c.requires.place c.requires.sound c.requires.own (λ m is. (c.requires.held up m is).0)
     c.hold_link.ensures.sound c.hold_link.ensures.moves (rw swap.was at swap.moves) swap.nodes swap.own swap.sound (rw swap.was at swap.loose) c.release.ensures.sound (rw swap.was at c.release.ensures.moves)
 
 pub put-returns-else-level-eq-LEAF_LEVEL-clause-peers : goal.put-returns-else-level-eq-LEAF_LEVEL-clause-peers
 put-returns-else-level-eq-LEAF_LEVEL-clause-peers t c =
     let up : 1 < c.args.level = omega (arith, c.requires.low, c.if-level-eq-LEAF_LEVEL.false) in
     let swap = c.swap-old.ensures in
-    peers-put c.args.level _ _ _ _ _ _ _ _ c.args.node.n c.args.i c.args.link up c.requires.place c.requires.sound c.requires.own (λ m is. (c.requires.held up m is).0)
+    peers-put c.args.level _ _ _ _ _ _ _ _ c.args.node.n c.args.index c.args.link up c.requires.place c.requires.sound c.requires.own (λ m is. (c.requires.held up m is).0)
     c.hold_link.ensures.sound c.hold_link.ensures.moves (rw swap.was at swap.moves) swap.nodes swap.own swap.sound (rw swap.was at swap.loose) c.release.ensures.sound (rw swap.was at c.release.ensures.moves)
 
 pub put-returns-else-level-eq-LEAF_LEVEL-clause-there : goal.put-returns-else-level-eq-LEAF_LEVEL-clause-there
 put-returns-else-level-eq-LEAF_LEVEL-clause-there t c =
     let up : 1 < c.args.level = omega (arith, c.requires.low, c.if-level-eq-LEAF_LEVEL.false) in
     let swap = c.swap-old.ensures in
-    there-put c.args.level _ _ _ _ _ _ _ _ c.args.node.n c.args.i c.args.link up c.requires.place c.requires.sound c.requires.own (λ m is. (c.requires.held up m is).0)
+    there-put c.args.level _ _ _ _ _ _ _ _ c.args.node.n c.args.index c.args.link up c.requires.place c.requires.sound c.requires.own (λ m is. (c.requires.held up m is).0)
     c.hold_link.ensures.sound c.hold_link.ensures.moves (rw swap.was at swap.moves) swap.nodes swap.own swap.sound (rw swap.was at swap.loose) c.release.ensures.sound (rw swap.was at c.release.ensures.moves)
 
 pub put-returns-else-level-eq-LEAF_LEVEL-clause-free : goal.put-returns-else-level-eq-LEAF_LEVEL-clause-free
@@ -127,14 +127,14 @@ put-returns-then-level-eq-LEAF_LEVEL-clause-there t c = λ k q off.
     let new = c.write.new.self.nodes.all in
     let n = c.args.node.n in
     let one : c.args.level ≡ 1 = c.if-level-eq-LEAF_LEVEL.true in
-    let same : entry_of new n k ≡ entry_of old n k = ap (λ ns. entry_of ns n k) c.write.ensures.nodes ∙ there-entered c.args.level 1 old _ c.requires.sound n c.args.i _ (subst (λ l. IsOwned old l n) one c.requires.own) c.requires.place k off in
+    let same : entry_of new n k ≡ entry_of old n k = ap (λ ns. entry_of ns n k) c.write.ensures.nodes ∙ there-entered c.args.level 1 old _ c.requires.sound n c.args.index _ (subst (λ l. IsOwned old l n) one c.requires.own) c.requires.place k off in
     entry-cell new (c.args.level - 1) (entry_of new n k) q leaf ∙ same ∙ sym (entry-cell old (c.args.level - 1) (entry_of old n k) q leaf)
 
 pub put-returns-else-level-eq-LEAF_LEVEL-clause-lone : goal.put-returns-else-level-eq-LEAF_LEVEL-clause-lone
 put-returns-else-level-eq-LEAF_LEVEL-clause-lone t c =
     let up : 1 < c.args.level = omega (arith, c.requires.low, c.if-level-eq-LEAF_LEVEL.false) in
     let swap = c.swap-old.ensures in
-    lone-put c.args.level _ _ _ _ _ _ _ _ c.args.node.n c.args.i c.args.link up c.requires.place c.requires.sound c.requires.own (c.requires.held up)
+    lone-put c.args.level _ _ _ _ _ _ _ _ c.args.node.n c.args.index c.args.link up c.requires.place c.requires.sound c.requires.own (c.requires.held up)
     c.hold_link.ensures.sound c.hold_link.ensures.moves (rw swap.was at swap.moves) swap.nodes swap.own swap.sound (rw swap.was at swap.loose) c.release.ensures.sound (rw swap.was at c.release.ensures.moves)
     c.hold_link.ensures.lone (rw swap.was at c.release.ensures.lone)
 
@@ -142,7 +142,7 @@ pub put-returns-else-level-eq-LEAF_LEVEL-clause-rest : goal.put-returns-else-lev
 put-returns-else-level-eq-LEAF_LEVEL-clause-rest t c =
     let up : 1 < c.args.level = omega (arith, c.requires.low, c.if-level-eq-LEAF_LEVEL.false) in
     let swap = c.swap-old.ensures in
-    λ k from to off apart. rest-put c.args.level _ _ _ _ _ _ _ _ c.args.node.n c.args.i c.args.link up c.requires.place c.requires.sound c.requires.own (c.requires.held up)
+    λ k from to off apart. rest-put c.args.level _ _ _ _ _ _ _ _ c.args.node.n c.args.index c.args.link up c.requires.place c.requires.sound c.requires.own (c.requires.held up)
     c.hold_link.ensures.sound c.hold_link.ensures.moves (rw swap.was at swap.moves) swap.nodes swap.own swap.sound (rw swap.was at swap.loose) c.release.ensures.sound (rw swap.was at c.release.ensures.moves)
     c.hold_link.ensures.lone (rw swap.was at c.release.ensures.lone) k off apart from to
 
@@ -151,7 +151,7 @@ put-returns-then-level-eq-LEAF_LEVEL-clause-lone t c =
     let old = c.args.self.now.nodes.all in
     let n = c.args.node.n in
     lone-same old c.write.new.self.nodes.all (is_root (n + 1)) _
-    (λ x. ap (λ ns. count_of ns x) c.write.ensures.nodes ∙ count-entered c.args.level 1 old _ c.requires.sound n c.args.i _ (subst (λ l. IsOwned old l n) c.if-level-eq-LEAF_LEVEL.true c.requires.own) c.requires.place x)
+    (λ x. ap (λ ns. count_of ns x) c.write.ensures.nodes ∙ count-entered c.args.level 1 old _ c.requires.sound n c.args.index _ (subst (λ l. IsOwned old l n) c.if-level-eq-LEAF_LEVEL.true c.requires.own) c.requires.place x)
 
 pub put-returns-then-level-eq-LEAF_LEVEL-clause-rest : goal.put-returns-then-level-eq-LEAF_LEVEL-clause-rest
 put-returns-then-level-eq-LEAF_LEVEL-clause-rest t c = λ k from to off apart.

@@ -101,12 +101,12 @@ module _ (t : ℕ) (c : goal.share_entry-After-swap t) where
       let n = c.args.node.n in
       beside-less a (is_root (n + 1)) (λ x. is_root (n + 1) x + is_root 0 x) (c.args.level - 1) c.args.link (λ x. let z = is_root-none x in omega (arith, z)) (c.requires.beside up)
 
-  changed : ChildChanged c.args.level c.args.self.now.nodes.all c.swap-child.new.self.nodes.all c.share_at-child.new.self.nodes.all c.swap.new.self.nodes.all c.args.self.now.frames c.swap.new.self.frames c.args.node.n c.args.i (c.share_at-child.result.n + 1)
+  changed : ChildChanged c.args.level c.args.self.now.nodes.all c.swap-child.new.self.nodes.all c.share_at-child.new.self.nodes.all c.swap.new.self.nodes.all c.args.self.now.frames c.swap.new.self.frames c.args.node.n c.args.index (c.share_at-child.result.n + 1)
   changed =
       let one = c.swap-child.ensures in
       let two = c.swap.ensures in
       let rec = c.share_at-child.ensures in
-      child-changed c.args.level c.args.self.now.nodes.all c.swap-child.new.self.nodes.all c.share_at-child.new.self.nodes.all c.swap.new.self.nodes.all _ _ _ _ c.args.node.n c.args.i (c.share_at-child.result.n + 1) up c.requires.place
+      child-changed c.args.level c.args.self.now.nodes.all c.swap-child.new.self.nodes.all c.share_at-child.new.self.nodes.all c.swap.new.self.nodes.all _ _ _ _ c.args.node.n c.args.index (c.share_at-child.result.n + 1) up c.requires.place
       c.requires.sound c.requires.own one.nodes one.sound one.own (rw one.was at one.loose) (rw one.was at one.moves)
       rec.sound (loose-own _ _ _ rec.own) (rw one.was at rec.moves) two.nodes two.sound two.own (rw two.was at two.moves)
 
