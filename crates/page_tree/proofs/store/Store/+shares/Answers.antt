@@ -241,11 +241,11 @@ share_entries-entries-preserved t c =
     let inv = c.entries.invariant in
     let level = c.args.level in
     let w = c.width-width.result in
-    let i = c.entries.index in
+    let i = c.entries.i in
     let s0 = c.args.self.now.nodes.all in
     let s1 = c.entries.self.nodes.all in
     let n = c.args.node.n in
-    let at = in-range level c.args.first c.args.end i w c.requires.low c.width-width.ensures c.entries.auto.index c.entries-test.true c.requires.order c.requires.page in
+    let at = in-range level c.args.first c.args.end i w c.requires.low c.width-width.ensures c.entries.auto.i c.entries-test.true c.requires.order c.requires.page in
     let beside = beside-moved level level level s0 s1 _ _ (is_root (n + 1)) (is_root (n + 1)) c.args.from (omega (arith, c.requires.low)) c.requires.sound inv.moves c.requires.from in
     let low = c.max.result - i * w in
     let high = c.min.result - i * w in
@@ -263,7 +263,7 @@ share_entries-entries-preserved t c =
     let high_is : high + i * w ≡ min c.args.end (i * w + w) = omega (arith, c.min.ensures, at.within) in
     let some : 0 < level = omega (arith, c.requires.low) in
     let pos : 0 < w = let p = pow-pos (level - 1) in omega (arith, p, c.width-width.ensures) in
-    let costs = steps-next i (c.args.first / w) ((c.args.end - 1) / w) (entry_steps level) (share_steps (level - 1)) c.args.self.now.nodes.steps c.entries.self.nodes.steps c.share_entry.new.self.nodes.steps c.entries.auto.index c.entries-test.true
+    let costs = steps-next i (c.args.first / w) ((c.args.end - 1) / w) (entry_steps level) (share_steps (level - 1)) c.args.self.now.nodes.steps c.entries.self.nodes.steps c.share_entry.new.self.nodes.steps c.entries.auto.i c.entries-test.true
     (subst (λ x. i ≤ c.args.first / x → c.entries.self.nodes.steps ≡ c.args.self.now.nodes.steps) (sym c.width-width.ensures) inv.cost_first)
     (subst (λ x. i ≤ (c.args.end - 1) / x → c.entries.self.nodes.steps ≤ c.args.self.now.nodes.steps + ((i - c.args.first / x) * entry_steps level + share_steps (level - 1))) (sym c.width-width.ensures) inv.cost_middle)
     put.cost
@@ -274,14 +274,14 @@ share_entries-entries-preserved t c =
       moves = Moves-trans _ _ _ _ _ _ _ _ _ _ _ c.requires.sound inv.moves put.moves;
       within = range-within level s0 s1 c.share_entry.new.self.nodes.all n i c.args.from c.link_at-link.result c.args.first c.args.end low high w some c.width-width.ensures low_is high_is c.link_at-link.ensures same put.within put.outside put.there inv.within;
       rest = range-rest level s0 s1 c.share_entry.new.self.nodes.all n i c.args.from c.link_at-link.result c.args.first c.args.end low high w some c.width-width.ensures low_is high_is c.link_at-link.ensures same put.within put.outside put.there inv.rest;
-      cost_first = λ early. absurd (let e = ap (λ x. c.args.first / x) c.width-width.ensures in omega (arith, early, e, c.entries.auto.index));
+      cost_first = λ early. absurd (let e = ap (λ x. c.args.first / x) c.width-width.ensures in omega (arith, early, e, c.entries.auto.i));
       cost_middle = (subst (λ x. StepsNext i (c.args.first / x) ((c.args.end - 1) / x) (entry_steps level) (share_steps (level - 1)) c.args.self.now.nodes.steps c.share_entry.new.self.nodes.steps) c.width-width.ensures costs).0;
       cost_all = (subst (λ x. StepsNext i (c.args.first / x) ((c.args.end - 1) / x) (entry_steps level) (share_steps (level - 1)) c.args.self.now.nodes.steps c.share_entry.new.self.nodes.steps) c.width-width.ensures costs).1;
       cost_leaf = λ leaf. let a = put.cost_leaf leaf in let b = inv.cost_leaf leaf in omega (arith, a, b);
       opens = λ is_open.
           opens-next level c.args.first c.args.end i low high s0 s1 c.share_entry.new.self.nodes.all n c.args.self.now.nodes.steps c.entries.self.nodes.steps c.share_entry.new.self.nodes.steps c.requires.low
           (subst (InRange level c.args.first c.args.end i) c.width-width.ensures at)
-          (subst (λ x. c.args.first / x ≤ i) c.width-width.ensures c.entries.auto.index) (subst (λ x. i < (c.args.end - 1) / x + 1) c.width-width.ensures c.entries-test.true)
+          (subst (λ x. c.args.first / x ≤ i) c.width-width.ensures c.entries.auto.i) (subst (λ x. i < (c.args.end - 1) / x + 1) c.width-width.ensures c.entries-test.true)
           (subst (λ x. low + i * x ≡ max c.args.first (i * x)) c.width-width.ensures low_is) (subst (λ x. high + i * x ≡ min c.args.end (i * x + x)) c.width-width.ensures high_is)
           c.requires.order c.requires.page is_open (inv.opens is_open) (link_short-once c.share_entry.new.self.nodes.all n put.own.once)
           put.others put.open put.edge put.free_open put.free_whole put.cost_open put.cost_open_whole
