@@ -12,6 +12,7 @@ use Rattle.kernel_core.specs.Machine.{home_of}
 use Rattle.kernel_core.specs.Start.{counted, first_page, first_slot, first_workers, home_context, home_value, image_tag, serve_world, start, world_of}
 use Rattle.lwc_base.proofs.Facts.{orders}
 use Rattle.lwc_base.specs.Channels.{opened}
+use Rattle.lwc_base.specs.World.{nothing_counted}
 use Rattle.lwc_base.specs.declared.cell.Cell.TheVariants.{Own}
 use Rattle.lwc_base.specs.declared.descriptor.Descriptor.{Descriptor}
 use Rattle.lwc_base.specs.declared.descriptor.Descriptor.TheVariants.{Empty, Console, File}
@@ -24,7 +25,7 @@ use Rattle.lwc_types.specs.declared.page.PageValue.TheVariants.{Data}
 use Rattle.lwc_names.proofs.Tables as tables
 use Rattle.lwc_names.proofs.Tables.{name_cmp-shifted}
 use Rattle.lwc_names.specs.Machines.{EachActsForItsJob, shifted_machine}
-use Rattle.lwc_names.specs.Shifts.{nothing_counted, shifted_channels, shifted_context, shifted_counters, shifted_descriptor, shifted_group, shifted_name, shifted_page, shifted_table, shifted_value, shifted_world}
+use Rattle.lwc_names.specs.Shifts.{shifted_channels, shifted_context, shifted_counters, shifted_descriptor, shifted_group, shifted_name, shifted_page, shifted_table, shifted_value, shifted_world}
 use Rattle.request_isolation.specs.Alone.{start_alone}
 use Rattle.snapshot_host.specs.declared.finishing.Finished.{Finished}
 

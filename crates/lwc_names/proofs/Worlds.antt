@@ -7,7 +7,7 @@ use Rattle.std.specs.FinMap as fm
 use Rattle.lwc_base.specs.Cells.{value_at, value_of}
 use Rattle.lwc_base.proofs.Facts.{orders}
 use Rattle.lwc_base.specs.Keys.{ValueOf, is_there, nothing}
-use Rattle.lwc_base.specs.World.{World, Context, Group, add_context, add_group, change_context, change_counters, change_group, changed_context, changed_group, context, group, is_live, new_context, new_group, new_value, next_context, next_group}
+use Rattle.lwc_base.specs.World.{World, Context, Group, add_context, add_group, change_context, change_counters, change_group, changed_context, changed_group, context, group, is_live, new_context, new_group, new_value, next_context, next_group, nothing_counted}
 use Rattle.lwc_base.specs.declared.cell.Cell.{Cell}
 use Rattle.lwc_base.specs.declared.cell.Cell.TheVariants.{Own, Common}
 use Rattle.lwc_types.specs.Names.{name_cmp}
@@ -20,7 +20,7 @@ use Rattle.lwc_types.specs.declared.regs.Regs.{Regs}
 use Rattle.lwc_types.specs.declared.right.Right.TheVariants.{Write}
 use Rattle.lwc_names.proofs.Tables as tables
 use Rattle.lwc_names.proofs.Tables.{name_cmp-shifted}
-use Rattle.lwc_names.specs.Shifts.{shifted_cell, shifted_context, shifted_counters, shifted_group, shifted_job, shifted_name, nothing_counted, shifted_value, shifted_world}
+use Rattle.lwc_names.specs.Shifts.{shifted_cell, shifted_context, shifted_counters, shifted_group, shifted_job, shifted_name, shifted_value, shifted_world}
 
 module _ (r : ℕ) where
   -- what is under no key has no name
