@@ -16,7 +16,7 @@ pub returns-in-Some-clause-alike : goal.returns-in-Some-clause-alike
 returns-in-Some-clause-alike c q low high =
     let at = c.in-Some.ensures.lookup.3 in
     let absent = absent_before _ c.requires.canonical _ _ c.ended_by.ensures.before _ at.0 (at.1 none) in
-    absent q low high ∙ sym (absent c.args.page (omega arith) c.if-p-segment.true)
+    absent q low high ∙ sym (absent c.args.page (omega arith) c.if-page-segment.true)
 
 pub returns-in-Some-2-clause-within : goal.returns-in-Some-2-clause-within
 returns-in-Some-2-clause-within c =
@@ -29,7 +29,7 @@ pub returns-in-Some-2-clause-alike : goal.returns-in-Some-2-clause-alike
 returns-in-Some-2-clause-alike c q low high =
     let at = c.in-Some.ensures.lookup.3 in
     let own = state_within _ c.requires.canonical _ _ c.ended_by.ensures.before _ at.0 (at.1 none) in
-    own q (omega (arith, low, c.if-p-segment.false)) high ∙ sym (own c.args.page c.if-p-segment.false (omega (arith, low, high)))
+    own q (omega (arith, low, c.if-page-segment.false)) high ∙ sym (own c.args.page c.if-page-segment.false (omega (arith, low, high)))
 
 pub returns-in-None-clause-alike : goal.returns-in-None-clause-alike
 returns-in-None-clause-alike c q low high =
@@ -39,14 +39,14 @@ returns-in-None-clause-alike c q low high =
 pub returns-in-Some-clause-state : goal.returns-in-Some-clause-state
 returns-in-Some-clause-state c =
     let at = c.in-Some.ensures.lookup.3 in
-    sym (absent_before _ c.requires.canonical _ _ c.ended_by.ensures.before _ at.0 (at.1 none) c.args.page (omega arith) c.if-p-segment.true)
+    sym (absent_before _ c.requires.canonical _ _ c.ended_by.ensures.before _ at.0 (at.1 none) c.args.page (omega arith) c.if-page-segment.true)
 
 pub returns-in-Some-2-clause-state : goal.returns-in-Some-2-clause-state
 returns-in-Some-2-clause-state c =
     let at = c.in-Some.ensures.lookup.3 in
     let past = c.ended_by.ensures.after none at.0 in
     let to_is = ap (λ (s : Segment). s.to) (at.1 none) in
-    ap Some c.state.ensures ∙ sym (state_within _ c.requires.canonical _ _ c.ended_by.ensures.before _ at.0 (at.1 none) c.args.page c.if-p-segment.false (omega (arith, past, to_is)))
+    ap Some c.state.ensures ∙ sym (state_within _ c.requires.canonical _ _ c.ended_by.ensures.before _ at.0 (at.1 none) c.args.page c.if-page-segment.false (omega (arith, past, to_is)))
 
 pub returns-in-None-clause-state : goal.returns-in-None-clause-state
 returns-in-None-clause-state c =

@@ -8,14 +8,14 @@ pub returns-in_err-segment : goal.returns-in_err-segment
 returns-in_err-segment c =
     c.from_residual.ensures ∙ sym (absent_after _ c.requires _ _ c.ended_by.ensures.before c.args.page c.in_err-segment.ensures.lookup.3 (omega arith))
 
-pub returns-then-segment-p : goal.returns-then-segment-p
-returns-then-segment-p c =
+pub returns-then-segment-page : goal.returns-then-segment-page
+returns-then-segment-page c =
     let at = c.in_ok-segment.ensures.lookup.3 in
     let past = c.ended_by.ensures.after none at.0 in
     let to_is = ap (λ (s : Segment). s.to) (at.1 none) in
-    ap Some c.state.ensures ∙ sym (state_within _ c.requires _ _ c.ended_by.ensures.before _ at.0 (at.1 none) c.args.page c.if-segment-p.true (omega (arith, past, to_is)))
+    ap Some c.state.ensures ∙ sym (state_within _ c.requires _ _ c.ended_by.ensures.before _ at.0 (at.1 none) c.args.page c.if-segment-page.true (omega (arith, past, to_is)))
 
-pub returns-else-segment-p : goal.returns-else-segment-p
-returns-else-segment-p c =
+pub returns-else-segment-page : goal.returns-else-segment-page
+returns-else-segment-page c =
     let at = c.in_ok-segment.ensures.lookup.3 in
-    sym (absent_before _ c.requires _ _ c.ended_by.ensures.before _ at.0 (at.1 none) c.args.page (omega arith) c.if-segment-p.false)
+    sym (absent_before _ c.requires _ _ c.ended_by.ensures.before _ at.0 (at.1 none) c.args.page (omega arith) c.if-segment-page.false)

@@ -15,7 +15,7 @@ count_given-more-requires-clause-origin c = c.stretch_at.ensures.origin _ c.requ
 pub overflow_add-count : goal.overflow_add-count
 overflow_add-count c =
     let w = c.args.self.now in
-    let after = changed_states (cells w) (rights w) c.args.i c.args.page_runs.now c.args.reads.now in
+    let after = changed_states (cells w) (rights w) c.args.place c.args.page_runs.now c.args.reads.now in
     let stretch = c.stretch_at.ensures in
     let inv = c.stretches.invariant in
     let from = stretch.from in
@@ -28,7 +28,7 @@ overflow_add-count c =
 pub stretches-preserved : goal.stretches-preserved
 stretches-preserved c =
     let w = c.args.self.now in
-    let after = changed_states (cells w) (rights w) c.args.i c.args.page_runs.now c.args.reads.now in
+    let after = changed_states (cells w) (rights w) c.args.place c.args.page_runs.now c.args.reads.now in
     let stretch = c.stretch_at.ensures in
     let inv = c.stretches.invariant in
     let from = stretch.from in

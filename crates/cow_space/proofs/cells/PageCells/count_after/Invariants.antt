@@ -8,9 +8,9 @@ use Rattle.cow_space.proofs.cells.PageCells.count_after.Given as goal
 abbrev pub invariant-stretches : goal.invariant-stretches
 invariant-stretches l = record {
   inside : l.p ≤ MOST_PAGES;
-  counted : l.count ≡ ranges l.p (changed_states (cells l.self) (rights l.self) l.i l.page_runs l.reads);
+  counted : l.count ≡ ranges l.p (changed_states (cells l.self) (rights l.self) l.place l.page_runs l.reads);
   first : l.p ≡ 0 → l.last ≡ None;
-  later : (n : ℕ) → l.p ≡ suc n → l.last ≡ changed_states (cells l.self) (rights l.self) l.i l.page_runs l.reads n;
+  later : (n : ℕ) → l.p ≡ suc n → l.last ≡ changed_states (cells l.self) (rights l.self) l.place l.page_runs l.reads n;
 }
 
 abbrev pub decreases-stretches : goal.decreases-stretches

@@ -6,7 +6,7 @@ use Rattle.cow_space.proofs.cells.PageCells.kinds_after.Goals as goal
 
 pub stretches-init : goal.stretches-init
 stretches-init c =
-    let after = changed_states (cells c.args.self.now) (rights c.args.self.now) c.args.i c.args.page_runs.now c.args.reads.now in
+    let after = changed_states (cells c.args.self.now) (rights c.args.self.now) c.args.place c.args.page_runs.now c.args.reads.now in
     record {
       inside = omega arith;
       have = subst (HaveBelow 0 after) (sym c.empty-kinds.ensures) (none-below after);
@@ -21,7 +21,7 @@ append_given-requires-clause-clear c q low = c.stretches.invariant.have.rest q (
 pub append_given-requires-clause-few : goal.append_given-requires-clause-few
 append_given-requires-clause-few c =
     let w = c.args.self.now in
-    let after = changed_states (cells w) (rights w) c.args.i c.args.page_runs.now c.args.reads.now in
+    let after = changed_states (cells w) (rights w) c.args.place c.args.page_runs.now c.args.reads.now in
     let stretch = c.stretch_at.ensures in
     let few = stretch-few after c.stretches.p c.stretch_at.result.0.range.to c.stretches.kinds stretch.past stretch.within c.stretches.invariant.have (given_states (cells w) (rights w) c.stretch_at.result.0)
     (stretch.states (cells w) (rights w)) c.stretch_at.result.0.range.from stretch.from in
@@ -30,7 +30,7 @@ append_given-requires-clause-few c =
 pub stretches-preserved : goal.stretches-preserved
 stretches-preserved c =
     let w = c.args.self.now in
-    let after = changed_states (cells w) (rights w) c.args.i c.args.page_runs.now c.args.reads.now in
+    let after = changed_states (cells w) (rights w) c.args.place c.args.page_runs.now c.args.reads.now in
     let stretch = c.stretch_at.ensures in
     record {
       inside = stretch.within;

@@ -8,7 +8,7 @@ use Rattle.cow_space.proofs.cells.PageCells.kinds_after.Given as goal
 abbrev pub invariant-stretches : goal.invariant-stretches
 invariant-stretches l = record {
   inside : l.p ≤ MOST_PAGES;
-  have : HaveBelow l.p (changed_states (cells l.self) (rights l.self) l.i l.page_runs l.reads) l.kinds;
+  have : HaveBelow l.p (changed_states (cells l.self) (rights l.self) l.place l.page_runs l.reads) l.kinds;
 }
 
 abbrev pub decreases-stretches : goal.decreases-stretches

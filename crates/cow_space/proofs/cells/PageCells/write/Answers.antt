@@ -7,17 +7,17 @@ use Rattle.cow_space.proofs.Written.{bare-written, cells-written, kept-written}
 use Rattle.cow_space.proofs.cells.PageCells.write.Goals as goal
 
 pub part-requires-clause-row : goal.part-requires-clause-row
-part-requires-clause-row c = row-in c.args.self.now c.args.i c.requires.place
+part-requires-clause-row c = row-in c.args.self.now c.args.place c.requires.place
 
 pub part-requires-clause-page : goal.part-requires-clause-page
-part-requires-clause-page c = own-page c.args.self.now c.args.i c.args.p c.requires.own
+part-requires-clause-page c = own-page c.args.self.now c.args.place c.args.page c.requires.own
 
 pub part-requires-clause-new : goal.part-requires-clause-new
 part-requires-clause-new c = new-rows c.args.self.now c.args.tag c.requires.new
 
 pub part-requires-clause-parts : goal.part-requires-clause-parts
 part-requires-clause-parts c =
-    sym (parting-rows c.args.self.now c.args.i c.args.p) ∙ sym c.is_parting-parting.ensures ∙ c.if-parting.true
+    sym (parting-rows c.args.self.now c.args.place c.args.page) ∙ sym c.is_parting-parting.ensures ∙ c.if-parting.true
 
 pub part-requires-clause-free : goal.part-requires-clause-free
 part-requires-clause-free c =
@@ -27,15 +27,15 @@ pub invariant_of-self : goal.invariant_of-self
 invariant_of-self c =
     let w = c.args.self.now in
     record {
-      kept = kept-written w c.args.i c.args.p (record { at = c.args.at; bytes = c.args.piece.now }) c.args.tag (maps c.part.new.self) c.requires.place c.requires.own c.part.ensures.written;
-      bare = bare-written w c.args.i c.args.p (record { at = c.args.at; bytes = c.args.piece.now }) c.args.tag (maps c.part.new.self) c.requires.place c.requires.own c.part.ensures.written (HasNoTree c.part.new.self) c.part.ensures.others;
+      kept = kept-written w c.args.place c.args.page (record { at = c.args.at; bytes = c.args.piece.now }) c.args.tag (maps c.part.new.self) c.requires.place c.requires.own c.part.ensures.written;
+      bare = bare-written w c.args.place c.args.page (record { at = c.args.at; bytes = c.args.piece.now }) c.args.tag (maps c.part.new.self) c.requires.place c.requires.own c.part.ensures.written (HasNoTree c.part.new.self) c.part.ensures.others;
     }
 
 pub write_in_place-requires-clause-row : goal.write_in_place-requires-clause-row
-write_in_place-requires-clause-row c = row-in c.args.self.now c.args.i c.requires.place
+write_in_place-requires-clause-row c = row-in c.args.self.now c.args.place c.requires.place
 
 pub write_in_place-requires-clause-page : goal.write_in_place-requires-clause-page
-write_in_place-requires-clause-page c = own-page c.args.self.now c.args.i c.args.p c.requires.own
+write_in_place-requires-clause-page c = own-page c.args.self.now c.args.place c.args.page c.requires.own
 
 -- a page that does not part is written in place
 in-place : (parting parts told : Bool) → parting ≡ false → parting ≡ parts → told ≡ not parts → told ≡ true
@@ -45,14 +45,14 @@ pub invariant_of-self-else-parting : goal.invariant_of-self-else-parting
 invariant_of-self-else-parting c =
     let w = c.args.self.now in
     record {
-      kept = kept-written w c.args.i c.args.p (record { at = c.args.at; bytes = c.args.piece.now }) c.args.tag (maps c.write_in_place.new.self) c.requires.place c.requires.own (c.write_in_place.ensures.written (in-place c.is_parting-parting.result _ c.write_in_place.result c.if-parting.false (c.is_parting-parting.ensures ∙ parting-rows c.args.self.now c.args.i c.args.p) c.write_in_place.ensures.tells) c.args.tag);
+      kept = kept-written w c.args.place c.args.page (record { at = c.args.at; bytes = c.args.piece.now }) c.args.tag (maps c.write_in_place.new.self) c.requires.place c.requires.own (c.write_in_place.ensures.written (in-place c.is_parting-parting.result _ c.write_in_place.result c.if-parting.false (c.is_parting-parting.ensures ∙ parting-rows c.args.self.now c.args.place c.args.page) c.write_in_place.ensures.tells) c.args.tag);
       bare = λ j none. c.write_in_place.ensures.others j (w.bare j none);
     }
 
 pub returns-else-used-frames-clause-written : goal.returns-else-used-frames-clause-written
 unfolding cells
 returns-else-used-frames-clause-written c =
-    cells-written c.args.self.now c.args.i c.args.p (record { at = c.args.at; bytes = c.args.piece.now }) c.args.tag (maps c.part.new.self) c.requires.place c.requires.own c.part.ensures.written
+    cells-written c.args.self.now c.args.place c.args.page (record { at = c.args.at; bytes = c.args.piece.now }) c.args.tag (maps c.part.new.self) c.requires.place c.requires.own c.part.ensures.written
 
 pub returns-else-parting-clause-full : goal.returns-else-parting-clause-full
 returns-else-parting-clause-full c =
@@ -62,4 +62,4 @@ returns-else-parting-clause-full c =
 pub returns-else-parting-clause-written : goal.returns-else-parting-clause-written
 unfolding cells
 returns-else-parting-clause-written c =
-    cells-written c.args.self.now c.args.i c.args.p (record { at = c.args.at; bytes = c.args.piece.now }) c.args.tag (maps c.write_in_place.new.self) c.requires.place c.requires.own (c.write_in_place.ensures.written (in-place c.is_parting-parting.result _ c.write_in_place.result c.if-parting.false (c.is_parting-parting.ensures ∙ parting-rows c.args.self.now c.args.i c.args.p) c.write_in_place.ensures.tells) c.args.tag)
+    cells-written c.args.self.now c.args.place c.args.page (record { at = c.args.at; bytes = c.args.piece.now }) c.args.tag (maps c.write_in_place.new.self) c.requires.place c.requires.own (c.write_in_place.ensures.written (in-place c.is_parting-parting.result _ c.write_in_place.result c.if-parting.false (c.is_parting-parting.ensures ∙ parting-rows c.args.self.now c.args.place c.args.page) c.write_in_place.ensures.tells) c.args.tag)

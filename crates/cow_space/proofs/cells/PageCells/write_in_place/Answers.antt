@@ -33,19 +33,19 @@ tells result true parting is same = ((λ yes. absurd cc), (λ off. absurd cc))
 tells result false parting is same = ((λ yes. same), (λ off. is))
 
 pub write_in_place-requires-clause-row : goal.write_in_place-requires-clause-row
-write_in_place-requires-clause-row c = row-in c.args.self.now c.args.i c.requires.place
+write_in_place-requires-clause-row c = row-in c.args.self.now c.args.place c.requires.place
 
 pub write_in_place-requires-clause-page : goal.write_in_place-requires-clause-page
 write_in_place-requires-clause-page c =
-    own-page c.args.self.now c.args.i c.args.p (is-own c.args.self.now c.args.i c.args.p c.state.result c.in-Some.state c.state.ensures c.in-Some.is c.in-Own-Write.is-0 c.in-Own-Write.is-1).0
+    own-page c.args.self.now c.args.place c.args.page (is-own c.args.self.now c.args.place c.args.page c.state.result c.in-Some.state c.state.ensures c.in-Some.is c.in-Own-Write.is-0 c.in-Own-Write.is-1).0
 
 pub invariant_of-self : goal.invariant_of-self
 invariant_of-self c =
     let w = c.args.self.now in
-    let own = is-own w c.args.i c.args.p c.state.result c.in-Some.state c.state.ensures c.in-Some.is c.in-Own-Write.is-0 c.in-Own-Write.is-1 in
+    let own = is-own w c.args.place c.args.page c.state.result c.in-Some.state c.state.ensures c.in-Some.is c.in-Own-Write.is-0 c.in-Own-Write.is-1 in
     record {
       kept = ⊎_elim
-          (λ done. kept-written w c.args.i c.args.p (record { at = c.args.at; bytes = c.args.piece.now }) (record { job = 0; k = 0 }) (maps c.write_in_place.new.self) c.requires.place own.0 (c.write_in_place.ensures.written done (record { job = 0; k = 0 })))
+          (λ done. kept-written w c.args.place c.args.page (record { at = c.args.at; bytes = c.args.piece.now }) (record { job = 0; k = 0 }) (maps c.write_in_place.new.self) c.requires.place own.0 (c.write_in_place.ensures.written done (record { job = 0; k = 0 })))
           (λ off. subst (λ m. IsKept m w.kinds) (sym (c.write_in_place.ensures.same off)) w.kept)
           (cases_Bool c.write_in_place.result);
       bare = λ j none. c.write_in_place.ensures.others j (w.bare j none);
@@ -54,15 +54,15 @@ invariant_of-self c =
 pub returns-in-Own-Write-clause-tells : goal.returns-in-Own-Write-clause-tells
 returns-in-Own-Write-clause-tells c =
     let w = c.args.self.now in
-    let own = is-own w c.args.i c.args.p c.state.result c.in-Some.state c.state.ensures c.in-Some.is c.in-Own-Write.is-0 c.in-Own-Write.is-1 in
-    let told = tells c.write_in_place.result _ _ c.write_in_place.ensures.tells (parting-rows w c.args.i c.args.p) in
+    let own = is-own w c.args.place c.args.page c.state.result c.in-Some.state c.state.ensures c.in-Some.is c.in-Own-Write.is-0 c.in-Own-Write.is-1 in
+    let told = tells c.write_in_place.result _ _ c.write_in_place.ensures.tells (parting-rows w c.args.place c.args.page) in
     ((λ done. (own.0, (own.1, told.0 done))), (λ all. told.1 all.1.1))
 
 pub returns-in-Own-Write-clause-written : goal.returns-in-Own-Write-clause-written
 unfolding cells
 returns-in-Own-Write-clause-written c =
-    let own = is-own c.args.self.now c.args.i c.args.p c.state.result c.in-Some.state c.state.ensures c.in-Some.is c.in-Own-Write.is-0 c.in-Own-Write.is-1 in
-    λ done tag. cells-written c.args.self.now c.args.i c.args.p (record { at = c.args.at; bytes = c.args.piece.now }) tag (maps c.write_in_place.new.self) c.requires.place own.0 (c.write_in_place.ensures.written done tag)
+    let own = is-own c.args.self.now c.args.place c.args.page c.state.result c.in-Some.state c.state.ensures c.in-Some.is c.in-Own-Write.is-0 c.in-Own-Write.is-1 in
+    λ done tag. cells-written c.args.self.now c.args.place c.args.page (record { at = c.args.at; bytes = c.args.piece.now }) tag (maps c.write_in_place.new.self) c.requires.place own.0 (c.write_in_place.ensures.written done tag)
 
 pub returns-in-Own-Write-clause-same : goal.returns-in-Own-Write-clause-same
 unfolding cells

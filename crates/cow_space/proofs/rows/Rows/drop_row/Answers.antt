@@ -8,4 +8,4 @@ pub returns-clause-maps : goal.returns-clause-maps
 unfolding maps
 returns-clause-maps c =
     let w = c.args.self.now in
-    subst (λ m. maps c.clear.new.self ≡ set (maps w) c.args.i m) (row-none w.store.frames w.store.nodes.all w.trees.items c.args.i (tree-in w c.args.i c.requires.row)) c.clear.ensures.maps
+    subst (λ m. maps c.clear.new.self ≡ set (maps w) c.args.place m) (row-none w.store.frames w.store.nodes.all w.trees.items c.args.place (tree-in w c.args.place c.requires.row)) c.clear.ensures.maps

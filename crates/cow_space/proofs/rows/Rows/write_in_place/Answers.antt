@@ -12,31 +12,31 @@ pub write_frame-requires : goal.write_frame-requires
 unfolding maps
 write_frame-requires c =
     record {
-      once = held-once c.args.self.now.store.nodes.all c.args.self.now.store.frames c.args.self.now.store.frames c.args.self.now.trees.items c.args.i c.args.p c.in-Some.frame.n
-          c.args.self.now.kept (tree-in c.args.self.now c.args.i c.requires.row) c.requires.page c.in-Some.ensures.frame c.in-Some.ensures.alone;
+      once = held-once c.args.self.now.store.nodes.all c.args.self.now.store.frames c.args.self.now.store.frames c.args.self.now.trees.items c.args.place c.args.page c.in-Some.frame.n
+          c.args.self.now.kept (tree-in c.args.self.now c.args.place c.requires.row) c.requires.page c.in-Some.ensures.frame c.in-Some.ensures.alone;
     }
 
 pub invariant_of-self : goal.invariant_of-self
 unfolding maps
 invariant_of-self c =
     record {
-      kept = refill-kept c.args.self.now.store.nodes.all c.args.self.now.store.frames c.write_frame.new.frames c.args.self.now.trees.items c.args.i c.args.p c.in-Some.frame.n
-          c.args.self.now.kept (tree-in c.args.self.now c.args.i c.requires.row) c.requires.page c.in-Some.ensures.frame c.in-Some.ensures.alone _ c.write_frame.ensures;
+      kept = refill-kept c.args.self.now.store.nodes.all c.args.self.now.store.frames c.write_frame.new.frames c.args.self.now.trees.items c.args.place c.args.page c.in-Some.frame.n
+          c.args.self.now.kept (tree-in c.args.self.now c.args.place c.requires.row) c.requires.page c.in-Some.ensures.frame c.in-Some.ensures.alone _ c.write_frame.ensures;
     }
 
 pub returns-clause-written : goal.returns-clause-written
 unfolding maps
 returns-clause-written c = λ _ tag.
-    refill-maps c.args.self.now.store.nodes.all c.args.self.now.store.frames c.write_frame.new.frames c.args.self.now.trees.items c.args.i c.args.p c.in-Some.frame.n
-    c.args.self.now.kept (tree-in c.args.self.now c.args.i c.requires.row) c.requires.page c.in-Some.ensures.frame c.in-Some.ensures.alone _ c.write_frame.ensures _
-    (ap Some (written-own _ c.args.i c.args.p (record { at = c.args.at; bytes = c.args.piece.now }) tag _ _
-    (row-value c.args.self.now c.args.i c.args.p c.requires.row c.requires.page ∙ ap (cell_value c.args.self.now.store.frames) c.in-Some.ensures.frame) c.in-Some.ensures.alone))
+    refill-maps c.args.self.now.store.nodes.all c.args.self.now.store.frames c.write_frame.new.frames c.args.self.now.trees.items c.args.place c.args.page c.in-Some.frame.n
+    c.args.self.now.kept (tree-in c.args.self.now c.args.place c.requires.row) c.requires.page c.in-Some.ensures.frame c.in-Some.ensures.alone _ c.write_frame.ensures _
+    (ap Some (written-own _ c.args.place c.args.page (record { at = c.args.at; bytes = c.args.piece.now }) tag _ _
+    (row-value c.args.self.now c.args.place c.args.page c.requires.row c.requires.page ∙ ap (cell_value c.args.self.now.store.frames) c.in-Some.ensures.frame) c.in-Some.ensures.alone))
 
 pub returns-clause-frames : goal.returns-clause-frames
 unfolding frames_of maps
 returns-clause-frames c =
-    refill-size c.args.self.now.store.nodes.all c.args.self.now.store.frames c.write_frame.new.frames c.args.self.now.trees.items c.args.i c.args.p c.in-Some.frame.n
-    c.args.self.now.kept (tree-in c.args.self.now c.args.i c.requires.row) c.requires.page c.in-Some.ensures.frame c.in-Some.ensures.alone _ c.write_frame.ensures
+    refill-size c.args.self.now.store.nodes.all c.args.self.now.store.frames c.write_frame.new.frames c.args.self.now.trees.items c.args.place c.args.page c.in-Some.frame.n
+    c.args.self.now.kept (tree-in c.args.self.now c.args.place c.requires.row) c.requires.page c.in-Some.ensures.frame c.in-Some.ensures.alone _ c.write_frame.ensures
 
 pub returns-clause-nodes : goal.returns-clause-nodes
 unfolding free_nodes

@@ -153,8 +153,8 @@ drop_unreached-requires-clause-uncut g c κs inside other =
     (nothing_left _ _ _ (as_seen _ _ _ _ c.self.view_is c.self.invariant.1) c.args.thread_number _ _ _ _ _ _ c.requires.within c.index_mut-thread.ensures.value
     c.in_ok-effect.ensures.outcome c.in_ok-effect.ensures.kept c.in-Some.effect c.in-Some.is other)
 
-pub overflow_cast-t-2 : goal.overflow_cast-t-2
-overflow_cast-t-2 g c =
+pub overflow_cast-thread_number-2 : goal.overflow_cast-thread_number-2
+overflow_cast-thread_number-2 g c =
     let ready = is_ready _ _ _ (as_seen _ _ _ _ c.self.view_is c.self.invariant.1) in
     omega (arith, within _ _ _ (as_seen _ _ _ _ c.self.view_is c.self.invariant.1) c.args.thread_number c.requires.within, ready.few)
 

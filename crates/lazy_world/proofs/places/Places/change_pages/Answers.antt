@@ -19,7 +19,7 @@ pub change-requires-clause-place : goal.change-requires-clause-place
 change-requires-clause-place c = c.requires.place
 
 pub change-requires-clause-page_runs : goal.change-requires-clause-page_runs
-change-requires-clause-page_runs c = subst (All (IsPageRun (count c.args.self.now) c.args.i)) (sym c.as_slice.ensures.value) c.requires.given
+change-requires-clause-page_runs c = subst (All (IsPageRun (count c.args.self.now) c.args.place)) (sym c.as_slice.ensures.value) c.requires.given
 
 pub change-requires-clause-ranges : goal.change-requires-clause-ranges
 unfolding rows rights
@@ -29,13 +29,13 @@ change-requires-clause-ranges c =
     let table = slots_seen.slots w.slots in
     subst (λ (n : ℕ). n ≤ MOST_RANGES)
     (sym (ap (ranges MOST_PAGES)
-    ((λ e. changed_states cells (pages_seen.rights w.pages) c.args.i (c.as_slice.ensures.value e) (c.as_slice-2.ensures.value e))
-    ∙ states-given cells table w.uids.items c.args.i (pages_seen.rights w.pages) c.args.page_runs.now c.args.reads.now))) c.requires.ranges
+    ((λ e. changed_states cells (pages_seen.rights w.pages) c.args.place (c.as_slice.ensures.value e) (c.as_slice-2.ensures.value e))
+    ∙ states-given cells table w.uids.items c.args.place (pages_seen.rights w.pages) c.args.page_runs.now c.args.reads.now))) c.requires.ranges
 
 pub invariant_of-self : goal.invariant_of-self
 invariant_of-self c =
     let w = c.args.self.now in
-    let same = ap length c.change.ensures.cells ∙ length-set (pages_seen.cells w.pages) c.args.i _ in
+    let same = ap length c.change.ensures.cells ∙ length-set (pages_seen.cells w.pages) c.args.place _ in
     record { kept = record { slot_count = w.kept.slot_count ∙ sym same; uid_count = w.kept.uid_count ∙ sym same; targets = w.kept.targets } }
 
 pub returns-clause-rows : goal.returns-clause-rows
@@ -46,8 +46,8 @@ returns-clause-rows c =
     let table = slots_seen.slots w.slots in
     let page_runs = c.args.page_runs.now in
     ap (λ cells. rows_of cells table w.uids.items) c.change.ensures.cells
-    ∙ ap (λ (list : List PageRun). rows_of (set cells c.args.i (changed_place cells c.args.i list)) table w.uids.items) c.as_slice.ensures.value
-    ∙ row-given cells table w.uids.items c.args.i (PageRuns page_runs c.args.reads.now) (changed_place cells c.args.i page_runs.items) (page_runs-given cells table w.uids.items c.args.i page_runs.items) c.requires.place
+    ∙ ap (λ (list : List PageRun). rows_of (set cells c.args.place (changed_place cells c.args.place list)) table w.uids.items) c.as_slice.ensures.value
+    ∙ row-given cells table w.uids.items c.args.place (PageRuns page_runs c.args.reads.now) (changed_place cells c.args.place page_runs.items) (page_runs-given cells table w.uids.items c.args.place page_runs.items) c.requires.place
 
 pub returns-clause-rights : goal.returns-clause-rights
 unfolding rows rights
@@ -57,13 +57,13 @@ returns-clause-rights c =
     let table = slots_seen.slots w.slots in
     let olds = pages_seen.rights w.pages in
     ap rights_of c.change.ensures.rights
-    ∙ rights-set olds c.args.i _ (rights-in w.pages c.args.i c.requires.place)
-    ∙ ap (put_rights (rights_of olds) c.args.i)
-    ((λ e. changed_rights cells olds c.args.i (c.as_slice.ensures.value e) (c.as_slice-2.ensures.value e))
-    ∙ (λ e p. rights-given cells table w.uids.items c.args.i olds c.args.page_runs.now.items c.args.reads.now.items p e))
+    ∙ rights-set olds c.args.place _ (rights-in w.pages c.args.place c.requires.place)
+    ∙ ap (put_rights (rights_of olds) c.args.place)
+    ((λ e. changed_rights cells olds c.args.place (c.as_slice.ensures.value e) (c.as_slice-2.ensures.value e))
+    ∙ (λ e p. rights-given cells table w.uids.items c.args.place olds c.args.page_runs.now.items c.args.reads.now.items p e))
 
 pub returns-clause-count : goal.returns-clause-count
-returns-clause-count c = ap length c.change.ensures.cells ∙ length-set (pages_seen.cells c.args.self.now.pages) c.args.i _
+returns-clause-count c = ap length c.change.ensures.cells ∙ length-set (pages_seen.cells c.args.self.now.pages) c.args.place _
 
 pub returns-clause-frames : goal.returns-clause-frames
 unfolding frame_count

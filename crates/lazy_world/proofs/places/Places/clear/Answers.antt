@@ -26,17 +26,17 @@ pub returns-clause-rows : goal.returns-clause-rows
 unfolding rows
 returns-clause-rows c =
     let w = c.args.self.now in
-    (λ e. rows_of (c.clear_place.ensures.cells e) (c.clear_place-2.ensures e) (set w.uids.items c.args.i (Own NOBODY)))
-    ∙ rows-cleared (pages_seen.cells w.pages) (slots_seen.slots w.slots) w.uids.items c.args.i c.requires.place
+    (λ e. rows_of (c.clear_place.ensures.cells e) (c.clear_place-2.ensures e) (set w.uids.items c.args.place (Own NOBODY)))
+    ∙ rows-cleared (pages_seen.cells w.pages) (slots_seen.slots w.slots) w.uids.items c.args.place c.requires.place
     (omega (arith, w.kept.slot_count, c.requires.place)) (omega (arith, w.kept.uid_count, c.requires.place))
 
 pub returns-clause-rights : goal.returns-clause-rights
 unfolding rights
 returns-clause-rights c =
-    let w = c.args.self.now in ap rights_of c.clear_place.ensures.rights ∙ rights-set (pages_seen.rights w.pages) c.args.i all_write (rights-in w.pages c.args.i c.requires.place)
+    let w = c.args.self.now in ap rights_of c.clear_place.ensures.rights ∙ rights-set (pages_seen.rights w.pages) c.args.place all_write (rights-in w.pages c.args.place c.requires.place)
 
 pub returns-clause-count : goal.returns-clause-count
-returns-clause-count c = ap length c.clear_place.ensures.cells ∙ length-set (pages_seen.cells c.args.self.now.pages) c.args.i _
+returns-clause-count c = ap length c.clear_place.ensures.cells ∙ length-set (pages_seen.cells c.args.self.now.pages) c.args.place _
 
 pub returns-clause-frames : goal.returns-clause-frames
 unfolding frame_count
@@ -45,12 +45,12 @@ returns-clause-frames c = c.clear_place.ensures.frames
 pub invariant_of-self : goal.invariant_of-self
 invariant_of-self c =
     let w = c.args.self.now in
-    let same = ap length c.clear_place.ensures.cells ∙ length-set (pages_seen.cells w.pages) c.args.i _ in
+    let same = ap length c.clear_place.ensures.cells ∙ length-set (pages_seen.cells w.pages) c.args.place _ in
     record {
       kept = record {
-        slot_count = ap length c.clear_place-2.ensures ∙ length-set (slots_seen.slots w.slots) c.args.i _ ∙ w.kept.slot_count ∙ sym same;
-        uid_count = length-set w.uids.items c.args.i _ ∙ w.kept.uid_count ∙ sym same;
+        slot_count = ap length c.clear_place-2.ensures ∙ length-set (slots_seen.slots w.slots) c.args.place _ ∙ w.kept.slot_count ∙ sym same;
+        uid_count = length-set w.uids.items c.args.place _ ∙ w.kept.uid_count ∙ sym same;
         targets = subst (λ (table : List (ℕ → Slot)). (i n : ℕ) → IsNumbered (row_of table i n)) (sym c.clear_place-2.ensures)
-            (numbered-set (slots_seen.slots w.slots) c.args.i _ (omega (arith, w.kept.slot_count, c.requires.place)) (λ _. refl) w.kept.targets);
+            (numbered-set (slots_seen.slots w.slots) c.args.place _ (omega (arith, w.kept.slot_count, c.requires.place)) (λ _. refl) w.kept.targets);
       };
     }

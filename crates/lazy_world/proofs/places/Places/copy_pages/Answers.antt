@@ -19,7 +19,7 @@ clone_place-requires-clause-from c = c.requires.origin
 pub invariant_of-self : goal.invariant_of-self
 invariant_of-self c =
     let w = c.args.self.now in
-    let same = ap length c.clone_place.ensures.cells ∙ length-set (pages_seen.cells w.pages) c.args.i _ in
+    let same = ap length c.clone_place.ensures.cells ∙ length-set (pages_seen.cells w.pages) c.args.place _ in
     record { kept = record { slot_count = w.kept.slot_count ∙ sym same; uid_count = w.kept.uid_count ∙ sym same; targets = w.kept.targets } }
 
 pub returns-clause-rows : goal.returns-clause-rows
@@ -29,15 +29,15 @@ returns-clause-rows c =
     let cells = pages_seen.cells w.pages in
     let table = slots_seen.slots w.slots in
     ap (λ cells. rows_of cells table w.uids.items) c.clone_place.ensures.cells
-    ∙ row-given cells table w.uids.items c.args.i (AllOf c.args.j) (place_of cells c.args.j) (all-given cells table w.uids.items c.args.i c.args.j) c.requires.place
+    ∙ row-given cells table w.uids.items c.args.place (AllOf c.args.other) (place_of cells c.args.other) (all-given cells table w.uids.items c.args.place c.args.other) c.requires.place
 
 pub returns-clause-rights : goal.returns-clause-rights
 unfolding rights
 returns-clause-rights c =
-    let w = c.args.self.now in ap rights_of c.clone_place.ensures.rights ∙ rights-set (pages_seen.rights w.pages) c.args.i _ (rights-in w.pages c.args.i c.requires.place)
+    let w = c.args.self.now in ap rights_of c.clone_place.ensures.rights ∙ rights-set (pages_seen.rights w.pages) c.args.place _ (rights-in w.pages c.args.place c.requires.place)
 
 pub returns-clause-count : goal.returns-clause-count
-returns-clause-count c = ap length c.clone_place.ensures.cells ∙ length-set (pages_seen.cells c.args.self.now.pages) c.args.i _
+returns-clause-count c = ap length c.clone_place.ensures.cells ∙ length-set (pages_seen.cells c.args.self.now.pages) c.args.place _
 
 pub returns-clause-frames : goal.returns-clause-frames
 unfolding frame_count

@@ -16,14 +16,14 @@ copy_slot-requires-clause-from c = omega (arith, c.args.self.now.kept.slot_count
 
 pub invariant_of-self : goal.invariant_of-self
 invariant_of-self c =
-    let inside : c.args.i < length (slots_seen.slots c.args.self.now.slots) = omega (arith, c.args.self.now.kept.slot_count, c.requires.place) in
+    let inside : c.args.place < length (slots_seen.slots c.args.self.now.slots) = omega (arith, c.args.self.now.kept.slot_count, c.requires.place) in
     record {
       kept = record {
-        slot_count = ap length c.copy_slot.ensures ∙ length-set (slots_seen.slots c.args.self.now.slots) c.args.i _ ∙ c.args.self.now.kept.slot_count;
+        slot_count = ap length c.copy_slot.ensures ∙ length-set (slots_seen.slots c.args.self.now.slots) c.args.place _ ∙ c.args.self.now.kept.slot_count;
         uid_count = c.args.self.now.kept.uid_count;
         targets = subst (λ (table : List (ℕ → Slot)). (i n : ℕ) → IsNumbered (row_of table i n)) (sym c.copy_slot.ensures)
-            (numbered-set (slots_seen.slots c.args.self.now.slots) c.args.i _ inside
-            (numbered-put (row_of (slots_seen.slots c.args.self.now.slots) c.args.i) c.args.n _ (c.args.self.now.kept.targets c.args.j c.args.m) (c.args.self.now.kept.targets c.args.i)) c.args.self.now.kept.targets);
+            (numbered-set (slots_seen.slots c.args.self.now.slots) c.args.place _ inside
+            (numbered-put (row_of (slots_seen.slots c.args.self.now.slots) c.args.place) c.args.slot _ (c.args.self.now.kept.targets c.args.other c.args.other_slot) (c.args.self.now.kept.targets c.args.place)) c.args.self.now.kept.targets);
       };
     }
 
@@ -31,7 +31,7 @@ pub returns-clause-rows : goal.returns-clause-rows
 unfolding rows rows_of slots_seen.slots
 returns-clause-rows c =
     ap (λ table. rows_of (pages_seen.cells c.args.self.now.pages) table c.args.self.now.uids.items) c.copy_slot.ensures
-    ∙ slot-put _ _ _ c.args.i c.args.n (row_of (slots_seen.slots c.args.self.now.slots) c.args.j c.args.m) (omega (arith, c.args.self.now.kept.slot_count, c.requires.place))
+    ∙ slot-put _ _ _ c.args.place c.args.slot (row_of (slots_seen.slots c.args.self.now.slots) c.args.other c.args.other_slot) (omega (arith, c.args.self.now.kept.slot_count, c.requires.place))
 
 pub returns-clause-count : goal.returns-clause-count
 returns-clause-count c = refl

@@ -17,8 +17,8 @@ count_after-requires-clause-place c = c.requires.place
 pub count_after-requires-clause-page_runs : goal.count_after-requires-clause-page_runs
 count_after-requires-clause-page_runs c =
     let places = length (pages_seen.cells c.args.self.now.pages) in
-    subst (λ (page_run : PageRun). All (IsPageRun places c.args.i) (page_run ∷ [])) (sym c.page_run_of-page_run.ensures)
-    (is_page_run places c.args.i c.args.range.from c.args.range.to c.args.present c.requires.order c.requires.inside)
+    subst (λ (page_run : PageRun). All (IsPageRun places c.args.place) (page_run ∷ [])) (sym c.page_run_of-page_run.ensures)
+    (is_page_run places c.args.place c.args.range.from c.args.range.to c.args.present c.requires.order c.requires.inside)
 
 pub returns : goal.returns
 unfolding rows rights
@@ -27,6 +27,6 @@ returns c =
     let cells = pages_seen.cells w.pages in
     let table = slots_seen.slots w.slots in
     c.count_after.ensures
-    ∙ ap (λ (page_run : PageRun). ranges MOST_PAGES (changed_states cells (pages_seen.rights w.pages) c.args.i (page_run ∷ []) [])) c.page_run_of-page_run.ensures
+    ∙ ap (λ (page_run : PageRun). ranges MOST_PAGES (changed_states cells (pages_seen.rights w.pages) c.args.place (page_run ∷ []) [])) c.page_run_of-page_run.ensures
     ∙ ap (ranges MOST_PAGES)
-    (states-row cells table w.uids.items c.args.i c.args.range.from c.args.range.to c.args.present (pages_seen.rights w.pages) (absent-right w c.args.i))
+    (states-row cells table w.uids.items c.args.place c.args.range.from c.args.range.to c.args.present (pages_seen.rights w.pages) (absent-right w c.args.place))

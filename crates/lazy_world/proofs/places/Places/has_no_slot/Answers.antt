@@ -7,4 +7,4 @@ use Rattle.lazy_world.proofs.places.Places.has_no_slot.Goals as goal
 
 pub returns : goal.returns
 returns c is n low =
-    no_slot (rows c.args.self.now c.args.i (Slot n)) n (ap not (sym (c.filled.ensures n low) ∙ no-bit c.filled.result n is))
+    no_slot (rows c.args.self.now c.args.place (Slot n)) n (ap not (sym (c.filled.ensures n low) ∙ no-bit c.filled.result n is))

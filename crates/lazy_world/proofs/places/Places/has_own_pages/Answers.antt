@@ -16,11 +16,11 @@ not-on false other = refl
 pub returns-clause-own : goal.returns-clause-own
 returns-clause-own c on p low =
     let same = ap (λ (f : ℕ → Option PageState). f p) c.segments.ensures.states in
-    own-cell c.segments.result.now c.segments.ensures.canonical (sym c.has_common.ensures ∙ off-not c.has_common.result on) p (rows c.args.self.now c.args.i (Page p)) (rights c.args.self.now c.args.i p) same
+    own-cell c.segments.result.now c.segments.ensures.canonical (sym c.has_common.ensures ∙ off-not c.has_common.result on) p (rows c.args.self.now c.args.place (Page p)) (rights c.args.self.now c.args.place p) same
 
 pub returns-clause-all : goal.returns-clause-all
 returns-clause-all c own = not-on c.has_common.result (λ on.
-    let found = common-cell c.segments.result.now c.segments.ensures.canonical (sym c.has_common.ensures ∙ on) (λ p. rows c.args.self.now c.args.i (Page p)) (rights c.args.self.now c.args.i)
+    let found = common-cell c.segments.result.now c.segments.ensures.canonical (sym c.has_common.ensures ∙ on) (λ p. rows c.args.self.now c.args.place (Page p)) (rights c.args.self.now c.args.place)
     (λ p. ap (λ (f : ℕ → Option PageState). f p) c.segments.ensures.states) in
     let other = own found.0 in
     absurd cc)

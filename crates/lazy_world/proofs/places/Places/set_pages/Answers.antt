@@ -19,8 +19,8 @@ change-requires-clause-place c = c.requires.place
 
 pub change-requires-clause-page_runs : goal.change-requires-clause-page_runs
 change-requires-clause-page_runs c =
-    subst (λ (page_run : PageRun). All (IsPageRun (length (pages_seen.cells c.args.self.now.pages)) c.args.i) (page_run ∷ [])) (sym c.page_run_of-page_run.ensures)
-    (is_page_run (length (pages_seen.cells c.args.self.now.pages)) c.args.i c.args.range.from c.args.range.to c.args.present c.requires.order c.requires.inside)
+    subst (λ (page_run : PageRun). All (IsPageRun (length (pages_seen.cells c.args.self.now.pages)) c.args.place) (page_run ∷ [])) (sym c.page_run_of-page_run.ensures)
+    (is_page_run (length (pages_seen.cells c.args.self.now.pages)) c.args.place c.args.range.from c.args.range.to c.args.present c.requires.order c.requires.inside)
 
 pub change-requires-clause-ranges : goal.change-requires-clause-ranges
 unfolding rows rights
@@ -29,14 +29,14 @@ change-requires-clause-ranges c =
     let cells = pages_seen.cells w.pages in
     let olds = pages_seen.rights w.pages in
     subst (λ (n : ℕ). n ≤ MOST_RANGES)
-    (sym (ap (λ (page_run : PageRun). ranges MOST_PAGES (changed_states cells olds c.args.i (page_run ∷ []) [])) c.page_run_of-page_run.ensures
+    (sym (ap (λ (page_run : PageRun). ranges MOST_PAGES (changed_states cells olds c.args.place (page_run ∷ []) [])) c.page_run_of-page_run.ensures
     ∙ ap (ranges MOST_PAGES)
-    (states-row cells (slots_seen.slots w.slots) w.uids.items c.args.i c.args.range.from c.args.range.to c.args.present olds (absent-right w c.args.i)))) c.requires.few
+    (states-row cells (slots_seen.slots w.slots) w.uids.items c.args.place c.args.range.from c.args.range.to c.args.present olds (absent-right w c.args.place)))) c.requires.few
 
 pub invariant_of-self : goal.invariant_of-self
 invariant_of-self c =
     let w = c.args.self.now in
-    let same = ap length c.change.ensures.cells ∙ length-set (pages_seen.cells w.pages) c.args.i _ in
+    let same = ap length c.change.ensures.cells ∙ length-set (pages_seen.cells w.pages) c.args.place _ in
     record { kept = record { slot_count = w.kept.slot_count ∙ sym same; uid_count = w.kept.uid_count ∙ sym same; targets = w.kept.targets } }
 
 pub returns-clause-rows : goal.returns-clause-rows
@@ -45,8 +45,8 @@ returns-clause-rows c =
     let w = c.args.self.now in
     ap (λ cells. rows_of cells (slots_seen.slots w.slots) w.uids.items)
     (c.change.ensures.cells
-    ∙ ap (λ (page_run : PageRun). set (pages_seen.cells w.pages) c.args.i (changed_place (pages_seen.cells w.pages) c.args.i (page_run ∷ []))) c.page_run_of-page_run.ensures)
-    ∙ row-set (pages_seen.cells w.pages) (slots_seen.slots w.slots) w.uids.items c.args.i c.args.range.from c.args.range.to c.args.present c.requires.place
+    ∙ ap (λ (page_run : PageRun). set (pages_seen.cells w.pages) c.args.place (changed_place (pages_seen.cells w.pages) c.args.place (page_run ∷ []))) c.page_run_of-page_run.ensures)
+    ∙ row-set (pages_seen.cells w.pages) (slots_seen.slots w.slots) w.uids.items c.args.place c.args.range.from c.args.range.to c.args.present c.requires.place
 
 pub returns-clause-rights : goal.returns-clause-rights
 unfolding rows rights
@@ -55,13 +55,13 @@ returns-clause-rights c =
     let cells = pages_seen.cells w.pages in
     let olds = pages_seen.rights w.pages in
     ap rights_of c.change.ensures.rights
-    ∙ rights-set olds c.args.i _ (rights-in w.pages c.args.i c.requires.place)
-    ∙ ap (put_rights (rights_of olds) c.args.i)
-    (ap (λ (page_run : PageRun). changed_rights cells olds c.args.i (page_run ∷ []) []) c.page_run_of-page_run.ensures
-    ∙ rights-row cells (slots_seen.slots w.slots) w.uids.items c.args.i c.args.range.from c.args.range.to c.args.present olds (absent-right w c.args.i))
+    ∙ rights-set olds c.args.place _ (rights-in w.pages c.args.place c.requires.place)
+    ∙ ap (put_rights (rights_of olds) c.args.place)
+    (ap (λ (page_run : PageRun). changed_rights cells olds c.args.place (page_run ∷ []) []) c.page_run_of-page_run.ensures
+    ∙ rights-row cells (slots_seen.slots w.slots) w.uids.items c.args.place c.args.range.from c.args.range.to c.args.present olds (absent-right w c.args.place))
 
 pub returns-clause-count : goal.returns-clause-count
-returns-clause-count c = ap length c.change.ensures.cells ∙ length-set (pages_seen.cells c.args.self.now.pages) c.args.i _
+returns-clause-count c = ap length c.change.ensures.cells ∙ length-set (pages_seen.cells c.args.self.now.pages) c.args.place _
 
 pub returns-clause-frames : goal.returns-clause-frames
 unfolding frame_count

@@ -6,15 +6,15 @@ use Rattle.lazy_world.proofs.TakenLemmas.{all-taken}
 use Rattle.lazy_world.proofs.places.Places.take.Goals as goal
 
 pub take_slots-requires-clause-given : goal.take_slots-requires-clause-given
-take_slots-requires-clause-given c n low = subst (λ count. CanGet count c.args.i (slot_origin c.args.origins.now.slots n)) (sym c.take_pages.ensures.count) (c.requires.given.slots n low)
+take_slots-requires-clause-given c n low = subst (λ count. CanGet count c.args.place (slot_origin c.args.origins.now.slots n)) (sym c.take_pages.ensures.count) (c.requires.given.slots n low)
 
 pub take_uid-requires-clause-given : goal.take_uid-requires-clause-given
-take_uid-requires-clause-given c = subst (λ count. CanGet count c.args.i c.args.origins.now.uid) (sym (c.take_slots.ensures.count ∙ c.take_pages.ensures.count)) c.requires.given.uid
+take_uid-requires-clause-given c = subst (λ count. CanGet count c.args.place c.args.origins.now.uid) (sym (c.take_slots.ensures.count ∙ c.take_pages.ensures.count)) c.requires.given.uid
 
 pub returns-clause-rows : goal.returns-clause-rows
 returns-clause-rows c =
     let old = rows c.args.self.now in
-    all-taken (count c.args.self.now) old c.args.i c.args.origins.now c.requires.given (omega arith) (rows c.take_pages.new.self) (rows c.take_slots.new.self) (rows c.take_uid.new.self)
+    all-taken (count c.args.self.now) old c.args.place c.args.origins.now c.requires.given (omega arith) (rows c.take_pages.new.self) (rows c.take_slots.new.self) (rows c.take_uid.new.self)
     c.take_pages.ensures.rows c.take_slots.ensures.rows c.take_uid.ensures.rows
 
 pub returns-clause-rights : goal.returns-clause-rights

@@ -10,9 +10,9 @@ use Rattle.lazy_world.proofs.TakeLemmas.{kept-key}
 use Rattle.lazy_world.proofs.places.Places.take_uid.Goals as goal
 
 pub given_uid-uid-requires : goal.given_uid-uid-requires
-given_uid-uid-requires c j is = (subst (CanGet (count c.args.self.now) c.args.i) (c.in-Some.is ∙ ap Some is) c.requires.given).0
+given_uid-uid-requires c j is = (subst (CanGet (count c.args.self.now) c.args.place) (c.in-Some.is ∙ ap Some is) c.requires.given).0
 
 pub returns-in_default-clause-rows : goal.returns-in_default-clause-rows
 returns-in_default-clause-rows c =
     let old = rows c.args.self.now in
-    kept-key old c.args.i Cred ∙ ap (λ s. put_row old c.args.i (with_key Cell Cred (given_or old Cred (old c.args.i Cred) s) (old c.args.i))) (sym c.in_default.is)
+    kept-key old c.args.place Cred ∙ ap (λ s. put_row old c.args.place (with_key Cell Cred (given_or old Cred (old c.args.place Cred) s) (old c.args.place))) (sym c.in_default.is)

@@ -12,7 +12,7 @@ unfolding rows pages
 returns-clause-rows c =
     let w = c.args.self.now in
     ap (λ cells. rows_of cells (slots_seen.slots w.slots) w.uids.items) c.in-Ok.ensures.written
-    ∙ page-put (pages_seen.cells w.pages) (slots_seen.slots w.slots) w.uids.items c.args.i c.args.p _ c.requires.place
+    ∙ page-put (pages_seen.cells w.pages) (slots_seen.slots w.slots) w.uids.items c.args.place c.args.page _ c.requires.place
 
 pub returns-clause-rights : goal.returns-clause-rights
 unfolding rights

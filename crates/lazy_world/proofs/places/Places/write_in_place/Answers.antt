@@ -14,7 +14,7 @@ invariant_of-self c =
     let w = c.args.self.now in
     ⊎_elim
     (λ done.
-    let same = ap length (c.write_in_place.ensures.written done (record { job = 0; k = 0 })) ∙ length-set (pages_seen.cells w.pages) c.args.i _ in
+    let same = ap length (c.write_in_place.ensures.written done (record { job = 0; k = 0 })) ∙ length-set (pages_seen.cells w.pages) c.args.place _ in
     record { kept = record { slot_count = w.kept.slot_count ∙ sym same; uid_count = w.kept.uid_count ∙ sym same; targets = w.kept.targets } })
     (λ off. record { kept = subst (λ cells. IsKept cells (slots_seen.slots w.slots) w.uids.items) (sym (c.write_in_place.ensures.same off)) w.kept })
     (cases_Bool c.write_in_place.result)
@@ -29,7 +29,7 @@ returns-clause-rows c =
     let w = c.args.self.now in
     λ done tag.
     ap (λ cells. rows_of cells (slots_seen.slots w.slots) w.uids.items) (c.write_in_place.ensures.written done tag)
-    ∙ page-put (pages_seen.cells w.pages) (slots_seen.slots w.slots) w.uids.items c.args.i c.args.p _ c.requires
+    ∙ page-put (pages_seen.cells w.pages) (slots_seen.slots w.slots) w.uids.items c.args.place c.args.page _ c.requires
 
 pub returns-clause-same : goal.returns-clause-same
 unfolding rows

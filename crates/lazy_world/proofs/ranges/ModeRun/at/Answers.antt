@@ -7,7 +7,7 @@ use Rattle.lazy_world.specs.Transfers.{IsModeRun}
 use Rattle.lazy_world.proofs.CloneOrigins.{mode_other}
 use Rattle.lazy_world.proofs.EdgeLemmas.{item_run, no_item, of_other, outside}
 use Rattle.lazy_world.proofs.ranges.ModeRun.at.Goals as goal
-use Rattle.lazy_world.proofs.ranges.ModeRun.at.Goals.{then-p-range, else-p-range+else-p-range-2}
+use Rattle.lazy_world.proofs.ranges.ModeRun.at.Goals.{then-page-range, else-page-range+else-page-range-2}
 
 pub loop-item-init : goal.loop-item-init
 unfolding mode
@@ -40,35 +40,35 @@ loop-item-preserved c =
     let inside = c.loop-item-test.true in
     let inv = c.loop-item.invariant in
     let pages = c.in-Some.ensures.pages in
-    let nearer : c.if-p-range.to ≤ c.loop-item.to = elim c.if-p-range.branch [
-      | then-p-range w ↦ omega (arith, w.min-to.ensures, w.to-is)
-      | else-p-range+else-p-range-2 w ↦ omega (arith, w.to-is)
+    let nearer : c.if-page-range.to ≤ c.loop-item.to = elim c.if-page-range.branch [
+      | then-page-range w ↦ omega (arith, w.min-to.ensures, w.to-is)
+      | else-page-range+else-page-range-2 w ↦ omega (arith, w.to-is)
     ] in
     record {
-      past = elim c.if-p-range.branch [
-        | then-p-range w ↦ omega (arith, inv.past, w.if-p-range.true, w.min-to.ensures, w.to-is)
-        | else-p-range+else-p-range-2 w ↦ omega (arith, inv.past, w.to-is)
+      past = elim c.if-page-range.branch [
+        | then-page-range w ↦ omega (arith, inv.past, w.if-page-range.true, w.min-to.ensures, w.to-is)
+        | else-page-range+else-page-range-2 w ↦ omega (arith, inv.past, w.to-is)
       ];
       within = omega (arith, nearer, inv.within);
       none = λ q low high. mode_other items MOST_PAGES valid i no_item inside q
-          (elim c.if-p-range.branch [
-            | then-p-range w ↦ outside (get_or items i no_item) q (inl (omega (arith, high, w.min-to.ensures, w.to-is, pages.1)))
-            | else-p-range+else-p-range-2 w ↦ outside (get_or items i no_item) q (inr (omega (arith, low, w.if-p-range-2.false, pages.2)))
+          (elim c.if-page-range.branch [
+            | then-page-range w ↦ outside (get_or items i no_item) q (inl (omega (arith, high, w.min-to.ensures, w.to-is, pages.1)))
+            | else-page-range+else-page-range-2 w ↦ outside (get_or items i no_item) q (inr (omega (arith, low, w.if-page-range-2.false, pages.2)))
           ])
           ∙ inv.none q low (omega (arith, high, nearer));
-      edge = edge_more (λ (item : Item). item.from) (λ (item : Item). item.to) (λ _. false) items i no_item c.loop-item.to c.if-p-range.to MOST_PAGES inside inv.edge nearer
-          (λ less. elim c.if-p-range.branch [
-            | then-p-range w ↦ inl (omega (arith, less, w.min-to.ensures, w.to-is, pages.1))
-            | else-p-range+else-p-range-2 w ↦ absurd (omega (arith, less, w.to-is))
+      edge = edge_more (λ (item : Item). item.from) (λ (item : Item). item.to) (λ _. false) items i no_item c.loop-item.to c.if-page-range.to MOST_PAGES inside inv.edge nearer
+          (λ less. elim c.if-page-range.branch [
+            | then-page-range w ↦ inl (omega (arith, less, w.min-to.ensures, w.to-is, pages.1))
+            | else-page-range+else-page-range-2 w ↦ absurd (omega (arith, less, w.to-is))
           ]);
     }
 
-pub returns-then-p-range-2-clause-run : goal.returns-then-p-range-2-clause-run
-returns-then-p-range-2-clause-run c =
+pub returns-then-page-range-2-clause-run : goal.returns-then-page-range-2-clause-run
+returns-then-page-range-2-clause-run c =
     let items = c.items-item-items.result.now in
     let same = c.items-item-items.ensures.items in
     let valid = subst (IsSpec MOST_PAGES) (sym same) c.items-item-items.ensures.valid in
     let i = c.loop-item.item-index in
     let pages = c.in-Some.ensures.pages in
     subst (λ xs. IsModeRun xs c.args.page (record { mode = Some (get_or items i no_item).mode; to = c.in-Some.range.to; near = c.args.near })) same
-    (item_run items valid i c.loop-item-test.true c.args.page c.in-Some.range.to c.args.near pages.0 (omega (arith, pages.1, c.if-p-range.false)) pages.2)
+    (item_run items valid i c.loop-item-test.true c.args.page c.in-Some.range.to c.args.near pages.0 (omega (arith, pages.1, c.if-page-range.false)) pages.2)

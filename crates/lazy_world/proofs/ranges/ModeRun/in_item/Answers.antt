@@ -18,4 +18,4 @@ returns-clause-run c =
     let from_is = ap (λ (x : Item). x.from) is in
     subst (λ (x : Item). IsModeRun c.args.items.now c.args.page (record { mode = Some x.mode; to = end; near = c.args.near + 1 })) (sym is)
     (subst (λ xs. IsModeRun xs c.args.page (record { mode = Some (get_or items c.args.near no_item).mode; to = end; near = c.args.near + 1 })) same
-    (item_run items valid c.args.near at.0 c.args.page end (c.args.near + 1) (ap (λ (x : Item). x.kind) (sym is) ∙ pages.0) (omega (arith, pages.1, from_is, c.if-p-range.false)) (pages.2 ∙ ap (λ (x : Item). x.to) is)))
+    (item_run items valid c.args.near at.0 c.args.page end (c.args.near + 1) (ap (λ (x : Item). x.kind) (sym is) ∙ pages.0) (omega (arith, pages.1, from_is, c.if-page-range.false)) (pages.2 ∙ ap (λ (x : Item). x.to) is)))

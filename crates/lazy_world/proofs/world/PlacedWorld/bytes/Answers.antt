@@ -41,9 +41,9 @@ module _ (w : PlacedWorld) (c : Name) (i at count : ℕ) (ps : List ℕ) (b : Bo
       ∙ ap Some (sym (is ∙ ap (λ (f : ℕ → ℕ). map f (range_with_len at count)) (byte-in _ _ _ cells)))
 
 -- one page is touched
-own_there : (c : goal.Then-copy_own) → load (seen c.args.self.now) c.args.c c.args.at (length c.args.out.now) ≡ Some c.copy_own.new.out
+own_there : (c : goal.Then-copy_own) → load (seen c.args.self.now) c.args.context c.args.at (length c.args.out.now) ≡ Some c.copy_own.new.out
 own_there c =
-    loaded c.args.self.now c.args.c c.place-i.result c.args.at (length c.args.out.now) (touched c.args.at (length c.args.out.now)) true c.place-i.ensures.context refl (sym (c.copy_own.ensures.present c.if-copy_own.true)) refl c.copy_own.new.out (c.copy_own.ensures.copied c.if-copy_own.true)
+    loaded c.args.self.now c.args.context c.place-i.result c.args.at (length c.args.out.now) (touched c.args.at (length c.args.out.now)) true c.place-i.ensures.context refl (sym (c.copy_own.ensures.present c.if-copy_own.true)) refl c.copy_own.new.out (c.copy_own.ensures.copied c.if-copy_own.true)
 
 pub returns-then-copy_own-clause-present : goal.returns-then-copy_own-clause-present
 returns-then-copy_own-clause-present c = rw (own_there c) refl
@@ -55,10 +55,10 @@ pub returns-then-copy_own-clause-absent : goal.returns-then-copy_own-clause-abse
 returns-then-copy_own-clause-absent c = rw (own_there c) tt
 
 -- by pages
-none_there : (c : goal.Then-not-are_present) → load (seen c.args.self.now) c.args.c c.args.at (length c.args.out.now) ≡ None
+none_there : (c : goal.Then-not-are_present) → load (seen c.args.self.now) c.args.context c.args.at (length c.args.out.now) ≡ None
 none_there c =
-    ap (λ (l : List ℕ). load (seen c.args.self.now) c.args.c c.args.at (length l)) (sym (c.copy_own.ensures.same c.if-copy_own.false))
-    ∙ loaded-none c.args.self.now c.args.c c.place-i.result c.args.at (length c.copy_own.new.out) _ c.are_present.result c.place-i.ensures.context c.touched_pages-pages.ensures.pages c.are_present.ensures c.if-not-are_present.true
+    ap (λ (l : List ℕ). load (seen c.args.self.now) c.args.context c.args.at (length l)) (sym (c.copy_own.ensures.same c.if-copy_own.false))
+    ∙ loaded-none c.args.self.now c.args.context c.place-i.result c.args.at (length c.copy_own.new.out) _ c.are_present.result c.place-i.ensures.context c.touched_pages-pages.ensures.pages c.are_present.ensures c.if-not-are_present.true
 
 pub returns-then-not-are_present-clause-present : goal.returns-then-not-are_present-clause-present
 returns-then-not-are_present-clause-present c = rw (none_there c) refl
@@ -69,10 +69,10 @@ returns-then-not-are_present-clause-found c = rw (none_there c) tt
 pub returns-then-not-are_present-clause-absent : goal.returns-then-not-are_present-clause-absent
 returns-then-not-are_present-clause-absent c = rw (none_there c) (c.copy_own.ensures.same c.if-copy_own.false)
 
-all_there : (c : goal.After-slice_known-3-1) → load (seen c.args.self.now) c.args.c c.args.at (length c.args.out.now) ≡ Some c.copy_to.new.out
+all_there : (c : goal.After-slice_known-3-1) → load (seen c.args.self.now) c.args.context c.args.at (length c.args.out.now) ≡ Some c.copy_to.new.out
 all_there c =
-    ap (λ (l : List ℕ). load (seen c.args.self.now) c.args.c c.args.at (length l)) (sym (c.copy_own.ensures.same c.if-copy_own.false))
-    ∙ loaded c.args.self.now c.args.c c.place-i.result c.args.at (length c.copy_own.new.out) _ c.are_present.result c.place-i.ensures.context c.touched_pages-pages.ensures.pages c.are_present.ensures c.if-not-are_present.false c.copy_to.new.out c.copy_to.ensures
+    ap (λ (l : List ℕ). load (seen c.args.self.now) c.args.context c.args.at (length l)) (sym (c.copy_own.ensures.same c.if-copy_own.false))
+    ∙ loaded c.args.self.now c.args.context c.place-i.result c.args.at (length c.copy_own.new.out) _ c.are_present.result c.place-i.ensures.context c.touched_pages-pages.ensures.pages c.are_present.ensures c.if-not-are_present.false c.copy_to.new.out c.copy_to.ensures
 
 pub returns-clause-present : goal.returns-clause-present
 returns-clause-present c = rw (all_there c) refl

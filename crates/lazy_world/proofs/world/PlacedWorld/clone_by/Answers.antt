@@ -26,9 +26,9 @@ invariant_of-self c =
       placed_groups = w.placed_groups;
       count = c.copy_place.ensures.count ∙ w.count;
       frames = c.copy_place.ensures.frames ∙ w.frames;
-      sound = followed-sound (parts w) w.sound w.placed (Clone c.args.made) c.args.spec.now c.requires.within c.args.c c.args.made c.place-from.result to c.place-from.ensures.context c.place-to.ensures.found
+      sound = followed-sound (parts w) w.sound w.placed (Clone c.args.made) c.args.spec.now c.requires.within c.args.of_context c.args.made c.place-from.result to c.place-from.ensures.context c.place-to.ensures.found
           _ _ (c.copy_place.ensures.rows ∙ ap (put_row (rows w.places) to) (sym same)) (c.copy_place.ensures.rights ∙ ap (put_rights (rights w.places) to) (sym same_rights))
-          (none-moved (seen w) c.args.spec.now (context (seen w) c.args.c) c.args.made (λ p. c.requires.settled (Page p)))
+          (none-moved (seen w) c.args.spec.now (context (seen w) c.args.of_context) c.args.made (λ p. c.requires.settled (Page p)))
           (subst (HasOldTags (seen w).next) (sym same) (w.sound.tags c.place-from.result))
           c.requires.fresh
           (subst (λ row. HasOneHome (put_row (rows w.places) to row)) (sym same) (copied-homes (rows w.places) to c.place-from.result w.sound.homes));
@@ -41,7 +41,7 @@ returns-then-can_copy-clause-world c =
     let to = c.place-to.result in
     let same = c.can_copy.ensures.row c.if-can_copy.true (rows w.places to) in
     let same_rights = c.can_copy.ensures.rights c.if-can_copy.true (rights w.places to) in
-    followed-world (parts w) w.sound w.placed (Clone c.args.made) c.args.spec.now c.requires.within c.args.c c.args.made c.place-from.result to c.place-from.ensures.context c.place-to.ensures.found
+    followed-world (parts w) w.sound w.placed (Clone c.args.made) c.args.spec.now c.requires.within c.args.of_context c.args.made c.place-from.result to c.place-from.ensures.context c.place-to.ensures.found
     _ _ (c.copy_place.ensures.rows ∙ ap (put_row (rows w.places) to) (sym same)) (c.copy_place.ensures.rights ∙ ap (put_rights (rights w.places) to) (sym same_rights))
 
 pub returns-then-can_copy-clause-store : goal.returns-then-can_copy-clause-store
@@ -56,10 +56,10 @@ unfolding seen parts rows rights
 returns-then-can_copy-clause-steps c =
     let w = c.args.self.now in
     let s = parts w in
-    let here = ranges-here s w.sound c.args.c c.place-from.result c.place-from.ensures.found in
+    let here = ranges-here s w.sound c.args.of_context c.place-from.result c.place-from.ensures.found in
     let empty : HasNoPages (s.rows c.place-to.result) = λ p. sym (ap (λ (x : Context). x.cell (Page p)) c.place-to.ensures.context) ∙ no_page _ p (c.requires.empty (Page p)) in
-    let steps : node_steps c.copy_place.new.self ≤ node_steps w.places + min 1 (ranges_of (seen w) c.args.c) = omega (arith, c.copy_place.ensures.cost empty, ap (min 1) here) in
-    record { all = omega (arith, steps, min-le_right 1 (ranges_of (seen w) c.args.c)); whole = λ copies own. steps }
+    let steps : node_steps c.copy_place.new.self ≤ node_steps w.places + min 1 (ranges_of (seen w) c.args.of_context) = omega (arith, c.copy_place.ensures.cost empty, ap (min 1) here) in
+    record { all = omega (arith, steps, min-le_right 1 (ranges_of (seen w) c.args.of_context)); whole = λ copies own. steps }
 
 pub clone_pieces-requires-clause-empty : goal.clone_pieces-requires-clause-empty
 clone_pieces-requires-clause-empty c p = no_page _ p (c.requires.empty (Page p))

@@ -24,8 +24,8 @@ share-requires-clause-few c = c.requires.few.0
 pub add_context-made-requires-clause-place : goal.add_context-made-requires-clause-place
 add_context-made-requires-clause-place c =
     let w = seen c.args.self.now in
-    let s = share w c.args.c c.args.job c.args.spec.now in
-    let shared = changes.shared w c.args.c c.args.job c.args.spec.now in
+    let s = share w c.args.of_context c.args.job c.args.spec.now in
+    let shared = changes.shared w c.args.of_context c.args.job c.args.spec.now in
     let many = (counts.same_contexts w s c.args.job shared.live).1 in
     subst HasPlace (sym c.share.ensures.world)
     (subst (λ (size : WorldSize). fm.len s.contexts < size.contexts) (sym shared.size) (subst (λ n. n < w.size.contexts) (sym many) c.requires.place))
@@ -35,13 +35,13 @@ unfolding seen parts
 clone_by-requires-clause-from c =
     let w = seen c.args.self.now in
     let x = new_context NOBODY c.args.entry.now in
-    let s = share w c.args.c c.args.job c.args.spec.now in
+    let s = share w c.args.of_context c.args.job c.args.spec.now in
     let added = c.add_context-made.ensures.world ∙ ap (λ v. add_context v c.args.job x) c.share.ensures.world in
-    let shared = changes.shared w c.args.c c.args.job c.args.spec.now in
-    subst (λ v. is_live v c.args.c ≡ true) (sym added)
-    ((changes.context_added s c.args.job x).still_live c.args.c
-    (other_name w c.args.c c.args.job c.args.spec.now c.requires.within c.requires.live c.args.self.now.sound.fresh NOBODY c.args.entry.now)
-    ∙ shared.live c.args.c ∙ c.requires.live)
+    let shared = changes.shared w c.args.of_context c.args.job c.args.spec.now in
+    subst (λ v. is_live v c.args.of_context ≡ true) (sym added)
+    ((changes.context_added s c.args.job x).still_live c.args.of_context
+    (other_name w c.args.of_context c.args.job c.args.spec.now c.requires.within c.requires.live c.args.self.now.sound.fresh NOBODY c.args.entry.now)
+    ∙ shared.live c.args.of_context ∙ c.requires.live)
 
 pub clone_by-requires-clause-fresh : goal.clone_by-requires-clause-fresh
 unfolding seen parts
@@ -50,9 +50,9 @@ clone_by-requires-clause-fresh c =
     let added = c.add_context-made.ensures.world ∙ ap (λ v. add_context v c.args.job (new_context NOBODY c.args.entry.now)) c.share.ensures.world in
     let named = c.add_context-made.ensures.name ∙ ap (λ v. next_context v c.args.job) c.share.ensures.world in
     subst IsFresh
-    (sym (cloned-is w c.args.c c.args.job c.args.spec.now c.requires.within c.requires.live c.args.self.now.sound.fresh NOBODY c.args.entry.now
+    (sym (cloned-is w c.args.of_context c.args.job c.args.spec.now c.requires.within c.requires.live c.args.self.now.sound.fresh NOBODY c.args.entry.now
     c.add_context-made.result (seen c.add_context-made.new.self) c.add_context-made.result added named))
-    (stays_fresh.cloned w c.args.c c.args.job c.args.spec.now c.args.entry.now c.requires.live c.args.self.now.sound.fresh)
+    (stays_fresh.cloned w c.args.of_context c.args.job c.args.spec.now c.args.entry.now c.requires.live c.args.self.now.sound.fresh)
 
 pub clone_by-requires-clause-few : goal.clone_by-requires-clause-few
 unfolding seen parts
@@ -61,9 +61,9 @@ clone_by-requires-clause-few c =
     let added = c.add_context-made.ensures.world ∙ ap (λ v. add_context v c.args.job (new_context NOBODY c.args.entry.now)) c.share.ensures.world in
     let named = c.add_context-made.ensures.name ∙ ap (λ v. next_context v c.args.job) c.share.ensures.world in
     subst (λ v. ranges_of v c.add_context-made.result ≤ MOST_RANGES)
-    (sym (cloned-is w c.args.c c.args.job c.args.spec.now c.requires.within c.requires.live c.args.self.now.sound.fresh NOBODY c.args.entry.now
+    (sym (cloned-is w c.args.of_context c.args.job c.args.spec.now c.requires.within c.requires.live c.args.self.now.sound.fresh NOBODY c.args.entry.now
     c.add_context-made.result (seen c.add_context-made.new.self) c.add_context-made.result added named))
-    (clone-few w c.args.c c.args.job c.args.spec.now c.requires.within c.requires.live c.args.self.now.sound.fresh NOBODY c.args.entry.now
+    (clone-few w c.args.of_context c.args.job c.args.spec.now c.requires.within c.requires.live c.args.self.now.sound.fresh NOBODY c.args.entry.now
     c.requires.few.1 c.add_context-made.result named)
 
 pub returns-clause-cloned : goal.returns-clause-cloned
@@ -73,7 +73,7 @@ returns-clause-cloned c =
     let added = c.add_context-made.ensures.world ∙ ap (λ v. add_context v c.args.job (new_context NOBODY c.args.entry.now)) c.share.ensures.world in
     let named = c.add_context-made.ensures.name ∙ ap (λ v. next_context v c.args.job) c.share.ensures.world in
     c.clone_by.ensures.world
-    ∙ cloned-is w c.args.c c.args.job c.args.spec.now c.requires.within c.requires.live c.args.self.now.sound.fresh NOBODY c.args.entry.now
+    ∙ cloned-is w c.args.of_context c.args.job c.args.spec.now c.requires.within c.requires.live c.args.self.now.sound.fresh NOBODY c.args.entry.now
     c.add_context-made.result (seen c.add_context-made.new.self) c.add_context-made.result added named
 
 pub clone_by-requires-clause-apart : goal.clone_by-requires-clause-apart
@@ -81,7 +81,7 @@ unfolding seen parts
 clone_by-requires-clause-apart c same =
     let w = seen c.args.self.now in
     let named = c.add_context-made.ensures.name ∙ ap (λ v. next_context v c.args.job) c.share.ensures.world in
-    other_name w c.args.c c.args.job c.args.spec.now c.requires.within c.requires.live c.args.self.now.sound.fresh NOBODY c.args.entry.now
+    other_name w c.args.of_context c.args.job c.args.spec.now c.requires.within c.requires.live c.args.self.now.sound.fresh NOBODY c.args.entry.now
     (same ∙ named)
 
 pub clone_by-requires-clause-settled : goal.clone_by-requires-clause-settled
@@ -89,7 +89,7 @@ unfolding seen parts
 clone_by-requires-clause-settled c =
     let w = seen c.args.self.now in
     let added = c.add_context-made.ensures.world ∙ ap (λ v. add_context v c.args.job (new_context NOBODY c.args.entry.now)) c.share.ensures.world in
-    still-settled w c.args.c c.args.job c.args.spec.now c.requires.within c.requires.live c.args.self.now.sound.fresh NOBODY c.args.entry.now
+    still-settled w c.args.of_context c.args.job c.args.spec.now c.requires.within c.requires.live c.args.self.now.sound.fresh NOBODY c.args.entry.now
     (seen c.add_context-made.new.self) added
 
 pub clone_by-requires-clause-empty : goal.clone_by-requires-clause-empty
@@ -97,33 +97,33 @@ unfolding seen parts
 clone_by-requires-clause-empty c k =
     let w = seen c.args.self.now in
     let x = new_context NOBODY c.args.entry.now in
-    let s = share w c.args.c c.args.job c.args.spec.now in
+    let s = share w c.args.of_context c.args.job c.args.spec.now in
     let added = c.add_context-made.ensures.world ∙ ap (λ v. add_context v c.args.job x) c.share.ensures.world in
     let named = c.add_context-made.ensures.name ∙ ap (λ v. next_context v c.args.job) c.share.ensures.world in
     (λ e. is_nothing k ((context (added e) (named e)).cell k)) ∙ ap (λ (y : Context). is_nothing k (y.cell k)) (changes.context_added s c.args.job x).added ∙ new-nothing NOBODY c.args.entry.now k
 
 -- the context has its ranges and its cells once the new one is there
 module _ (c : goal.After-clone_by) where
-  here : context (seen c.add_context-made.new.self) c.args.c ≡ context (share (seen c.args.self.now) c.args.c c.args.job c.args.spec.now) c.args.c
+  here : context (seen c.add_context-made.new.self) c.args.of_context ≡ context (share (seen c.args.self.now) c.args.of_context c.args.job c.args.spec.now) c.args.of_context
   unfolding seen parts
   here =
       let added = c.add_context-made.ensures.world ∙ ap (λ v. add_context v c.args.job (new_context NOBODY c.args.entry.now)) c.share.ensures.world in
-      ap (λ v. context v c.args.c) added ∙ same_context (seen c.args.self.now) c.args.c c.args.job c.args.spec.now c.requires.within c.requires.live c.args.self.now.sound.fresh NOBODY c.args.entry.now
+      ap (λ v. context v c.args.of_context) added ∙ same_context (seen c.args.self.now) c.args.of_context c.args.job c.args.spec.now c.requires.within c.requires.live c.args.self.now.sound.fresh NOBODY c.args.entry.now
 
-  counted : ranges_of (seen c.add_context-made.new.self) c.args.c ≡ ranges_of (share (seen c.args.self.now) c.args.c c.args.job c.args.spec.now) c.args.c
+  counted : ranges_of (seen c.add_context-made.new.self) c.args.of_context ≡ ranges_of (share (seen c.args.self.now) c.args.of_context c.args.job c.args.spec.now) c.args.of_context
   counted =
       let added = c.add_context-made.ensures.world ∙ ap (λ v. add_context v c.args.job (new_context NOBODY c.args.entry.now)) c.share.ensures.world in
-      ap (λ v. ranges_of v c.args.c) added ∙ added-ranges (share (seen c.args.self.now) c.args.c c.args.job c.args.spec.now) c.args.c c.args.job NOBODY c.args.entry.now (sym (ap (λ v. context v c.args.c) added) ∙ here)
+      ap (λ v. ranges_of v c.args.of_context) added ∙ added-ranges (share (seen c.args.self.now) c.args.of_context c.args.job c.args.spec.now) c.args.of_context c.args.job NOBODY c.args.entry.now (sym (ap (λ v. context v c.args.of_context) added) ∙ here)
 
-  still : needs_group (seen c.args.self.now) c.args.c c.args.spec.now ≡ false → share (seen c.args.self.now) c.args.c c.args.job c.args.spec.now ≡ seen c.args.self.now
-  still none = (changes.shared (seen c.args.self.now) c.args.c c.args.job c.args.spec.now).none none
+  still : needs_group (seen c.args.self.now) c.args.of_context c.args.spec.now ≡ false → share (seen c.args.self.now) c.args.of_context c.args.job c.args.spec.now ≡ seen c.args.self.now
+  still none = (changes.shared (seen c.args.self.now) c.args.of_context c.args.job c.args.spec.now).none none
 
 pub returns-clause-store : goal.returns-clause-store
 returns-clause-store c = record {
-  all = clone-takes c.args.self.now c.share.new.self c.add_context-made.new.self c.clone_by.new.self c.args.c c.args.spec.now _ _ c.share.ensures.store c.add_context-made.ensures.store (ap (λ n. n + length c.args.spec.now) (counted c)) c.clone_by.ensures.store;
+  all = clone-takes c.args.self.now c.share.new.self c.add_context-made.new.self c.clone_by.new.self c.args.of_context c.args.spec.now _ _ c.share.ensures.store c.add_context-made.ensures.store (ap (λ n. n + length c.args.spec.now) (counted c)) c.clone_by.ensures.store;
   alone = λ none.
-      copy-before c.args.self.now c.add_context-made.new.self c.clone_by.new.self c.args.c c.args.spec.now
-      (here c ∙ ap (λ v. context v c.args.c) (still c none)) (ap (λ n. n + length c.args.spec.now) (counted c ∙ ap (λ v. ranges_of v c.args.c) (still c none)))
+      copy-before c.args.self.now c.add_context-made.new.self c.clone_by.new.self c.args.of_context c.args.spec.now
+      (here c ∙ ap (λ v. context v c.args.of_context) (still c none)) (ap (λ n. n + length c.args.spec.now) (counted c ∙ ap (λ v. ranges_of v c.args.of_context) (still c none)))
       (subst (λ (v : PlacedWorld). KeepsStore v.places c.add_context-made.new.self.places) (c.share.ensures.none none) c.add_context-made.ensures.store) c.clone_by.ensures.store;
 }
 
@@ -131,7 +131,7 @@ pub returns-clause-steps : goal.returns-clause-steps
 returns-clause-steps c = record {
   all = omega (arith, c.share.ensures.steps, c.add_context-made.ensures.store.steps, c.clone_by.ensures.steps.all, counted c);
   alone = λ none.
-      steps-before c.args.self.now c.add_context-made.new.self c.clone_by.new.self c.args.c c.args.spec.now
-      (here c ∙ ap (λ v. context v c.args.c) (still c none)) (counted c ∙ ap (λ v. ranges_of v c.args.c) (still c none))
+      steps-before c.args.self.now c.add_context-made.new.self c.clone_by.new.self c.args.of_context c.args.spec.now
+      (here c ∙ ap (λ v. context v c.args.of_context) (still c none)) (counted c ∙ ap (λ v. ranges_of v c.args.of_context) (still c none))
       (subst (λ (v : PlacedWorld). KeepsStore v.places c.add_context-made.new.self.places) (c.share.ensures.none none) c.add_context-made.ensures.store) c.clone_by.ensures.steps;
 }

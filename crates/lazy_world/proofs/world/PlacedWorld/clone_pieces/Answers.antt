@@ -20,7 +20,7 @@ use Rattle.lazy_world.proofs.world.PlacedWorld.clone_pieces.Goals as goal
 pub clone_origins-requires-clause-apart : goal.clone_origins-requires-clause-apart
 unfolding parts
 clone_origins-requires-clause-apart c =
-    other-place (parts c.args.self.now).contexts c.args.self.now.placed c.args.c c.args.made c.place-from.result c.place-to.result c.place-from.ensures.found c.place-to.ensures.found c.requires.apart
+    other-place (parts c.args.self.now).contexts c.args.self.now.placed c.args.of_context c.args.made c.place-from.result c.place-to.result c.place-from.ensures.found c.place-to.ensures.found c.requires.apart
 
 pub clone_origins-requires-clause-settled : goal.clone_origins-requires-clause-settled
 unfolding rows parts
@@ -38,7 +38,7 @@ take-requires-clause-few c =
     let w = c.args.self.now in
     let origins = c.clone_origins.ensures in
     subst (λ (n : ℕ). n ≤ MOST_RANGES)
-    (followed-few (parts w) w.sound w.placed (Clone c.args.made) c.args.spec.now c.requires.within c.args.c c.args.made c.place-from.result c.place-to.result c.place-from.ensures.context c.place-to.ensures.found
+    (followed-few (parts w) w.sound w.placed (Clone c.args.made) c.args.spec.now c.requires.within c.args.of_context c.args.made c.place-from.result c.place-to.result c.place-from.ensures.context c.place-to.ensures.found
     ∙ sym (λ e. ranges MOST_PAGES (states_of (origins.row e) (origins.rights e)))) c.requires.few
 
 pub invariant_of-self : goal.invariant_of-self
@@ -52,9 +52,9 @@ invariant_of-self c =
       placed_groups = w.placed_groups;
       count = c.take.ensures.count ∙ w.count;
       frames = c.take.ensures.frames ∙ w.frames;
-      sound = followed-sound (parts w) w.sound w.placed (Clone c.args.made) c.args.spec.now c.requires.within c.args.c c.args.made c.place-from.result to c.place-from.ensures.context c.place-to.ensures.found
+      sound = followed-sound (parts w) w.sound w.placed (Clone c.args.made) c.args.spec.now c.requires.within c.args.of_context c.args.made c.place-from.result to c.place-from.ensures.context c.place-to.ensures.found
           _ _ (c.take.ensures.rows ∙ ap (put_row (rows w.places) to) origins.row) (c.take.ensures.rights ∙ ap (put_rights (rights w.places) to) origins.rights)
-          (none-moved (seen w) c.args.spec.now (context (seen w) c.args.c) c.args.made (λ p. c.requires.settled (Page p)))
+          (none-moved (seen w) c.args.spec.now (context (seen w) c.args.of_context) c.args.made (λ p. c.requires.settled (Page p)))
           (subst (HasOldTags (seen w).next) origins.row (origin-tags (seen w).next (rows w.places) to c.clone_origins.new.origins w.sound.tags))
           c.requires.fresh
           (subst (λ row. HasOneHome (put_row (rows w.places) to row)) origins.row (origin-homes (rows w.places) to c.clone_origins.new.origins w.sound.homes));
@@ -66,7 +66,7 @@ returns-clause-world c =
     let w = c.args.self.now in
     let to = c.place-to.result in
     let origins = c.clone_origins.ensures in
-    followed-world (parts w) w.sound w.placed (Clone c.args.made) c.args.spec.now c.requires.within c.args.c c.args.made c.place-from.result to c.place-from.ensures.context c.place-to.ensures.found
+    followed-world (parts w) w.sound w.placed (Clone c.args.made) c.args.spec.now c.requires.within c.args.of_context c.args.made c.place-from.result to c.place-from.ensures.context c.place-to.ensures.found
     _ _ (c.take.ensures.rows ∙ ap (put_row (rows w.places) to) origins.row) (c.take.ensures.rights ∙ ap (put_rights (rights w.places) to) origins.rights)
 
 pub returns-clause-store : goal.returns-clause-store
@@ -75,9 +75,9 @@ returns-clause-store c =
     let w = c.args.self.now in
     let s = parts w in
     let bounded = c.clone_origins.ensures.bounded in
-    let here = ranges-here s w.sound c.args.c c.place-from.result c.place-from.ensures.found in
+    let here = ranges-here s w.sound c.args.of_context c.place-from.result c.place-from.ensures.found in
     let empty : HasNoPages (s.rows c.place-to.result) = λ p. sym (ap (λ (x : Context). x.cell (Page p)) c.place-to.ensures.context) ∙ c.requires.empty p in
-    let whole : CopiesPages c.args.spec.now → HasOwnPages (context (seen w) c.args.c).cell → c.clone_origins.new.origins.pages ≡ AllOf c.place-from.result = λ copies own. bounded.whole copies (λ p. sym (ap (λ (x : Context). is_own (x.cell (Page p))) c.place-from.ensures.context) ∙ own p) in
+    let whole : CopiesPages c.args.spec.now → HasOwnPages (context (seen w) c.args.of_context).cell → c.clone_origins.new.origins.pages ≡ AllOf c.place-from.result = λ copies own. bounded.whole copies (λ p. sym (ap (λ (x : Context). is_own (x.cell (Page p))) c.place-from.ensures.context) ∙ own p) in
     record {
       frames = c.take.ensures.free_empty empty;
       pool = c.take.ensures.pool;
@@ -91,9 +91,9 @@ returns-clause-steps c =
     let w = c.args.self.now in
     let s = parts w in
     let bounded = c.clone_origins.ensures.bounded in
-    let here = ranges-here s w.sound c.args.c c.place-from.result c.place-from.ensures.found in
+    let here = ranges-here s w.sound c.args.of_context c.place-from.result c.place-from.ensures.found in
     let empty : HasNoPages (s.rows c.place-to.result) = λ p. sym (ap (λ (x : Context). x.cell (Page p)) c.place-to.ensures.context) ∙ c.requires.empty p in
-    let whole : CopiesPages c.args.spec.now → HasOwnPages (context (seen w) c.args.c).cell → c.clone_origins.new.origins.pages ≡ AllOf c.place-from.result = λ copies own. bounded.whole copies (λ p. sym (ap (λ (x : Context). is_own (x.cell (Page p))) c.place-from.ensures.context) ∙ own p) in
+    let whole : CopiesPages c.args.spec.now → HasOwnPages (context (seen w) c.args.of_context).cell → c.clone_origins.new.origins.pages ≡ AllOf c.place-from.result = λ copies own. bounded.whole copies (λ p. sym (ap (λ (x : Context). is_own (x.cell (Page p))) c.place-from.ensures.context) ∙ own p) in
     record {
       all = omega (arith, c.take.ensures.cost empty, bounded.steps, here);
       whole = λ copies own. omega (arith, c.take.ensures.cost empty, ap (most_steps (rows w.places) (rights w.places)) (whole copies own) ∙ ap (min 1) (sym here));

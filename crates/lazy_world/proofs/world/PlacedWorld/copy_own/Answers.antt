@@ -22,12 +22,12 @@ slice_bounds-copy_from_slice-end c = omega (arith, c.touched_pages-pages.ensures
 
 pub returns-in-Some-clause-copied : goal.returns-in-Some-clause-copied
 returns-in-Some-clause-copied c = λ _.
-    copied-own (seen c.args.self.now) (rows c.args.self.now.places c.args.i) c.args.at _ (c.touched_pages-pages.ensures.one c.if-pages-ne1.false) c.in-Some.bytes.now _
-    (c.in-Some.ensures.value ∙ ap data_of (under c.args.self.now c.args.i c.touched_pages-pages.result.from _ (sym c.kind.ensures ∙ c.in-Some-Own.is ∙ ap Some c.in-Some-Own.field-0-is) c.touched_pages-pages.ensures.from))
+    copied-own (seen c.args.self.now) (rows c.args.self.now.places c.args.place) c.args.at _ (c.touched_pages-pages.ensures.one c.if-pages-ne1.false) c.in-Some.bytes.now _
+    (c.in-Some.ensures.value ∙ ap data_of (under c.args.self.now c.args.place c.touched_pages-pages.result.from _ (sym c.kind.ensures ∙ c.in-Some-Own.is ∙ ap Some c.in-Some-Own.field-0-is) c.touched_pages-pages.ensures.from))
     c.in-Some.ensures.whole c.copy_from_slice.ensures.after
 
 pub returns-in-None-clause-copied : goal.returns-in-None-clause-copied
 returns-in-None-clause-copied c = λ _.
-    copied-zeros (seen c.args.self.now) (rows c.args.self.now.places c.args.i) c.args.at _ (c.touched_pages-pages.ensures.one c.if-pages-ne1.false) _
-    (c.in-None.ensures.value ∙ ap data_of (under c.args.self.now c.args.i c.touched_pages-pages.result.from _ (sym c.kind.ensures ∙ c.in-Some-Own.is ∙ ap Some c.in-Some-Own.field-0-is) c.touched_pages-pages.ensures.from))
+    copied-zeros (seen c.args.self.now) (rows c.args.self.now.places c.args.place) c.args.at _ (c.touched_pages-pages.ensures.one c.if-pages-ne1.false) _
+    (c.in-None.ensures.value ∙ ap data_of (under c.args.self.now c.args.place c.touched_pages-pages.result.from _ (sym c.kind.ensures ∙ c.in-Some-Own.is ∙ ap Some c.in-Some-Own.field-0-is) c.touched_pages-pages.ensures.from))
     (c.fill.ensures.after (λ y is. is))

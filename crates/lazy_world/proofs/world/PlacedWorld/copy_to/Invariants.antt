@@ -9,5 +9,5 @@ use Rattle.lazy_world.proofs.world.PlacedWorld.copy_to.Given as goal
 
 abbrev pub invariant-loop-k : goal.invariant-loop-k
 invariant-loop-k l =
-    ((j : ℕ) → j < l.k → get_or l.out j 0 ≡ byte_in (seen l.self) (rows l.self.places l.i) (l.at + j))
-    × (0 < l.k → option_copied l.page ≡ data_of (page_in (seen l.self) (rows l.self.places l.i) ((l.at + l.k - 1) / PAGE_BYTES)))
+    ((j : ℕ) → j < l.k → get_or l.out j 0 ≡ byte_in (seen l.self) (rows l.self.places l.place) (l.at + j))
+    × (0 < l.k → option_copied l.page ≡ data_of (page_in (seen l.self) (rows l.self.places l.place) ((l.at + l.k - 1) / PAGE_BYTES)))

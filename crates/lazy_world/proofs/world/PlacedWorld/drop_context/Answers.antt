@@ -8,7 +8,7 @@ use Rattle.lazy_world.proofs.world.PlacedWorld.drop_context.Goals as goal
 
 pub remove-i-requires : goal.remove-i-requires
 unfolding seen parts
-remove-i-requires c = sym (live-there (parts c.args.self.now) c.args.c) ∙ c.requires
+remove-i-requires c = sym (live-there (parts c.args.self.now) c.args.context) ∙ c.requires
 
 pub invariant_of-self : goal.invariant_of-self
 unfolding parts
@@ -20,7 +20,7 @@ invariant_of-self c =
       count = c.clear.ensures.count ∙ c.args.self.now.count;
       frames = c.clear.ensures.frames ∙ c.args.self.now.frames;
       sound = subst IsSound (sym (λ e. record s { rows = c.clear.ensures.rows e; rights = c.clear.ensures.rights e; contexts = c.remove-i.new.self }))
-          (sound-context s c.args.self.now.sound c.args.self.now.placed c.args.c c.remove-i.result c.remove-i.ensures.place
+          (sound-context s c.args.self.now.sound c.args.self.now.placed c.args.context c.remove-i.result c.remove-i.ensures.place
           c.remove-i.new.self c.remove-i.ensures.map c.remove-i.ensures.places);
     }
 
@@ -29,5 +29,5 @@ unfolding seen parts
 returns-clause-world c =
     let s = parts c.args.self.now in
     (λ e. world_of (record s { rows = c.clear.ensures.rows e; rights = c.clear.ensures.rights e; contexts = c.remove-i.new.self }))
-    ∙ dropped-context s c.args.self.now.sound c.args.self.now.placed c.args.c c.remove-i.result c.remove-i.ensures.place
+    ∙ dropped-context s c.args.self.now.sound c.args.self.now.placed c.args.context c.remove-i.result c.remove-i.ensures.place
     c.remove-i.new.self c.remove-i.ensures.map c.remove-i.ensures.places

@@ -9,7 +9,7 @@ use Rattle.lazy_world.proofs.world.PlacedWorld.drop_group.Goals as goal
 
 pub remove-j-requires : goal.remove-j-requires
 unfolding seen parts
-remove-j-requires c = sym (group-there (parts c.args.self.now) c.args.g) ∙ c.requires.there
+remove-j-requires c = sym (group-there (parts c.args.self.now) c.args.group) ∙ c.requires.there
 
 pub invariant_of-self : goal.invariant_of-self
 unfolding parts
@@ -21,7 +21,7 @@ invariant_of-self c =
       count = c.clear.ensures.count ∙ c.args.self.now.count;
       frames = c.clear.ensures.frames ∙ c.args.self.now.frames;
       sound = subst IsSound (sym (λ e. record s { rows = c.clear.ensures.rows e; rights = c.clear.ensures.rights e; groups = c.remove-j.new.self }))
-          (sound-group s c.args.self.now.sound c.args.self.now.placed c.args.self.now.placed_groups c.args.g c.remove-j.result c.remove-j.ensures.place
+          (sound-group s c.args.self.now.sound c.args.self.now.placed c.args.self.now.placed_groups c.args.group c.remove-j.result c.remove-j.ensures.place
           c.remove-j.new.self c.remove-j.ensures.map c.remove-j.ensures.places c.requires.unnamed);
     }
 
@@ -30,7 +30,7 @@ unfolding seen parts
 returns-clause-world c =
     let s = parts c.args.self.now in
     (λ e. world_of (record s { rows = c.clear.ensures.rows e; rights = c.clear.ensures.rights e; groups = c.remove-j.new.self }))
-    ∙ dropped-group s c.args.self.now.sound c.args.self.now.placed c.args.self.now.placed_groups c.args.g c.remove-j.result c.remove-j.ensures.place
+    ∙ dropped-group s c.args.self.now.sound c.args.self.now.placed c.args.self.now.placed_groups c.args.group c.remove-j.result c.remove-j.ensures.place
     c.remove-j.new.self c.remove-j.ensures.map c.remove-j.ensures.places
 
 pub returns-clause-names : goal.returns-clause-names
@@ -38,5 +38,5 @@ unfolding parts
 returns-clause-names c h none =
     let s = parts c.args.self.now in
     subst (λ (t : Parts). NamesNone t h) (sym (λ e. record s { rows = c.clear.ensures.rows e; rights = c.clear.ensures.rights e; groups = c.remove-j.new.self }))
-    (names-left s c.args.self.now.sound c.args.self.now.placed c.args.self.now.placed_groups c.args.g c.remove-j.result c.remove-j.ensures.place
+    (names-left s c.args.self.now.sound c.args.self.now.placed c.args.self.now.placed_groups c.args.group c.remove-j.result c.remove-j.ensures.place
     c.remove-j.new.self c.remove-j.ensures.map c.remove-j.ensures.places h none)

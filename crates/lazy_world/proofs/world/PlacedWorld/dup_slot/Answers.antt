@@ -44,7 +44,7 @@ unfolding parts
 invariant_of-self c =
     let w = c.args.self.now in
     let s = parts w in
-    let i = c.args.i in
+    let i = c.args.place in
     let own = c.are_own.ensures.slot c.if-are_own.true in
     let other = c.are_own.ensures.other c.if-are_own.true in
     let are = c.copy_slot.ensures.rows ∙ own_row w i c.args.from c.args.to own in
@@ -54,7 +54,7 @@ invariant_of-self c =
       count = c.copy_slot.ensures.count ∙ w.count;
       frames = c.copy_slot.ensures.frames ∙ w.frames;
       sound = subst IsSound (sym (λ e. record s { rows = are e; rights = c.copy_slot.ensures.store.rights e }))
-          (sound-own s w.sound w.placed c.args.c i c.requires.found (values.Slot c.args.to (lent_for (value w i c.args.from))) c.requires.to
+          (sound-own s w.sound w.placed c.args.context i c.requires.found (values.Slot c.args.to (lent_for (value w i c.args.from))) c.requires.to
           (no_group (rows w.places i (key.Slot c.args.to)) other));
     }
 
@@ -63,15 +63,15 @@ unfolding seen parts
 returns-then-are_own c =
     let w = c.args.self.now in
     let s = parts w in
-    let i = c.args.i in
+    let i = c.args.place in
     let own = c.are_own.ensures.slot c.if-are_own.true in
     let other = c.are_own.ensures.other c.if-are_own.true in
     let are = c.copy_slot.ensures.rows ∙ own_row w i c.args.from c.args.to own in
     record {
       put = (λ e. world_of (record s { rows = are e; rights = c.copy_slot.ensures.store.rights e }))
-          ∙ put-own s w.sound w.placed c.args.c i c.requires.found (values.Slot c.args.to (lent_for (value w i c.args.from))) c.requires.to
+          ∙ put-own s w.sound w.placed c.args.context i c.requires.found (values.Slot c.args.to (lent_for (value w i c.args.from))) c.requires.to
           (no_group (rows w.places i (key.Slot c.args.to)) other)
-          ∙ ap (put_slot (seen w) c.args.c c.args.to) (lent_is (value w i c.args.from) ∙ slot-found s c.args.c i c.args.from c.requires.found);
+          ∙ ap (put_slot (seen w) c.args.context c.args.to) (lent_is (value w i c.args.from) ∙ slot-found s c.args.context i c.args.from c.requires.found);
     }
 
 pub returns-else-are_own : goal.returns-else-are_own
@@ -80,6 +80,6 @@ returns-else-are_own c =
     let w = c.args.self.now in
     record {
       put = c.set_slot.ensures.put
-          ∙ ap (put_slot (seen w) c.args.c c.args.to)
-          (c.lend.ensures ∙ c.owned-value.ensures ∙ c.slot_at.ensures ∙ slot-found (parts w) c.args.c c.args.i c.args.from c.requires.found);
+          ∙ ap (put_slot (seen w) c.args.context c.args.to)
+          (c.lend.ensures ∙ c.owned-value.ensures ∙ c.slot_at.ensures ∙ slot-found (parts w) c.args.context c.args.place c.args.from c.requires.found);
     }

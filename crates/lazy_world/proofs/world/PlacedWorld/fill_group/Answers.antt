@@ -55,7 +55,7 @@ invariant_of-self c =
       count = c.take.ensures.count ∙ w.count;
       frames = c.take.ensures.frames ∙ w.frames;
       sound = subst (λ rows. IsSound (record s { rows = rows; rights = rights c.take.new.self })) (sym (c.take.ensures.rows ∙ ap (put_row (rows w.places) to) c.origins.ensures.row))
-          (filled-sound s w.sound w.placed w.placed_groups c.args.g c.in-Some.j (sym c.place.ensures.place ∙ c.in-Some.is) c.args.spec.now c.args.c c.place-from.result c.place-from.ensures.context
+          (filled-sound s w.sound w.placed w.placed_groups c.args.group_name c.in-Some.j (sym c.place.ensures.place ∙ c.in-Some.is) c.args.spec.now c.args.of_context c.place-from.result c.place-from.ensures.context
           (rights c.take.new.self) (others_kept w to _ _ c.take.ensures.rights) c.requires.empty
           (transferred-within (seen w) s.size.pages c.args.spec.now c.requires.within Move (rows w.places c.place-from.result) (rows w.places to) (w.sound.past c.place-from.result) (w.sound.past to))
           (subst (HasOldTags (seen w).next) c.origins.ensures.row (origin-tags (seen w).next (rows w.places) to c.origins.new.origins w.sound.tags))
@@ -69,21 +69,21 @@ returns-in-Some-clause-world c =
     let s = parts w in
     let to = w.size.contexts + c.in-Some.j in
     ap (λ rows. world_of (record s { rows = rows; rights = rights c.take.new.self })) (c.take.ensures.rows ∙ ap (put_row (rows w.places) to) c.origins.ensures.row)
-    ∙ filled-world s w.sound w.placed w.placed_groups c.args.g c.in-Some.j (sym c.place.ensures.place ∙ c.in-Some.is) c.args.spec.now c.args.c c.place-from.result c.place-from.ensures.context
+    ∙ filled-world s w.sound w.placed w.placed_groups c.args.group_name c.in-Some.j (sym c.place.ensures.place ∙ c.in-Some.is) c.args.spec.now c.args.of_context c.place-from.result c.place-from.ensures.context
     (rights c.take.new.self) (others_kept w to _ _ c.take.ensures.rights)
 
 pub returns-in-None-clause-world : goal.returns-in-None-clause-world
 unfolding seen parts
-returns-in-None-clause-world c = change_group-missed (parts c.args.self.now) c.args.g _ (sym c.place.ensures.place ∙ c.in-None.is)
+returns-in-None-clause-world c = change_group-missed (parts c.args.self.now) c.args.group_name _ (sym c.place.ensures.place ∙ c.in-None.is)
 
 pub returns-in-Some-clause-store : goal.returns-in-Some-clause-store
 unfolding seen parts rows rights
 returns-in-Some-clause-store c =
     let w = c.args.self.now in
     let s = parts w in
-    let here = ranges-here s w.sound c.args.c c.place-from.result c.place-from.ensures.found in
-    let less = fill-less (rows w.places) (rights w.places) c.origins.new.origins.pages (pieces (seen w) c.args.c c.args.spec.now) (omega (arith, c.origins.ensures.steps, here)) in
-    let empty = no_pages-new s w.sound.own c.args.g c.in-Some.j (sym c.place.ensures.place ∙ c.in-Some.is) c.requires.empty in
+    let here = ranges-here s w.sound c.args.of_context c.place-from.result c.place-from.ensures.found in
+    let less = fill-less (rows w.places) (rights w.places) c.origins.new.origins.pages (pieces (seen w) c.args.of_context c.args.spec.now) (omega (arith, c.origins.ensures.steps, here)) in
+    let empty = no_pages-new s w.sound.own c.args.group_name c.in-Some.j (sym c.place.ensures.place ∙ c.in-Some.is) c.requires.empty in
     record { frames = c.take.ensures.free; pool = c.take.ensures.pool; nodes = omega (arith, c.take.ensures.nodes empty, less.0) }
 
 pub returns-in-Some-clause-steps : goal.returns-in-Some-clause-steps
@@ -91,9 +91,9 @@ unfolding seen parts rows rights
 returns-in-Some-clause-steps c =
     let w = c.args.self.now in
     let s = parts w in
-    let here = ranges-here s w.sound c.args.c c.place-from.result c.place-from.ensures.found in
-    let less = fill-less (rows w.places) (rights w.places) c.origins.new.origins.pages (pieces (seen w) c.args.c c.args.spec.now) (omega (arith, c.origins.ensures.steps, here)) in
-    let empty = no_pages-new s w.sound.own c.args.g c.in-Some.j (sym c.place.ensures.place ∙ c.in-Some.is) c.requires.empty in
+    let here = ranges-here s w.sound c.args.of_context c.place-from.result c.place-from.ensures.found in
+    let less = fill-less (rows w.places) (rights w.places) c.origins.new.origins.pages (pieces (seen w) c.args.of_context c.args.spec.now) (omega (arith, c.origins.ensures.steps, here)) in
+    let empty = no_pages-new s w.sound.own c.args.group_name c.in-Some.j (sym c.place.ensures.place ∙ c.in-Some.is) c.requires.empty in
     omega (arith, c.take.ensures.cost empty, less.1)
 
 pub returns-in-None-clause-store : goal.returns-in-None-clause-store

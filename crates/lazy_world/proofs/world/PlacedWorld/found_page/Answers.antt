@@ -8,7 +8,7 @@ use Rattle.lazy_world.proofs.world.PlacedWorld.found_page.Goals as goal
 pub returns-clause-found : goal.returns-clause-found
 returns-clause-found c q low high =
     let w = c.args.self.now in
-    c.found_state.ensures.found q (rows w.places c.args.i (Page q)) (rights w.places c.args.i q) (c.run_at-state.ensures.state ∙ sym (c.run_at-state.ensures.alike q low high))
+    c.found_state.ensures.found q (rows w.places c.args.place (Page q)) (rights w.places c.args.place q) (c.run_at-state.ensures.state ∙ sym (c.run_at-state.ensures.alike q low high))
 
 pub returns-clause-right : goal.returns-clause-right
 returns-clause-right c q low high =

@@ -13,4 +13,4 @@ owner_lent (Own value) = refl
 owner_lent (Common g) = refl
 
 pub returns : goal.returns
-returns c = c.found.ensures.found (Slot c.args.n) (rows c.args.self.now.places c.args.i (Slot c.args.n)) (ap Some (c.owner.ensures ∙ owner_lent c.slot.result ∙ ap owner c.slot.ensures))
+returns c = c.found.ensures.found (Slot c.args.slot) (rows c.args.self.now.places c.args.place (Slot c.args.slot)) (ap Some (c.owner.ensures ∙ owner_lent c.slot.result ∙ ap owner c.slot.ensures))

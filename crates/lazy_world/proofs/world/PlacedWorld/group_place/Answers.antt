@@ -6,11 +6,11 @@ use Rattle.lazy_world.proofs.world.PlacedWorld.group_place.Goals as goal
 
 pub returns-in-Some-clause-found : goal.returns-in-Some-clause-found
 unfolding seen parts
-returns-in-Some-clause-found c = group-found (parts c.args.self.now) c.args.g c.in-Some.j (sym c.place.ensures.place ∙ c.in-Some.is)
+returns-in-Some-clause-found c = group-found (parts c.args.self.now) c.args.group_name c.in-Some.j (sym c.place.ensures.place ∙ c.in-Some.is)
 
 pub returns-in-None-clause-missed : goal.returns-in-None-clause-missed
 unfolding seen parts
-returns-in-None-clause-missed c = group-missed (parts c.args.self.now) c.args.g (sym c.place.ensures.place ∙ c.in-None.is)
+returns-in-None-clause-missed c = group-missed (parts c.args.self.now) c.args.group_name (sym c.place.ensures.place ∙ c.in-None.is)
 
 pub returns-in-Some-clause-behind : goal.returns-in-Some-clause-behind
 unfolding parts

@@ -11,7 +11,7 @@ use Rattle.lazy_world.proofs.world.PlacedWorld.has_all_near.Given as goal
 abbrev pub invariant-slots : goal.invariant-slots
 invariant-slots l = record {
   below : l.from ≤ 64;
-  near : (n : ℕ) (c : Name) → n < l.from → context_of (value_of (seen l.self) (Slot n) (rows l.self.places l.i (Slot n))) ≡ Some c → Reaches (seen l.self) l.roots c;
+  near : (n : ℕ) (c : Name) → n < l.from → context_of (value_of (seen l.self) (Slot n) (rows l.self.places l.place (Slot n))) ≡ Some c → Reaches (seen l.self) l.roots c;
 }
 
 abbrev pub decreases-slots : goal.decreases-slots

@@ -13,5 +13,5 @@ unfolding seen parts
 returns-then-is_shared c _ d is =
     let w = c.args.self.now in
     let root = subst (λ o. IfSome o (HasRoot (parts w) c.args.roots.now)) c.in-Some.is c.requires.first in
-    next-place (parts w) c.args.roots.now c.in-Some.j c.args.n d root c.requires.slot
-    (ap (λ cell. context_of (value_of (seen w) (Slot c.args.n) cell)) (sym (c.is_shared.ensures c.if-is_shared.true)) ∙ is)
+    next-place (parts w) c.args.roots.now c.in-Some.j c.args.slot d root c.requires.slot
+    (ap (λ cell. context_of (value_of (seen w) (Slot c.args.slot) cell)) (sym (c.is_shared.ensures c.if-is_shared.true)) ∙ is)

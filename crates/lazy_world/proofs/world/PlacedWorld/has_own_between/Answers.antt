@@ -11,7 +11,7 @@ returns-then-is_of_own-clause-some c = λ _.
       p,
       c.pages.invariant.first,
       c.pages-test.true,
-      sym (c.is_of_own.ensures p (rows places c.args.i (Page p)) (rights places c.args.i p) c.run_at-state.ensures.state) ∙ c.if-is_of_own.true,
+      sym (c.is_of_own.ensures p (rows places c.args.place (Page p)) (rights places c.args.place p) c.run_at-state.ensures.state) ∙ c.if-is_of_own.true,
     )
 
 pub pages-preserved : goal.pages-preserved
@@ -24,6 +24,6 @@ pages-preserved c =
       inside = run.within;
       none = λ q low high.
           ⊎_elim (λ before. inv.none q low before)
-          (λ here. sym (c.is_of_own.ensures q (rows places c.args.i (Page q)) (rights places c.args.i q) (run.state ∙ sym (run.alike q here high))) ∙ c.if-is_of_own.false)
+          (λ here. sym (c.is_of_own.ensures q (rows places c.args.place (Page q)) (rights places c.args.place q) (run.state ∙ sym (run.alike q here high))) ∙ c.if-is_of_own.false)
           (cases_lt q c.pages.p);
     }

@@ -9,7 +9,7 @@ abbrev pub invariant-pages : goal.invariant-pages
 invariant-pages l = record {
   first : l.range.from ≤ l.p;
   inside : l.p ≤ MOST_PAGES;
-  none : (q : ℕ) → l.range.from ≤ q → q < l.p → has_own (Page q) (rows l.self.places l.i (Page q)) ≡ false;
+  none : (q : ℕ) → l.range.from ≤ q → q < l.p → has_own (Page q) (rows l.self.places l.place (Page q)) ≡ false;
 }
 
 abbrev pub decreases-pages : goal.decreases-pages

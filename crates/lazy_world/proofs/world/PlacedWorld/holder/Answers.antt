@@ -6,20 +6,20 @@ use Rattle.lazy_world.proofs.world.PlacedWorld.holder.Goals as goal
 
 pub returns-in-None-clause-place : goal.returns-in-None-clause-place
 unfolding parts
-returns-in-None-clause-place c = sym (holder-none (parts c.args.self.now) c.args.i _ (sym c.kind.ensures ∙ c.in-None.is))
+returns-in-None-clause-place c = sym (holder-none (parts c.args.self.now) c.args.place _ (sym c.kind.ensures ∙ c.in-None.is))
 
 pub returns-in-Some-Own-clause-place : goal.returns-in-Some-Own-clause-place
 unfolding parts
-returns-in-Some-Own-clause-place c = sym (holder-own (parts c.args.self.now) c.args.i _ (sym c.kind.ensures ∙ c.in-Some-Own.is ∙ ap Some c.in-Some-Own.field-0-is))
+returns-in-Some-Own-clause-place c = sym (holder-own (parts c.args.self.now) c.args.place _ (sym c.kind.ensures ∙ c.in-Some-Own.is ∙ ap Some c.in-Some-Own.field-0-is))
 
 pub returns-in-Some-clause-place : goal.returns-in-Some-clause-place
 unfolding parts
 returns-in-Some-clause-place c =
     ap (option_map (λ j. c.args.self.now.size.contexts + j)) (sym c.in-Some.is ∙ c.place.ensures.place)
-    ∙ sym (holder-common (parts c.args.self.now) c.args.i c.in-Some-Common.g _ (sym c.kind.ensures ∙ c.in-Some-Common.is ∙ ap Some c.in-Some-Common.field-0-is))
+    ∙ sym (holder-common (parts c.args.self.now) c.args.place c.in-Some-Common.g _ (sym c.kind.ensures ∙ c.in-Some-Common.is ∙ ap Some c.in-Some-Common.field-0-is))
 
 pub returns-in-None-place-clause-place : goal.returns-in-None-place-clause-place
 unfolding parts
 returns-in-None-place-clause-place c =
     ap (option_map (λ j. c.args.self.now.size.contexts + j)) (sym c.in-None-place.is ∙ c.place.ensures.place)
-    ∙ sym (holder-common (parts c.args.self.now) c.args.i c.in-Some-Common.g _ (sym c.kind.ensures ∙ c.in-Some-Common.is ∙ ap Some c.in-Some-Common.field-0-is))
+    ∙ sym (holder-common (parts c.args.self.now) c.args.place c.in-Some-Common.g _ (sym c.kind.ensures ∙ c.in-Some-Common.is ∙ ap Some c.in-Some-Common.field-0-is))

@@ -6,4 +6,4 @@ use Rattle.lazy_world.proofs.world.PlacedWorld.is_live.Goals as goal
 
 pub returns : goal.returns
 unfolding seen parts
-returns c = c.is_some.ensures ∙ ap is_some c.place.ensures.place ∙ sym (live-there (parts c.args.self.now) c.args.c)
+returns c = c.is_some.ensures ∙ ap is_some c.place.ensures.place ∙ sym (live-there (parts c.args.self.now) c.args.context)

@@ -13,10 +13,10 @@ returns c there =
     let w = seen c.args.self.now in
     record {
       live = c.requires.live;
-      loose = unreached w c.args.roots.now c.args.c (sym c.is_among.ensures ∙ c.if-is_among.false)
-          (λ d live link. unlinked (parts c.args.self.now) c.args.c (c.may_name.ensures c.if-may_name.false) d live link);
+      loose = unreached w c.args.roots.now c.args.context (sym c.is_among.ensures ∙ c.if-is_among.false)
+          (λ d live link. unlinked (parts c.args.self.now) c.args.context (c.may_name.ensures c.if-may_name.false) d live link);
       ends = λ d link.
-          let slot = links-slot w c.args.c d link in
+          let slot = links-slot w c.args.context d link in
           c.has_all_near.ensures there slot.0 d slot.1
           (ap (λ (x : Context). context_of (value_of w (Slot slot.0) (x.cell (Slot slot.0)))) (sym c.place.ensures.context) ∙ slot.2);
     }

@@ -3,4 +3,4 @@ use Rattle.lwc_base.specs.Life.{Root}
 use Rattle.lazy_world.proofs.world.PlacedWorld.is_near.Goals as goal
 
 pub returns-then-is_among : goal.returns-then-is_among
-returns-then-is_among c _ = Root c.args.c (sym c.is_among.ensures ∙ c.if-is_among.true)
+returns-then-is_among c _ = Root c.args.context (sym c.is_among.ensures ∙ c.if-is_among.true)

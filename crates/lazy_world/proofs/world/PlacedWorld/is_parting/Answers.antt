@@ -11,11 +11,11 @@ returns-in-Some c =
     let w = c.args.self.now in
     c.is_parting.ensures
     ∙ parting-held (parts w) w.sound c.args.self.now.placed c.args.self.now.placed_groups
-    (pages w.places) (row-page w.places) (count-pages w.places ∙ w.count) c.args.i c.args.p c.in-Some.j (sym c.holder.ensures.place ∙ c.in-Some.is)
+    (pages w.places) (row-page w.places) (count-pages w.places ∙ w.count) c.args.place c.args.page c.in-Some.j (sym c.holder.ensures.place ∙ c.in-Some.is)
 
 pub returns-in-None : goal.returns-in-None
 unfolding seen parts
 returns-in-None c =
     let w = c.args.self.now in
     parting-lost (parts w) w.sound c.args.self.now.placed c.args.self.now.placed_groups
-    (pages w.places) (row-page w.places) (count-pages w.places ∙ w.count) c.args.i c.args.p (sym c.holder.ensures.place ∙ c.in-None.is)
+    (pages w.places) (row-page w.places) (count-pages w.places ∙ w.count) c.args.place c.args.page (sym c.holder.ensures.place ∙ c.in-None.is)

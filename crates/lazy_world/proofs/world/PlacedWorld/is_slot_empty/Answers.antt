@@ -12,10 +12,10 @@ pub returns-then-not-is_filled : goal.returns-then-not-is_filled
 returns-then-not-is_filled c =
     let w = c.args.self.now in
     sym
-    (ap (λ cell. is_empty (value_of (seen w) (Slot c.args.n) cell))
-    (no_slot (rows w.places c.args.i (Slot c.args.n)) c.args.n (ap not (sym c.is_filled.ensures ∙ c.if-not-is_filled.true))))
+    (ap (λ cell. is_empty (value_of (seen w) (Slot c.args.slot) cell))
+    (no_slot (rows w.places c.args.place (Slot c.args.slot)) c.args.slot (ap not (sym c.is_filled.ensures ∙ c.if-not-is_filled.true))))
 
 pub returns-then-not-is_common : goal.returns-then-not-is_common
 returns-then-not-is_common c =
     let w = c.args.self.now in
-    own-filled (seen w) c.args.n (rows w.places c.args.i (Slot c.args.n)) (sym c.is_common.ensures ∙ c.if-not-is_common.true) (sym c.is_filled.ensures ∙ c.if-not-is_filled.false)
+    own-filled (seen w) c.args.slot (rows w.places c.args.place (Slot c.args.slot)) (sym c.is_common.ensures ∙ c.if-not-is_common.true) (sym c.is_filled.ensures ∙ c.if-not-is_filled.false)

@@ -29,6 +29,6 @@ returns-then-frames-used-clause-enough c = λ fails.
 pub returns-else-frames-used-clause-enough : goal.returns-else-frames-used-clause-enough
 returns-else-frames-used-clause-enough c = λ _.
     let are = frames-are c.args.self.now in
-    let few = count_of_range (λ p. is_parting (seen c.args.self.now) (unwrap_or (page_in (seen c.args.self.now) (rows c.args.self.now.places c.args.i) p) Zero))
+    let few = count_of_range (λ p. is_parting (seen c.args.self.now) (unwrap_or (page_in (seen c.args.self.now) (rows c.args.self.now.places c.args.place) p) Zero))
     c.args.pages.from (c.args.pages.to - c.args.pages.from) in
     omega (arith, few, c.used-used.ensures.used, are, c.if-frames-used.false)

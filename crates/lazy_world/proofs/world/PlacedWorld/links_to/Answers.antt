@@ -12,5 +12,5 @@ unfolding parts value_at
 returns c there =
     let w = seen c.args.self.now in
     let found = c.links_at.ensures there in
-    links-by w c.args.d c.args.c found.0 found.1
+    links-by w c.args.target c.args.context found.0 found.1
     (ap (λ (x : Context). context_of (value_of w (Slot found.0) (x.cell (Slot found.0)))) c.place.ensures.context ∙ found.2)

@@ -13,7 +13,7 @@ returns-then-is_slot_empty c =
     let w = c.args.self.now in
     let lowest = c.in-Some.ensures.some in
     sym
-    (find-here (λ m. is_empty (value_of (seen w) (Slot m) (rows w.places c.args.i (Slot m)))) 0 64 c.in-Some.n (omega arith) (omega (arith, lowest.below))
+    (find-here (λ m. is_empty (value_of (seen w) (Slot m) (rows w.places c.args.place (Slot m)))) 0 64 c.in-Some.n (omega arith) (omega (arith, lowest.below))
     (λ m lt. elim (cases_lt m c.slots.from) [
       | inl before ↦ c.slots.invariant.past m before
       | inr from ↦ c.open_slots-open.ensures m (omega (arith, lt, lowest.below)) (lowest.lowest m from lt)
@@ -24,7 +24,7 @@ pub returns : goal.returns
 returns c =
     let w = c.args.self.now in
     sym
-    (find-missed (λ m. is_empty (value_of (seen w) (Slot m) (rows w.places c.args.i (Slot m)))) 0 64
+    (find-missed (λ m. is_empty (value_of (seen w) (Slot m) (rows w.places c.args.place (Slot m)))) 0 64
     (λ m lt. elim (cases_lt m c.slots.from) [
       | inl before ↦ c.slots.invariant.past m before
       | inr from ↦ c.open_slots-open.ensures m (omega (arith, lt)) (c.in_default.ensures.none m from (omega (arith, lt)))

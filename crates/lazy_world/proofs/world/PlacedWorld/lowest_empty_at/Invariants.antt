@@ -9,7 +9,7 @@ use Rattle.lazy_world.proofs.world.PlacedWorld.lowest_empty_at.Given as goal
 abbrev pub invariant-slots : goal.invariant-slots
 invariant-slots l = record {
   below : l.from ≤ 64;
-  past : (n : ℕ) → n < l.from → is_empty (value_of (seen l.self) (Slot n) (rows l.self.places l.i (Slot n))) ≡ false;
+  past : (n : ℕ) → n < l.from → is_empty (value_of (seen l.self) (Slot n) (rows l.self.places l.place (Slot n))) ≡ false;
 }
 
 abbrev pub decreases-slots : goal.decreases-slots

@@ -26,20 +26,20 @@ pub returns : goal.returns
 unfolding names_group any_key parts
 returns c =
     let w = c.args.self.now in
-    let row = rows w.places c.args.i in
+    let row = rows w.places c.args.place in
     let in_pages : Name → Bool = λ g. list_any (λ p. is_in g (row (Page p))) (range_with_len 0 w.size.pages) in
     let in_slots : Name → Bool = λ g. list_any (λ n. is_in g (row (Slot n))) (range_with_len 0 SLOTS) in
     let there : is_some c.at.result ≡ true = search rules in
-    adds-more w.groups.places (λ g. in_pages g || in_slots g) _ (λ g. names_at (parts w) g c.args.i) _ _ _
+    adds-more w.groups.places (λ g. in_pages g || in_slots g) _ (λ g. names_at (parts w) g c.args.place) _ _ _
     (adds-more w.groups.places in_pages in_slots (λ g. in_pages g || in_slots g) _ _ _ c.mark_pages.ensures c.mark_slots.ensures (λ g. refl)) c.mark_group.ensures
     (λ g.
     ap (λ b. (in_pages g || in_slots g) || b) (ap (λ o. is_name o g) c.uid_group.ensures ∙ name_of_cell (row Cred) g)
-    ∙ names_there (parts w) g c.args.i c.at.result there ∙ ap (names_from (parts w) g c.args.i) c.at.ensures)
+    ∙ names_there (parts w) g c.args.place c.at.result there ∙ ap (names_from (parts w) g c.args.place) c.at.ensures)
 
 pub returns-then-is_none : goal.returns-then-is_none
 unfolding parts
 returns-then-is_none c =
     let w = c.args.self.now in
     let missed : is_some c.at.result ≡ false = search rules in
-    adds-none w.groups.places (λ g. names_at (parts w) g c.args.i) c.args.marks.now
-    (λ g. ap (names_from (parts w) g c.args.i) (sym c.at.ensures) ∙ names_nowhere (parts w) g c.args.i c.at.result missed)
+    adds-none w.groups.places (λ g. names_at (parts w) g c.args.place) c.args.marks.now
+    (λ g. ap (names_from (parts w) g c.args.place) (sym c.at.ensures) ∙ names_nowhere (parts w) g c.args.place c.at.result missed)

@@ -24,11 +24,11 @@ pub returns : goal.returns
 unfolding parts
 returns c =
     let w = c.args.self.now in
-    let row = rows w.places c.args.i in
+    let row = rows w.places c.args.place in
     let segments = c.segments-segment-items in
     let all = take_all c.loop-segment.segment-index segments.result.now c.loop-segment-test.false in
     adds-same w.groups.places _ _ _ _ c.loop-segment.invariant
     (λ g.
     ap (λ (xs : List Segment). list_any (λ (s : Segment). is_of s.kind g) xs) all
-    ∙ named-pages segments.result.now segments.ensures.canonical g w.size.pages (λ p. row (Page p)) (rights w.places c.args.i) (λ p e. segments.ensures.states e p)
-    (λ p past. no_page (row (Page p)) p (w.sound.past c.args.i (Page p) past)))
+    ∙ named-pages segments.result.now segments.ensures.canonical g w.size.pages (λ p. row (Page p)) (rights w.places c.args.place) (λ p e. segments.ensures.states e p)
+    (λ p past. no_page (row (Page p)) p (w.sound.past c.args.place (Page p) past)))

@@ -14,7 +14,7 @@ slots-init c = record { below = omega arith; marked = adds-none c.args.self.now.
 
 pub slots-preserved : goal.slots-preserved
 slots-preserved c =
-    let row = rows c.args.self.now.places c.args.i in
+    let row = rows c.args.self.now.places c.args.place in
     let n = c.in-Some.n in
     let lowest = c.in-Some.ensures.some in
     record {
@@ -30,7 +30,7 @@ slots-preserved c =
 
 pub returns : goal.returns
 returns c =
-    let row = rows c.args.self.now.places c.args.i in
+    let row = rows c.args.self.now.places c.args.place in
     adds-same c.args.self.now.groups.places _ _ _ _ c.slots.invariant.marked
     (λ g.
     any_past (λ k. is_in g (row (Slot k))) c.slots.from SLOTS c.slots.invariant.below

@@ -9,7 +9,7 @@ use Rattle.lazy_world.proofs.world.PlacedWorld.mark_slots.Given as goal
 abbrev pub invariant-slots : goal.invariant-slots
 invariant-slots l = record {
   below : l.from ≤ 64;
-  marked : AddsMarks l.self.groups.places (λ g. list_any (λ k. is_in g (rows l.self.places l.i (Slot k))) (range_with_len 0 l.from)) l.initial.marks l.marks;
+  marked : AddsMarks l.self.groups.places (λ g. list_any (λ k. is_in g (rows l.self.places l.place (Slot k))) (range_with_len 0 l.from)) l.initial.marks l.marks;
 }
 
 abbrev pub decreases-slots : goal.decreases-slots

@@ -8,5 +8,5 @@ use Rattle.lazy_world.proofs.world.PlacedWorld.moves_page.Given as goal
 
 abbrev pub invariant-loop-item : goal.invariant-loop-item
 invariant-loop-item l = record {
-  none : (q : ℕ) → mode (take l.item-index l.item-items) (Page q) ≡ Some Share → moves l.spec (Page q) (rows l.self.places l.i) ≡ false;
+  none : (q : ℕ) → mode (take l.item-index l.item-items) (Page q) ≡ Some Share → moves l.spec (Page q) (rows l.self.places l.place) ≡ false;
 }

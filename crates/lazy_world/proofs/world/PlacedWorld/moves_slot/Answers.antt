@@ -8,4 +8,4 @@ use Rattle.lazy_world.proofs.world.PlacedWorld.moves_slot.Goals as goal
 
 pub returns-then-not-names_slots-clause-none : goal.returns-then-not-names_slots-clause-none
 returns-then-not-names_slots-clause-none c = λ _ n low.
-    ap (λ m. is_moved (unwrap_or m Copy) (Slot n) (rows c.args.self.now.places c.args.i (Slot n))) (c.names_slots.ensures c.if-not-names_slots.true n)
+    ap (λ m. is_moved (unwrap_or m Copy) (Slot n) (rows c.args.self.now.places c.args.place (Slot n))) (c.names_slots.ensures c.if-not-names_slots.true n)

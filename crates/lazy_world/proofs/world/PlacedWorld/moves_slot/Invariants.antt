@@ -5,4 +5,4 @@ use Rattle.lazy_world.specs.Seen.{rows}
 use Rattle.lazy_world.proofs.world.PlacedWorld.moves_slot.Given as goal
 
 abbrev pub invariant-loop-n : goal.invariant-loop-n
-invariant-loop-n l = (m : ℕ) → m < l.n → moves l.spec (Slot m) (rows l.self.places l.i) ≡ false
+invariant-loop-n l = (m : ℕ) → m < l.n → moves l.spec (Slot m) (rows l.self.places l.place) ≡ false

@@ -16,29 +16,29 @@ pub returns-then-moves_page : goal.returns-then-moves_page
 unfolding seen parts world_of
 returns-then-moves_page c =
     let w = c.args.self.now in
-    let here : (context (seen w) c.args.c).cell ≡ rows w.places c.place-i.result = ap (λ (x : Context). x.cell) c.place-i.ensures.context in
+    let here : (context (seen w) c.args.context).cell ≡ rows w.places c.place-i.result = ap (λ (x : Context). x.cell) c.place-i.ensures.context in
     let some = c.moves_page.ensures.some c.if-moves_page.true in
-    record { value = sym (needs-page (seen w) c.args.c c.args.spec.now (rows w.places c.place-i.result) here (w.sound.past c.place-i.result) some.0 some.1) }
+    record { value = sym (needs-page (seen w) c.args.context c.args.spec.now (rows w.places c.place-i.result) here (w.sound.past c.place-i.result) some.0 some.1) }
 
 pub returns-then-moves_slot : goal.returns-then-moves_slot
 unfolding seen parts world_of
 returns-then-moves_slot c =
     let w = c.args.self.now in
-    let here : (context (seen w) c.args.c).cell ≡ rows w.places c.place-i.result = ap (λ (x : Context). x.cell) c.place-i.ensures.context in
+    let here : (context (seen w) c.args.context).cell ≡ rows w.places c.place-i.result = ap (λ (x : Context). x.cell) c.place-i.ensures.context in
     let some = c.moves_slot.ensures.some c.if-moves_slot.true in
-    record { value = sym (needs-key (seen w) c.args.c c.args.spec.now (rows w.places c.place-i.result) here (Slot some.0) some.1 some.2) }
+    record { value = sym (needs-key (seen w) c.args.context c.args.spec.now (rows w.places c.place-i.result) here (Slot some.0) some.1 some.2) }
 
 pub returns : goal.returns
 unfolding seen parts world_of
 returns c =
     let w = c.args.self.now in
     let row = rows w.places c.place-i.result in
-    let here : (context (seen w) c.args.c).cell ≡ row = ap (λ (x : Context). x.cell) c.place-i.ensures.context in
+    let here : (context (seen w) c.args.context).cell ≡ row = ap (λ (x : Context). x.cell) c.place-i.ensures.context in
     record {
       value = by_test c.moves_uid.result _ _ c.moves_uid.ensures
-          (λ is. needs-key (seen w) c.args.c c.args.spec.now row here Cred (omega arith) is)
-          (λ is. needs-none (seen w) c.args.c c.args.spec.now row here w.sound.sizes.size.pages.1 (c.moves_page.ensures.none c.if-moves_page.false) (c.moves_slot.ensures.none c.if-moves_slot.false) is);
+          (λ is. needs-key (seen w) c.args.context c.args.spec.now row here Cred (omega arith) is)
+          (λ is. needs-none (seen w) c.args.context c.args.spec.now row here w.sound.sizes.size.pages.1 (c.moves_page.ensures.none c.if-moves_page.false) (c.moves_slot.ensures.none c.if-moves_slot.false) is);
     }
 
 pub returns-then-shares_nothing : goal.returns-then-shares_nothing
-returns-then-shares_nothing c = record { value = sym (none-shared (seen c.args.self.now) c.args.c c.args.spec.now (c.shares_nothing.ensures c.if-shares_nothing.true)) }
+returns-then-shares_nothing c = record { value = sym (none-shared (seen c.args.self.now) c.args.context c.args.spec.now (c.shares_nothing.ensures c.if-shares_nothing.true)) }

@@ -6,4 +6,4 @@ use Rattle.lazy_world.proofs.world.PlacedWorld.nth_context.Goals as goal
 
 pub returns : goal.returns
 unfolding seen parts
-returns c = c.nth.ensures ∙ ap (λ names. slice_get names c.args.i) (sym (names-contexts (parts c.args.self.now)))
+returns c = c.nth.ensures ∙ ap (λ names. slice_get names c.args.index) (sym (names-contexts (parts c.args.self.now)))

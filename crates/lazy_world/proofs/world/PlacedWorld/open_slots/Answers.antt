@@ -11,5 +11,5 @@ returns c = λ n low off.
     let w = c.args.self.now in
     let bits = closed-bit c.filled.result c.common.result n (omega (arith, c.filled.type_inv)) low off in
     sym
-    (own-filled (seen w) n (rows w.places c.args.i (Slot n)) (sym (c.common.ensures n low) ∙ bits.1)
+    (own-filled (seen w) n (rows w.places c.args.place (Slot n)) (sym (c.common.ensures n low) ∙ bits.1)
     (sym (c.filled.ensures n low) ∙ bits.0))

@@ -7,8 +7,8 @@ use Rattle.lazy_world.proofs.world.PlacedWorld.page_bytes.Goals as goal
 pub returns-in-Some : goal.returns-in-Some
 unfolding parts seen
 returns-in-Some c =
-    c.bytes.ensures.value ∙ ap data_of (sym (page-held (parts c.args.self.now) c.args.i c.args.p c.in-Some.j (sym c.holder.ensures.place ∙ c.in-Some.is)))
+    c.bytes.ensures.value ∙ ap data_of (sym (page-held (parts c.args.self.now) c.args.place c.args.page c.in-Some.j (sym c.holder.ensures.place ∙ c.in-Some.is)))
 
 pub returns-in-None : goal.returns-in-None
 unfolding parts seen
-returns-in-None c = ap data_of (sym (page-lost (parts c.args.self.now) c.args.i c.args.p (sym c.holder.ensures.place ∙ c.in-None.is)))
+returns-in-None c = ap data_of (sym (page-lost (parts c.args.self.now) c.args.place c.args.page (sym c.holder.ensures.place ∙ c.in-None.is)))

@@ -7,7 +7,7 @@ use Rattle.lazy_world.proofs.world.PlacedWorld.place.Goals as goal
 
 pub unreachable-requires : goal.unreachable-requires
 unfolding seen parts
-unreachable-requires c = false≢true (sym (live-there (parts c.args.self.now) c.args.c ∙ ap is_some (sym c.place.ensures.place ∙ c.in-None.is)) ∙ c.requires)
+unreachable-requires c = false≢true (sym (live-there (parts c.args.self.now) c.args.of_context ∙ ap is_some (sym c.place.ensures.place ∙ c.in-None.is)) ∙ c.requires)
 
 pub returns-clause-found : goal.returns-clause-found
 unfolding parts
@@ -15,7 +15,7 @@ returns-clause-found c = sym c.place.ensures.place ∙ c.in-Some.is
 
 pub returns-clause-context : goal.returns-clause-context
 unfolding seen parts
-returns-clause-context c = context-found (parts c.args.self.now) c.args.c c.in-Some.i (sym c.place.ensures.place ∙ c.in-Some.is)
+returns-clause-context c = context-found (parts c.args.self.now) c.args.of_context c.in-Some.i (sym c.place.ensures.place ∙ c.in-Some.is)
 
 pub returns-clause-low : goal.returns-clause-low
 unfolding parts

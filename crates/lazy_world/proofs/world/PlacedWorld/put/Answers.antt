@@ -22,7 +22,7 @@ invariant_of-self c =
       count = c.put.ensures.count ∙ c.args.self.now.count;
       frames = c.put.ensures.frames ∙ c.args.self.now.frames;
       sound = subst IsSound (sym (λ e. record s { rows = c.put.ensures.rows e; rights = c.put.ensures.store.rights e }))
-          (sound-own s c.args.self.now.sound c.args.self.now.placed c.args.c c.args.i c.requires.found c.args.value c.requires.slot (sym c.group.ensures ∙ c.in-None.is));
+          (sound-own s c.args.self.now.sound c.args.self.now.placed c.args.context c.args.place c.requires.found c.args.value c.requires.slot (sym c.group.ensures ∙ c.in-None.is));
     }
 
 pub returns-in-None : goal.returns-in-None
@@ -30,7 +30,7 @@ unfolding seen parts
 returns-in-None c =
     let s = parts c.args.self.now in
     (λ e. world_of (record s { rows = c.put.ensures.rows e; rights = c.put.ensures.store.rights e }))
-    ∙ put-own s c.args.self.now.sound c.args.self.now.placed c.args.c c.args.i c.requires.found c.args.value c.requires.slot (sym c.group.ensures ∙ c.in-None.is)
+    ∙ put-own s c.args.self.now.sound c.args.self.now.placed c.args.context c.args.place c.requires.found c.args.value c.requires.slot (sym c.group.ensures ∙ c.in-None.is)
 
 common_cell : {T : Type 0} (cell : Cell T) (g : Name) → group_in cell ≡ Some g → cell ≡ Common g
 common_cell (Own value) g is = cc
@@ -40,5 +40,5 @@ pub returns-in-Some : goal.returns-in-Some
 unfolding seen parts
 returns-in-Some c =
     c.put_common.ensures
-    ∙ sym (changes.put_common (seen c.args.self.now) c.args.c (key_in c.args.value) c.in-Some.g (value_in c.args.value)
-    (ap (λ (x : Context). x.cell (key_in c.args.value)) (context-found (parts c.args.self.now) c.args.c c.args.i c.requires.found) ∙ common_cell _ c.in-Some.g (sym c.group.ensures ∙ c.in-Some.is)))
+    ∙ sym (changes.put_common (seen c.args.self.now) c.args.context (key_in c.args.value) c.in-Some.g (value_in c.args.value)
+    (ap (λ (x : Context). x.cell (key_in c.args.value)) (context-found (parts c.args.self.now) c.args.context c.args.place c.requires.found) ∙ common_cell _ c.in-Some.g (sym c.group.ensures ∙ c.in-Some.is)))

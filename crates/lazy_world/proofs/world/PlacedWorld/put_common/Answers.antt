@@ -19,7 +19,7 @@ invariant_of-self c =
       count = c.put.ensures.count ∙ c.args.self.now.count;
       frames = c.put.ensures.frames ∙ c.args.self.now.frames;
       sound = subst IsSound (sym (λ e. record s { rows = c.put.ensures.rows e; rights = c.put.ensures.store.rights e }))
-          (sound-group s c.args.self.now.sound c.args.self.now.placed c.args.self.now.placed_groups c.args.g c.in-Some.j (sym c.place.ensures.place ∙ c.in-Some.is) c.args.value c.requires);
+          (sound-group s c.args.self.now.sound c.args.self.now.placed c.args.self.now.placed_groups c.args.group c.in-Some.j (sym c.place.ensures.place ∙ c.in-Some.is) c.args.value c.requires);
     }
 
 pub returns-in-Some : goal.returns-in-Some
@@ -27,8 +27,8 @@ unfolding seen parts
 returns-in-Some c =
     let s = parts c.args.self.now in
     (λ e. world_of (record s { rows = c.put.ensures.rows e; rights = c.put.ensures.store.rights e }))
-    ∙ put-group s c.args.self.now.sound c.args.self.now.placed c.args.self.now.placed_groups c.args.g c.in-Some.j (sym c.place.ensures.place ∙ c.in-Some.is) c.args.value c.requires
+    ∙ put-group s c.args.self.now.sound c.args.self.now.placed c.args.self.now.placed_groups c.args.group c.in-Some.j (sym c.place.ensures.place ∙ c.in-Some.is) c.args.value c.requires
 
 pub returns-in-None : goal.returns-in-None
 unfolding seen parts
-returns-in-None c = change_group-missed (parts c.args.self.now) c.args.g _ (sym c.place.ensures.place ∙ c.in-None.is)
+returns-in-None c = change_group-missed (parts c.args.self.now) c.args.group _ (sym c.place.ensures.place ∙ c.in-None.is)

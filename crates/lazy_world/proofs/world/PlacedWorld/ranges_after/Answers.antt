@@ -10,8 +10,8 @@ use Rattle.lazy_world.proofs.world.PlacedWorld.ranges_after.Goals as goal
 
 pub count_transferred-requires-clause-transfer : goal.count_transferred-requires-clause-transfer
 count_transferred-requires-clause-transfer c =
-    transfer-for c.args.transfer (parts c.args.self.now).size.contexts c.args.d c.args.c c.place-from.result c.place-to.result c.requires.transfer
-    (λ same. same-place (parts c.args.self.now).contexts.map c.args.d c.args.c c.place-from.result c.place-to.result same c.place-from.ensures.found c.place-to.ensures.found) c.place-to.ensures.low
+    transfer-for c.args.transfer (parts c.args.self.now).size.contexts c.args.target c.args.context c.place-from.result c.place-to.result c.requires.transfer
+    (λ same. same-place (parts c.args.self.now).contexts.map c.args.target c.args.context c.place-from.result c.place-to.result same c.place-from.ensures.found c.place-to.ensures.found) c.place-to.ensures.low
 
 pub returns-else-gives_same : goal.returns-else-gives_same
 unfolding seen parts world_of
@@ -19,7 +19,7 @@ returns-else-gives_same c =
     let w = c.args.self.now in
     c.count_transferred.ensures
     ∙ sym
-    (followed-few (parts w) w.sound w.placed c.args.transfer c.args.spec.now c.requires.within c.args.d c.args.c c.place-from.result c.place-to.result c.place-from.ensures.context c.place-to.ensures.found)
+    (followed-few (parts w) w.sound w.placed c.args.transfer c.args.spec.now c.requires.within c.args.target c.args.context c.place-from.result c.place-to.result c.place-from.ensures.context c.place-to.ensures.found)
 
 pub returns-then-gives_same : goal.returns-then-gives_same
 unfolding seen parts world_of
@@ -30,4 +30,4 @@ returns-then-gives_same c =
     c.range_count.ensures
     ∙ sym (λ e. ranges MOST_PAGES (states_of (same.row c.if-gives_same.true (rows w.places to) e) (same.rights c.if-gives_same.true (rights w.places to) e)))
     ∙ sym
-    (followed-few (parts w) w.sound w.placed c.args.transfer c.args.spec.now c.requires.within c.args.d c.args.c c.place-from.result to c.place-from.ensures.context c.place-to.ensures.found)
+    (followed-few (parts w) w.sound w.placed c.args.transfer c.args.spec.now c.requires.within c.args.target c.args.context c.place-from.result to c.place-from.ensures.context c.place-to.ensures.found)

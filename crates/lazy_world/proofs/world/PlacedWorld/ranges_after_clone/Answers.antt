@@ -13,7 +13,7 @@ returns c =
     let w = seen c.args.self.now in
     record {
       value = λ job.
-          after-clone w c.args.self.now.sound.fresh c.args.spec.now c.requires.within c.args.c c.requires.live job
+          after-clone w c.args.self.now.sound.fresh c.args.spec.now c.requires.within c.args.of_context c.requires.live job
           c.ranges_left.result c.ranges_after-made.result c.ranges_left.ensures
-          (c.ranges_after-made.ensures ∙ ap (λ (g : Name). ranges_of (followed w (Clone g) c.args.spec.now c.args.c c.args.c) c.args.c) c.unnamed.ensures);
+          (c.ranges_after-made.ensures ∙ ap (λ (g : Name). ranges_of (followed w (Clone g) c.args.spec.now c.args.of_context c.args.of_context) c.args.of_context) c.unnamed.ensures);
     }

@@ -15,6 +15,6 @@ returns c =
     let s = parts c.args.self.now in
     record {
       value = c.count_after.ensures
-          ∙ sym (ranges-mapped s c.args.self.now.sound c.args.self.now.placed c.args.c c.place.result c.place.ensures.found c.args.range.from c.args.range.to c.args.present
+          ∙ sym (ranges-mapped s c.args.self.now.sound c.args.self.now.placed c.args.context c.place.result c.place.ensures.found c.args.range.from c.args.range.to c.args.present
           (below_pages s c.args.range.to c.requires.within));
     }

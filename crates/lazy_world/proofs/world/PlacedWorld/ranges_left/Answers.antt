@@ -20,7 +20,7 @@ use Rattle.lazy_world.proofs.world.PlacedWorld.ranges_left.Goals as goal
 
 pub returns-then-needs_group : goal.returns-then-needs_group
 returns-then-needs_group c =
-    c.ranges_after.ensures ∙ ap (λ (g : Name). ranges_of (followed (seen c.args.self.now) (Mark g) c.args.items.now c.args.c c.args.c) c.args.c) c.unnamed.ensures
+    c.ranges_after.ensures ∙ ap (λ (g : Name). ranges_of (followed (seen c.args.self.now) (Mark g) c.args.items.now c.args.context c.args.context) c.args.context) c.unnamed.ensures
 
 pub returns-else-needs_group : goal.returns-else-needs_group
 unfolding seen parts world_of
@@ -29,10 +29,10 @@ returns-else-needs_group c =
     let items = c.args.items.now in
     let place = c.place.result in
     let g = next_group (seen w) 0 in
-    let here : (context (seen w) c.args.c).cell ≡ rows w.places place = ap (λ (x : Context). x.cell) c.place.ensures.context in
+    let here : (context (seen w) c.args.context).cell ≡ rows w.places place = ap (λ (x : Context). x.cell) c.place.ensures.context in
     let idle = sym c.needs_group.ensures.value ∙ c.if-needs_group.false in
     let none : (k : Key) → moves items k (rows w.places place) ≡ false =
-    λ k. subst (λ (row : Row). moves items k row ≡ false) here (none-moves (seen w) c.args.c 0 items c.requires.within c.requires.live idle k) in
+    λ k. subst (λ (row : Row). moves items k row ≡ false) here (none-moves (seen w) c.args.context 0 items c.requires.within c.requires.live idle k) in
     c.range_count.ensures
     ∙ sym (λ e. ranges MOST_PAGES (states_of (unmoved-same (seen w) g items (rows w.places place) (rows w.places place) none e) (marked-rights g items (rows w.places place) (rights w.places place) (rights w.places place) e)))
-    ∙ sym (followed-few (parts w) w.sound w.placed (Mark g) items c.requires.within c.args.c c.args.c place place c.place.ensures.context c.place.ensures.found)
+    ∙ sym (followed-few (parts w) w.sound w.placed (Mark g) items c.requires.within c.args.context c.args.context place place c.place.ensures.context c.place.ensures.found)

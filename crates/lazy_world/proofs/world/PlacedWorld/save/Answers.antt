@@ -21,8 +21,8 @@ invariant_of-self c =
       count = c.args.self.now.count;
       frames = c.args.self.now.frames;
       sound = subst (λ r. IsSound (record s { registers = set s.registers c.place-i.result r })) (sym c.save.ensures.saved)
-          (sound-saved s c.args.self.now.sound c.args.self.now.placed c.args.c c.place-i.result c.place-i.ensures.found _
-          (get_or_read s.registers c.place-i.result _ inside c.index_mut.ensures.value no_registers) c.args.t c.args.regs.now c.save.ensures.inside);
+          (sound-saved s c.args.self.now.sound c.args.self.now.placed c.args.context c.place-i.result c.place-i.ensures.found _
+          (get_or_read s.registers c.place-i.result _ inside c.index_mut.ensures.value no_registers) c.args.thread c.args.regs.now c.save.ensures.inside);
     }
 
 pub returns : goal.returns
@@ -32,6 +32,6 @@ returns c =
     let inside : c.place-i.result < length c.args.self.now.registers = omega (arith, c.place-i.ensures.low, c.args.self.now.sound.sizes.registers) in
     record {
       saved = ap (λ r. world_of (record s { registers = set s.registers c.place-i.result r })) c.save.ensures.saved
-          ∙ saved-world s c.args.self.now.sound c.args.self.now.placed c.args.c c.place-i.result c.place-i.ensures.found _
-          (get_or_read s.registers c.place-i.result _ inside c.index_mut.ensures.value no_registers) c.args.t c.args.regs.now c.save.ensures.inside;
+          ∙ saved-world s c.args.self.now.sound c.args.self.now.placed c.args.context c.place-i.result c.place-i.ensures.found _
+          (get_or_read s.registers c.place-i.result _ inside c.index_mut.ensures.value no_registers) c.args.thread c.args.regs.now c.save.ensures.inside;
     }

@@ -16,6 +16,6 @@ unfolding parts
 returns c =
     let inside : c.place.result < length c.args.self.now.registers = omega (arith, c.place.ensures.low, c.args.self.now.sound.sizes.registers) in
     record {
-      value = c.saved.ensures ∙ ap (λ (r : KeptRegisters). slice_index_or r.saved c.args.t None) (get_or_read c.args.self.now.registers c.place.result _ inside c.index.ensures no_registers)
-          ∙ ap (λ (x : Context). x.saved c.args.t) (sym c.place.ensures.context);
+      value = c.saved.ensures ∙ ap (λ (r : KeptRegisters). slice_index_or r.saved c.args.thread None) (get_or_read c.args.self.now.registers c.place.result _ inside c.index.ensures no_registers)
+          ∙ ap (λ (x : Context). x.saved c.args.thread) (sym c.place.ensures.context);
     }

@@ -17,7 +17,7 @@ unfolding seen parts
 set_pages-requires-clause-few c =
     let s = parts c.args.self.now in
     subst (λ (n : ℕ). n ≤ MOST_RANGES)
-    (ranges-mapped s c.args.self.now.sound c.args.self.now.placed c.args.c c.place-i.result c.place-i.ensures.found c.args.range.from c.args.range.to c.args.present
+    (ranges-mapped s c.args.self.now.sound c.args.self.now.placed c.args.context c.place-i.result c.place-i.ensures.found c.args.range.from c.args.range.to c.args.present
     (below_pages s c.args.range.to c.requires.within))
     c.requires.few
 
@@ -31,7 +31,7 @@ invariant_of-self c =
       count = c.set_pages.ensures.count ∙ c.args.self.now.count;
       frames = c.set_pages.ensures.frames ∙ c.args.self.now.frames;
       sound = subst IsSound (sym (λ e. record s { rows = c.set_pages.ensures.rows e; rights = c.set_pages.ensures.rights e }))
-          (sound-mapped s c.args.self.now.sound c.args.self.now.placed c.args.c c.place-i.result c.place-i.ensures.found c.args.range.from c.args.range.to c.args.present
+          (sound-mapped s c.args.self.now.sound c.args.self.now.placed c.args.context c.place-i.result c.place-i.ensures.found c.args.range.from c.args.range.to c.args.present
           (below_pages s c.args.range.to c.requires.within));
     }
 
@@ -40,5 +40,5 @@ unfolding seen parts
 returns c =
     let s = parts c.args.self.now in
     (λ e. world_of (record s { rows = c.set_pages.ensures.rows e; rights = c.set_pages.ensures.rights e }))
-    ∙ mapped-world s c.args.self.now.sound c.args.self.now.placed c.args.c c.place-i.result c.place-i.ensures.found c.args.range.from c.args.range.to c.args.present
+    ∙ mapped-world s c.args.self.now.sound c.args.self.now.placed c.args.context c.place-i.result c.place-i.ensures.found c.args.range.from c.args.range.to c.args.present
     (below_pages s c.args.range.to c.requires.within)

@@ -8,5 +8,5 @@ use Rattle.lazy_world.proofs.world.PlacedWorld.slot.Goals as goal
 pub returns : goal.returns
 unfolding value_at parts
 returns c = record {
-  value = c.slot_at.ensures ∙ ap (λ (x : Context). value_of (seen c.args.self.now) (Slot c.args.n) (x.cell (Slot c.args.n))) (sym c.place.ensures.context);
+  value = c.slot_at.ensures ∙ ap (λ (x : Context). value_of (seen c.args.self.now) (Slot c.args.slot_number) (x.cell (Slot c.args.slot_number))) (sym c.place.ensures.context);
 }

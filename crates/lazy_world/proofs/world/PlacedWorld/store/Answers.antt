@@ -16,7 +16,7 @@ few w = w.sound.sizes.size.pages.1
 pub touched_pages-pages-requires : goal.touched_pages-pages-requires
 touched_pages-pages-requires c = omega (arith, few c.args.self.now, c.requires.within)
 
-is_absent : (c : goal.Then-not-are_present) → store (seen c.args.self.now) c.args.c c.args.job (record { at = c.args.at; bytes = c.args.piece.now }) ≡ Absent
+is_absent : (c : goal.Then-not-are_present) → store (seen c.args.self.now) c.args.context c.args.job (record { at = c.args.at; bytes = c.args.piece.now }) ≡ Absent
 unfolding parts
 is_absent c =
     store-absent _ _ _ _ (present-touched _ _ _ _ _ _ _ c.place-i.ensures.context c.touched_pages-pages.ensures.pages c.are_present.ensures ∙ c.if-not-are_present.true)
@@ -30,7 +30,7 @@ returns-then-not-are_present-clause-no_frame c = (λ same. cc, λ full. let abse
 pub returns-then-not-are_present-clause-read_only : goal.returns-then-not-are_present-clause-read_only
 returns-then-not-are_present-clause-read_only c = (λ same. cc, λ read. let absent = is_absent c in cc)
 
-is_read : (c : goal.Then-not-are_writable) → store (seen c.args.self.now) c.args.c c.args.job (record { at = c.args.at; bytes = c.args.piece.now }) ≡ ReadOnly
+is_read : (c : goal.Then-not-are_writable) → store (seen c.args.self.now) c.args.context c.args.job (record { at = c.args.at; bytes = c.args.piece.now }) ≡ ReadOnly
 unfolding parts
 is_read c =
     let there = present-touched _ _ _ _ _ _ _ c.place-i.ensures.context c.touched_pages-pages.ensures.pages c.are_present.ensures ∙ c.if-not-are_present.false in
@@ -45,14 +45,14 @@ returns-then-not-are_writable-clause-read_only c = (λ _. is_read c, λ _. refl)
 pub returns-then-not-are_writable-clause-no_frame : goal.returns-then-not-are_writable-clause-no_frame
 returns-then-not-are_writable-clause-no_frame c = (λ same. cc, λ full. let read = is_read c in cc)
 
-is_full : (c : goal.Then-lacks_frames) → store (seen c.args.self.now) c.args.c c.args.job (record { at = c.args.at; bytes = c.args.piece.now }) ≡ Full
+is_full : (c : goal.Then-lacks_frames) → store (seen c.args.self.now) c.args.context c.args.job (record { at = c.args.at; bytes = c.args.piece.now }) ≡ Full
 unfolding parts
 is_full c =
     let w = seen c.args.self.now in
     let there = present-touched _ _ _ _ _ _ _ c.place-i.ensures.context c.touched_pages-pages.ensures.pages c.are_present.ensures ∙ c.if-not-are_present.false in
-    let many = parting-in w c.args.c (context_at (parts c.args.self.now) c.place-i.result) (range_with_len c.touched_pages-pages.result.from (c.touched_pages-pages.result.to - c.touched_pages-pages.result.from)) c.place-i.ensures.context in
-    let may = writable-touched w c.args.c (context_at (parts c.args.self.now) c.place-i.result) _ _ _ _ c.place-i.ensures.context c.touched_pages-pages.ensures.pages c.are_writable.ensures ∙ c.if-not-are_writable.false in
-    store-full w c.args.c c.args.job (record { at = c.args.at; bytes = c.args.piece.now }) there may (range_with_len c.touched_pages-pages.result.from (c.touched_pages-pages.result.to - c.touched_pages-pages.result.from)) c.touched_pages-pages.ensures.pages (let lacks = c.lacks_frames.ensures.lacking c.if-lacks_frames.true in omega (arith, many, lacks))
+    let many = parting-in w c.args.context (context_at (parts c.args.self.now) c.place-i.result) (range_with_len c.touched_pages-pages.result.from (c.touched_pages-pages.result.to - c.touched_pages-pages.result.from)) c.place-i.ensures.context in
+    let may = writable-touched w c.args.context (context_at (parts c.args.self.now) c.place-i.result) _ _ _ _ c.place-i.ensures.context c.touched_pages-pages.ensures.pages c.are_writable.ensures ∙ c.if-not-are_writable.false in
+    store-full w c.args.context c.args.job (record { at = c.args.at; bytes = c.args.piece.now }) there may (range_with_len c.touched_pages-pages.result.from (c.touched_pages-pages.result.to - c.touched_pages-pages.result.from)) c.touched_pages-pages.ensures.pages (let lacks = c.lacks_frames.ensures.lacking c.if-lacks_frames.true in omega (arith, many, lacks))
 
 pub returns-then-lacks_frames-clause-bad_address : goal.returns-then-lacks_frames-clause-bad_address
 returns-then-lacks_frames-clause-bad_address c = (λ same. cc, λ absent. let full = is_full c in cc)
@@ -65,12 +65,12 @@ returns-then-lacks_frames-clause-no_frame c = (λ _. is_full c, λ _. refl)
 
 pub write_pages-requires-clause-there : goal.write_pages-requires-clause-there
 unfolding parts
-write_pages-requires-clause-there c = all-in (seen c.args.self.now) c.args.c (context_at (parts c.args.self.now) c.place-i.result) (range_with_len c.touched_pages-pages.result.from (c.touched_pages-pages.result.to - c.touched_pages-pages.result.from)) c.place-i.ensures.context c.are_present.result c.are_present.ensures ∙ c.if-not-are_present.false
+write_pages-requires-clause-there c = all-in (seen c.args.self.now) c.args.context (context_at (parts c.args.self.now) c.place-i.result) (range_with_len c.touched_pages-pages.result.from (c.touched_pages-pages.result.to - c.touched_pages-pages.result.from)) c.place-i.ensures.context c.are_present.result c.are_present.ensures ∙ c.if-not-are_present.false
 
 pub write_pages-requires-clause-enough : goal.write_pages-requires-clause-enough
 unfolding parts
 write_pages-requires-clause-enough c =
-    let many = parting-in (seen c.args.self.now) c.args.c (context_at (parts c.args.self.now) c.place-i.result) (range_with_len c.touched_pages-pages.result.from (c.touched_pages-pages.result.to - c.touched_pages-pages.result.from)) c.place-i.ensures.context in
+    let many = parting-in (seen c.args.self.now) c.args.context (context_at (parts c.args.self.now) c.place-i.result) (range_with_len c.touched_pages-pages.result.from (c.touched_pages-pages.result.to - c.touched_pages-pages.result.from)) c.place-i.ensures.context in
     let enough = c.lacks_frames.ensures.enough c.if-lacks_frames.false in omega (arith, many, enough)
 
 pub returns-clause-done : goal.returns-clause-done
@@ -78,9 +78,9 @@ unfolding parts
 returns-clause-done c =
     let w = seen c.args.self.now in
     let there = present-touched _ _ _ _ _ _ _ c.place-i.ensures.context c.touched_pages-pages.ensures.pages c.are_present.ensures ∙ c.if-not-are_present.false in
-    let many = parting-in w c.args.c (context_at (parts c.args.self.now) c.place-i.result) (range_with_len c.touched_pages-pages.result.from (c.touched_pages-pages.result.to - c.touched_pages-pages.result.from)) c.place-i.ensures.context in
-    let may = writable-touched w c.args.c (context_at (parts c.args.self.now) c.place-i.result) _ _ _ _ c.place-i.ensures.context c.touched_pages-pages.ensures.pages c.are_writable.ensures ∙ c.if-not-are_writable.false in
-    store-done w c.args.c c.args.job (record { at = c.args.at; bytes = c.args.piece.now }) there may (range_with_len c.touched_pages-pages.result.from (c.touched_pages-pages.result.to - c.touched_pages-pages.result.from)) c.touched_pages-pages.ensures.pages (let enough = c.lacks_frames.ensures.enough c.if-lacks_frames.false in omega (arith, many, enough))
+    let many = parting-in w c.args.context (context_at (parts c.args.self.now) c.place-i.result) (range_with_len c.touched_pages-pages.result.from (c.touched_pages-pages.result.to - c.touched_pages-pages.result.from)) c.place-i.ensures.context in
+    let may = writable-touched w c.args.context (context_at (parts c.args.self.now) c.place-i.result) _ _ _ _ c.place-i.ensures.context c.touched_pages-pages.ensures.pages c.are_writable.ensures ∙ c.if-not-are_writable.false in
+    store-done w c.args.context c.args.job (record { at = c.args.at; bytes = c.args.piece.now }) there may (range_with_len c.touched_pages-pages.result.from (c.touched_pages-pages.result.to - c.touched_pages-pages.result.from)) c.touched_pages-pages.ensures.pages (let enough = c.lacks_frames.ensures.enough c.if-lacks_frames.false in omega (arith, many, enough))
     ∙ ap Done (sym c.write_pages.ensures)
 
 pub returns-clause-bad_address : goal.returns-clause-bad_address

@@ -111,7 +111,7 @@ invariant_of-self c =
       count = c.write_in_place.ensures.count ∙ w.count;
       frames = c.write_in_place.ensures.frames ∙ w.frames;
       sound = ⊎_elim
-          (λ done. sound w c.args.c c.place-i.result c.touched_pages-pages.result.from c.place-i.ensures.found c.place-i.ensures.inside c.write_in_place.new.self (record { at = c.args.at; bytes = c.args.piece.now })
+          (λ done. sound w c.args.context c.place-i.result c.touched_pages-pages.result.from c.place-i.ensures.found c.place-i.ensures.inside c.write_in_place.new.self (record { at = c.args.at; bytes = c.args.piece.now })
           (c.write_in_place.ensures.own done) (c.write_in_place.ensures.alone done) (c.write_in_place.ensures.rows done) c.write_in_place.ensures.rights)
           (λ off. subst IsSound (λ e. record (parts w) { rows = sym (c.write_in_place.ensures.same off) e; rights = sym c.write_in_place.ensures.rights e }) w.sound)
           (cases_Bool c.write_in_place.result);
@@ -120,7 +120,7 @@ invariant_of-self c =
 pub returns-clause-done : goal.returns-clause-done
 unfolding seen parts
 returns-clause-done c = λ yes.
-    done c.args.self.now c.args.c c.place-i.result c.touched_pages-pages.result.from c.place-i.ensures.found c.place-i.ensures.inside c.write_in_place.new.self (record { at = c.args.at; bytes = c.args.piece.now })
+    done c.args.self.now c.args.context c.place-i.result c.touched_pages-pages.result.from c.place-i.ensures.found c.place-i.ensures.inside c.write_in_place.new.self (record { at = c.args.at; bytes = c.args.piece.now })
     (c.write_in_place.ensures.own yes) (c.write_in_place.ensures.alone yes) (c.write_in_place.ensures.rows yes) c.write_in_place.ensures.rights
     (one-page c.touched_pages-pages.result.from c.touched_pages-pages.result.to _ c.touched_pages-pages.ensures.pages c.if-pages-ne1.false) (c.write_in_place.ensures.may yes) (c.write_in_place.ensures.enough yes) c.place-i.ensures.context
 

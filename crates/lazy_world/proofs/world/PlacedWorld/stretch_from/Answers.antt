@@ -38,7 +38,7 @@ returns-clause-rights c q low high =
 pub returns-clause-can : goal.returns-clause-can
 returns-clause-can c =
     let w = c.args.self.now in
-    let found = c.found_page-edge.ensures.found c.args.p (omega arith) c.found_page-edge.ensures.past in
+    let found = c.found_page-edge.ensures.found c.args.page (omega arith) c.found_page-edge.ensures.past in
     subst (CanGet (count w.places) c.args.to) (sym (origin-of c.origin-origin.result _ c.found_page-edge.result.0.right c.page_run_of.result c.page_run_of.ensures ∙ c.origin-origin.ensures))
     (transfer-can (parts w).size.contexts (count w.places) c.args.from c.args.to c.requires.from c.found_page-edge.result.0 found.behind found.inside c.args.transfer c.next-modes.result.mode c.requires.transfer)
 
@@ -56,7 +56,7 @@ returns-clause-edge c early =
     inr (subst (λ e. list_any (λ (item : Item). (item.from == e) || (item.to == e)) c.args.spec.now ≡ true) same (run.run.edge run.past (omega (arith, early, same)))))
     (λ last.
     let same : c.found_page-edge.result.1 ≡ c.min-end.result = omega (arith, last, c.min-end.ensures) in
-    inl (subst (λ e. states_of (rows w.places c.args.from) (rights w.places c.args.from) e ≢ states_of (rows w.places c.args.from) (rights w.places c.args.from) c.args.p) same (found.other (omega (arith, early, same)))))
+    inl (subst (λ e. states_of (rows w.places c.args.from) (rights w.places c.args.from) e ≢ states_of (rows w.places c.args.from) (rights w.places c.args.from) c.args.page) same (found.other (omega (arith, early, same)))))
     (cases_lt c.next-modes.result.to c.found_page-edge.result.1)
 
 pub returns-clause-read : goal.returns-clause-read

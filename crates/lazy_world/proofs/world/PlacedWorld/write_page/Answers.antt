@@ -130,7 +130,7 @@ unfolding seen parts
 unreachable-requires c =
     let w = c.args.self.now in
     no-holder (parts w) w.sound w.placed w.placed_groups (pages w.places) (row-page w.places) (count-pages w.places ∙ w.count)
-    c.args.c c.place-i.result c.place-i.ensures.found c.args.p (sym c.holder.ensures.place ∙ c.in_default.is) c.requires.there
+    c.args.context c.place-i.result c.place-i.ensures.found c.args.page (sym c.holder.ensures.place ∙ c.in_default.is) c.requires.there
 
 pub index-counts-requires : goal.index-counts-requires
 index-counts-requires c = omega (arith, counts-job c.args.self.now c.args.job c.requires.known, c.args.self.now.counts.ok)
@@ -140,19 +140,19 @@ unfolding seen parts
 write-parted-requires-clause-own c =
     let w = c.args.self.now in
     own-now (parts w) w.sound w.placed w.placed_groups (pages w.places) (row-page w.places) (count-pages w.places ∙ w.count)
-    c.args.c c.place-i.result c.place-i.ensures.found c.args.p c.in-Some.j (sym c.holder.ensures.place ∙ c.in-Some.is) c.requires.there c.args.job
+    c.args.context c.place-i.result c.place-i.ensures.found c.args.page c.in-Some.j (sym c.holder.ensures.place ∙ c.in-Some.is) c.requires.there c.args.job
 
 pub write-parted-requires-clause-new : goal.write-parted-requires-clause-new
 write-parted-requires-clause-new c =
-    new c.args.self.now c.args.c c.place-i.result c.args.p c.in-Some.j c.args.job c.place-i.ensures.found (sym c.holder.ensures.place ∙ c.in-Some.is) c.requires.there c.requires.known c.index-counts.result.now c.index-counts.ensures
+    new c.args.self.now c.args.context c.place-i.result c.args.page c.in-Some.j c.args.job c.place-i.ensures.found (sym c.holder.ensures.place ∙ c.in-Some.is) c.requires.there c.requires.known c.index-counts.result.now c.index-counts.ensures
 
 pub write-parted-requires-clause-enough : goal.write-parted-requires-clause-enough
 unfolding seen parts
 write-parted-requires-clause-enough c =
     let w = c.args.self.now in
     let now = used-now (parts w) w.sound w.placed w.placed_groups (pages w.places) (row-page w.places) (count-pages w.places ∙ w.count)
-    c.args.c c.place-i.result c.place-i.ensures.found c.args.p in
-    let parts_one = ap {B = ℕ} (λ (b : Bool). cond b 1 0) (part c.args.self.now c.args.c c.place-i.result c.args.p c.in-Some.j c.args.job c.place-i.ensures.found (sym c.holder.ensures.place ∙ c.in-Some.is) c.requires.there c.requires.known c.index-counts.result.now c.index-counts.ensures) in
+    c.args.context c.place-i.result c.place-i.ensures.found c.args.page in
+    let parts_one = ap {B = ℕ} (λ (b : Bool). cond b 1 0) (part c.args.self.now c.args.context c.place-i.result c.args.page c.in-Some.j c.args.job c.place-i.ensures.found (sym c.holder.ensures.place ∙ c.in-Some.is) c.requires.there c.requires.known c.index-counts.result.now c.index-counts.ensures) in
     omega (arith, now, parts_one, c.requires.enough, frames-are w)
 
 pub overflow_add-counts : goal.overflow_add-counts
@@ -160,7 +160,7 @@ unfolding seen parts
 overflow_add-counts c =
     let w = c.args.self.now in
     let tags = ap (λ (t : Tag). t.k)
-    (is_tag c.args.self.now c.args.c c.place-i.result c.args.p c.in-Some.j c.args.job c.place-i.ensures.found (sym c.holder.ensures.place ∙ c.in-Some.is) c.requires.there c.requires.known c.index-counts.result.now c.index-counts.ensures) in
+    (is_tag c.args.self.now c.args.context c.place-i.result c.args.page c.in-Some.j c.args.job c.place-i.ensures.found (sym c.holder.ensures.place ∙ c.in-Some.is) c.requires.there c.requires.known c.index-counts.result.now c.index-counts.ensures) in
     let few : c.from.result ≤ 1 = subst (λ m. m ≤ 1) (sym (c.from.ensures ∙ as_number c.write-parted.result)) (taken-one c.write-parted.result) in
     omega (arith, tags, few, c.requires.few)
 
@@ -176,24 +176,24 @@ invariant_of-self c =
       placed_groups = w.placed_groups;
       count = c.write-parted.ensures.count ∙ w.count;
       frames = c.write-parted.ensures.frames ∙ w.frames;
-      sound = sound c.args.self.now c.args.c c.place-i.result c.args.p c.in-Some.j c.args.job c.place-i.ensures.found (sym c.holder.ensures.place ∙ c.in-Some.is) c.requires.there c.requires.known c.index-counts.result.now c.index-counts.ensures
+      sound = sound c.args.self.now c.args.context c.place-i.result c.args.page c.in-Some.j c.args.job c.place-i.ensures.found (sym c.holder.ensures.place ∙ c.in-Some.is) c.requires.there c.requires.known c.index-counts.result.now c.index-counts.ensures
           c.write-parted.new.self (record { at = c.args.at; bytes = c.args.piece.now }) c.write-parted.result c.from.result c.in-Some.ensures.inside c.write-parted.ensures.parted c.from.ensures c.write-parted.ensures.pages c.write-parted.ensures.rows c.write-parted.ensures.rights;
     }
 
 pub returns-clause-stored : goal.returns-clause-stored
 unfolding seen parts
 returns-clause-stored c =
-    stored c.args.self.now c.args.c c.place-i.result c.args.p c.in-Some.j c.args.job c.place-i.ensures.found (sym c.holder.ensures.place ∙ c.in-Some.is) c.requires.there c.requires.known c.index-counts.result.now c.index-counts.ensures
+    stored c.args.self.now c.args.context c.place-i.result c.args.page c.in-Some.j c.args.job c.place-i.ensures.found (sym c.holder.ensures.place ∙ c.in-Some.is) c.requires.there c.requires.known c.index-counts.result.now c.index-counts.ensures
     c.write-parted.new.self (record { at = c.args.at; bytes = c.args.piece.now }) c.write-parted.result c.from.result c.in-Some.ensures.inside c.write-parted.ensures.parted c.from.ensures c.write-parted.ensures.pages c.write-parted.ensures.rows c.write-parted.ensures.rights
 
 pub returns-clause-used : goal.returns-clause-used
 unfolding seen parts
 returns-clause-used c =
-    in_use c.args.self.now c.args.c c.place-i.result c.args.p c.in-Some.j c.args.job c.place-i.ensures.found (sym c.holder.ensures.place ∙ c.in-Some.is) c.requires.there c.requires.known c.index-counts.result.now c.index-counts.ensures
+    in_use c.args.self.now c.args.context c.place-i.result c.args.page c.in-Some.j c.args.job c.place-i.ensures.found (sym c.holder.ensures.place ∙ c.in-Some.is) c.requires.there c.requires.known c.index-counts.result.now c.index-counts.ensures
     c.write-parted.new.self (record { at = c.args.at; bytes = c.args.piece.now }) c.write-parted.result c.from.result c.in-Some.ensures.inside c.write-parted.ensures.parted c.from.ensures c.write-parted.ensures.pages c.write-parted.ensures.rows c.write-parted.ensures.rights
 
 pub returns-clause-others : goal.returns-clause-others
 unfolding seen parts
 returns-clause-others c =
-    others c.args.self.now c.args.c c.place-i.result c.args.p c.in-Some.j c.args.job c.place-i.ensures.found (sym c.holder.ensures.place ∙ c.in-Some.is) c.requires.there c.requires.known c.index-counts.result.now c.index-counts.ensures
+    others c.args.self.now c.args.context c.place-i.result c.args.page c.in-Some.j c.args.job c.place-i.ensures.found (sym c.holder.ensures.place ∙ c.in-Some.is) c.requires.there c.requires.known c.index-counts.result.now c.index-counts.ensures
     c.write-parted.new.self (record { at = c.args.at; bytes = c.args.piece.now }) c.write-parted.result c.from.result c.in-Some.ensures.inside c.write-parted.ensures.parted c.from.ensures c.write-parted.ensures.pages c.write-parted.ensures.rows c.write-parted.ensures.rights

@@ -60,8 +60,8 @@ keep_reached-requires-after_bounds g c κs bounds other = traps_stay _ _ _ _ _ _
 pub peak_after-self-inside-requires-after_bounds : goal.peak_after-self-inside-requires-after_bounds
 peak_after-self-inside-requires-after_bounds g c κs bounds thread = used_kept _ _ _ _ _ _ _ (as_seen _ _ _ _ c.self.view_is c.self.invariant.1) c.args.thread_number _ c.requires.within c.index.ensures _ _ _ _ _ c.in_ok-effect.ensures.outcome c.in_ok-effect.ensures.traps c.in_ok-effect.ensures.kept c.in-Some.effect c.in-Some.is _ (reaped-as _ _ _ _ _ _ _ (as_seen _ _ _ _ c.self.view_is c.self.invariant.1) c.args.thread_number _ c.requires.within c.index.ensures _ _ _ _ _ c.in_ok-effect.ensures.outcome c.in_ok-effect.ensures.traps c.in_ok-effect.ensures.kept c.in-Some.effect c.in-Some.is _ _ c.drop_unreached.ensures c.as_slice.ensures.value) thread
 
-pub overflow_cast-t-3 : goal.overflow_cast-t-3
-overflow_cast-t-3 g c = omega (arith, within _ _ _ _ _ _ _ (as_seen _ _ _ _ c.self.view_is c.self.invariant.1) c.args.thread_number c.requires.within, few _ _ _ _ _ _ _ (as_seen _ _ _ _ c.self.view_is c.self.invariant.1))
+pub overflow_cast-thread_number-3 : goal.overflow_cast-thread_number-3
+overflow_cast-thread_number-3 g c = omega (arith, within _ _ _ _ _ _ _ (as_seen _ _ _ _ c.self.view_is c.self.invariant.1) c.args.thread_number c.requires.within, few _ _ _ _ _ _ _ (as_seen _ _ _ _ c.self.view_is c.self.invariant.1))
 
 pub push_reserved-requires : goal.push_reserved-requires
 push_reserved-requires g c =

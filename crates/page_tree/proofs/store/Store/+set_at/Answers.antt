@@ -20,7 +20,7 @@ own-node-requires-clause-free t c =
     let old = c.args.self.now.nodes.all in
     ⊎_elim
     (λ own. omega (arith, own.0))
-    (λ short. let all = short-whole c.args.level old c.args.link c.args.p (omega (arith, c.requires.low)) short in omega (arith, short, all, c.requires.free, c.requires.low))
+    (λ short. let all = short-whole c.args.level old c.args.link c.args.page (omega (arith, c.requires.low)) short in omega (arith, short, all, c.requires.free, c.requires.low))
     (link_short-cases old c.args.link)
 
 pub set_at-child-requires : goal.set_at-child-requires
@@ -28,13 +28,13 @@ set_at-child-requires t c =
     let up : 1 < c.args.level = omega (arith, c.requires.low, c.if-level-eq-LEAF_LEVEL.false) in
     let some : 0 < c.args.level = omega (arith, up) in
     let w = c.width-width.ensures in
-    let at : c.args.p / c.width-width.result ≡ c.args.p / 32 ^ (c.args.level - 1) = ap (λ x. c.args.p / x) w in
-    let within : c.args.p % c.width-width.result ≡ c.args.p % 32 ^ (c.args.level - 1) = ap (λ x. c.args.p % x) w in
+    let at : c.args.page / c.width-width.result ≡ c.args.page / 32 ^ (c.args.level - 1) = ap (λ x. c.args.page / x) w in
+    let within : c.args.page % c.width-width.result ≡ c.args.page % 32 ^ (c.args.level - 1) = ap (λ x. c.args.page % x) w in
     let one = c.swap-child.ensures in
-    let r = c.args.p % c.width-width.result in
-    let short = left-short c.args.level c.args.self.now.nodes.all c.own-node.new.self.nodes.all c.swap-child.new.self.nodes.all c.args.link c.own-node.result.n c.args.p c.swap-child.result some c.own-node.ensures.same
-    (λ own. sym (c.own-node.ensures.entries (c.args.p / 32 ^ (c.args.level - 1))) ∙ ap (entry_of c.own-node.new.self.nodes.all c.own-node.result.n) (sym at) ∙ sym one.was)
-    (rw one.was (short-swapped c.args.level c.own-node.new.self.nodes.all c.swap-child.new.self.nodes.all _ c.own-node.result.n (c.args.p / c.width-width.result) up (page-place c.args.level c.args.p c.width-width.result some w c.requires.page) c.own-node.ensures.sound c.own-node.ensures.own one.nodes))
+    let r = c.args.page % c.width-width.result in
+    let short = left-short c.args.level c.args.self.now.nodes.all c.own-node.new.self.nodes.all c.swap-child.new.self.nodes.all c.args.link c.own-node.result.n c.args.page c.swap-child.result some c.own-node.ensures.same
+    (λ own. sym (c.own-node.ensures.entries (c.args.page / 32 ^ (c.args.level - 1))) ∙ ap (entry_of c.own-node.new.self.nodes.all c.own-node.result.n) (sym at) ∙ sym one.was)
+    (rw one.was (short-swapped c.args.level c.own-node.new.self.nodes.all c.swap-child.new.self.nodes.all _ c.own-node.result.n (c.args.page / c.width-width.result) up (page-place c.args.level c.args.page c.width-width.result some w c.requires.page) c.own-node.ensures.sound c.own-node.ensures.own one.nodes))
     c.own-node.ensures.free one.free c.requires.free in (
       omega (arith, c.decreases, up),
       (
@@ -46,7 +46,7 @@ set_at-child-requires t c =
             (
               one.loose,
               (
-                omega (arith, within, mod_below c.args.p (32 ^ (c.args.level - 1)) (pow-pos (c.args.level - 1))),
+                omega (arith, within, mod_below c.args.page (32 ^ (c.args.level - 1)) (pow-pos (c.args.level - 1))),
                 (
                   λ is. absurd (omega (arith, is, c.requires.high, up)),
                   (
@@ -61,8 +61,8 @@ set_at-child-requires t c =
       ),
     )
 
-pub nonzero_div-p-else-level-eq-LEAF_LEVEL : goal.nonzero_div-p-else-level-eq-LEAF_LEVEL
-nonzero_div-p-else-level-eq-LEAF_LEVEL t c = let pos = pow-pos (c.args.level - 1) in omega (arith, pos, c.width-width.ensures)
+pub nonzero_div-page-else-level-eq-LEAF_LEVEL : goal.nonzero_div-page-else-level-eq-LEAF_LEVEL
+nonzero_div-page-else-level-eq-LEAF_LEVEL t c = let pos = pow-pos (c.args.level - 1) in omega (arith, pos, c.width-width.ensures)
 
 pub overflow_add-child : goal.overflow_add-child
 overflow_add-child t c =
@@ -71,7 +71,7 @@ overflow_add-child t c =
     omega (arith, inside, rec.sound.few)
 
 pub swap-requires-clause-place : goal.swap-requires-clause-place
-swap-requires-clause-place t c = page-place c.args.level c.args.p c.width-width.result (omega (arith, c.requires.low)) c.width-width.ensures c.requires.page
+swap-requires-clause-place t c = page-place c.args.level c.args.page c.width-width.result (omega (arith, c.requires.low)) c.width-width.ensures c.requires.page
 
 pub swap-requires-clause-loose : goal.swap-requires-clause-loose
 swap-requires-clause-loose t c = loose-own _ _ _ c.set_at-child.ensures.own
@@ -84,21 +84,21 @@ module _ (t : ℕ) (c : goal.After-swap t) where
   some : 0 < c.args.level
   some = omega (arith, up)
 
-  at : c.args.p / c.width-width.result ≡ c.args.p / 32 ^ (c.args.level - 1)
-  at = ap (λ x. c.args.p / x) c.width-width.ensures
+  at : c.args.page / c.width-width.result ≡ c.args.page / 32 ^ (c.args.level - 1)
+  at = ap (λ x. c.args.page / x) c.width-width.ensures
 
-  within : c.args.p % c.width-width.result ≡ c.args.p % 32 ^ (c.args.level - 1)
-  within = ap (λ x. c.args.p % x) c.width-width.ensures
+  within : c.args.page % c.width-width.result ≡ c.args.page % 32 ^ (c.args.level - 1)
+  within = ap (λ x. c.args.page % x) c.width-width.ensures
 
-  place : c.args.p / c.width-width.result < 32
-  place = page-place c.args.level c.args.p c.width-width.result some c.width-width.ensures c.requires.page
+  place : c.args.page / c.width-width.result < 32
+  place = page-place c.args.level c.args.page c.width-width.result some c.width-width.ensures c.requires.page
 
-  changed : ChildChanged c.args.level c.own-node.new.self.nodes.all c.swap-child.new.self.nodes.all c.set_at-child.new.self.nodes.all c.swap.new.self.nodes.all c.own-node.new.self.frames c.swap.new.self.frames c.own-node.result.n (c.args.p / c.width-width.result) (c.set_at-child.result.n + 1)
+  changed : ChildChanged c.args.level c.own-node.new.self.nodes.all c.swap-child.new.self.nodes.all c.set_at-child.new.self.nodes.all c.swap.new.self.nodes.all c.own-node.new.self.frames c.swap.new.self.frames c.own-node.result.n (c.args.page / c.width-width.result) (c.set_at-child.result.n + 1)
   changed =
       let one = c.swap-child.ensures in
       let two = c.swap.ensures in
       let rec = c.set_at-child.ensures in
-      child-changed c.args.level c.own-node.new.self.nodes.all c.swap-child.new.self.nodes.all c.set_at-child.new.self.nodes.all c.swap.new.self.nodes.all _ _ _ _ c.own-node.result.n (c.args.p / c.width-width.result) (c.set_at-child.result.n + 1) up place
+      child-changed c.args.level c.own-node.new.self.nodes.all c.swap-child.new.self.nodes.all c.set_at-child.new.self.nodes.all c.swap.new.self.nodes.all _ _ _ _ c.own-node.result.n (c.args.page / c.width-width.result) (c.set_at-child.result.n + 1) up place
       c.own-node.ensures.sound c.own-node.ensures.own one.nodes one.sound one.own (rw one.was at one.loose) (rw one.was at one.moves)
       rec.sound (loose-own _ _ _ rec.own) (rw one.was at rec.moves) two.nodes two.sound two.own (rw two.was at two.moves)
 
@@ -116,8 +116,8 @@ pub returns-else-level-eq-LEAF_LEVEL-clause-page : goal.returns-else-level-eq-LE
 returns-else-level-eq-LEAF_LEVEL-clause-page t c =
     let rec = c.set_at-child.ensures in
     let ch = changed t c in
-    set-page c.args.level c.swap.new.self.nodes.all c.own-node.result.n (c.args.p / c.width-width.result) c.args.p (c.set_at-child.result.n + 1) _ (some t c) (at t c) ch.here
-    (ch.after (c.args.p % 32 ^ (c.args.level - 1)) ∙ ap (entry_below c.set_at-child.new.self.nodes.all (c.args.level - 1) (c.set_at-child.result.n + 1)) (sym (within t c)) ∙ rec.page)
+    set-page c.args.level c.swap.new.self.nodes.all c.own-node.result.n (c.args.page / c.width-width.result) c.args.page (c.set_at-child.result.n + 1) _ (some t c) (at t c) ch.here
+    (ch.after (c.args.page % 32 ^ (c.args.level - 1)) ∙ ap (entry_below c.set_at-child.new.self.nodes.all (c.args.level - 1) (c.set_at-child.result.n + 1)) (sym (within t c)) ∙ rec.page)
 
 pub returns-else-level-eq-LEAF_LEVEL-clause-pages : goal.returns-else-level-eq-LEAF_LEVEL-clause-pages
 returns-else-level-eq-LEAF_LEVEL-clause-pages t c =
@@ -125,10 +125,10 @@ returns-else-level-eq-LEAF_LEVEL-clause-pages t c =
     let rec = c.set_at-child.ensures in
     let ch = changed t c in
     λ q lt off.
-    set-pages c.args.level c.own-node.new.self.nodes.all c.swap.new.self.nodes.all c.own-node.result.n (c.args.p / c.width-width.result) (c.set_at-child.result.n + 1) q (some t c) ch.here ch.there
+    set-pages c.args.level c.own-node.new.self.nodes.all c.swap.new.self.nodes.all c.own-node.result.n (c.args.page / c.width-width.result) (c.set_at-child.result.n + 1) q (some t c) ch.here ch.there
     (λ is.
     let r = q % 32 ^ (c.args.level - 1) in
-    let apart : r ≢ c.args.p % c.width-width.result = λ same. apart-within (32 ^ (c.args.level - 1)) c.args.p q off (is ∙ (at t c)) (same ∙ (within t c)) in
+    let apart : r ≢ c.args.page % c.width-width.result = λ same. apart-within (32 ^ (c.args.level - 1)) c.args.page q off (is ∙ (at t c)) (same ∙ (within t c)) in
     ch.after r ∙ rec.pages r (mod_below q (32 ^ (c.args.level - 1)) (pow-pos (c.args.level - 1))) apart
     ∙ ap (λ l. entry_below c.swap-child.new.self.nodes.all (c.args.level - 1) l r) one.was ∙ ch.before r)
     ∙ c.own-node.ensures.maps q
@@ -139,9 +139,9 @@ returns-else-level-eq-LEAF_LEVEL-clause-alone t c =
     let rec = c.set_at-child.ensures in
     let ch = changed t c in
     let own = link_short-once c.swap.new.self.nodes.all c.own-node.result.n two.own.once in
-    short-own c.args.level c.swap.new.self.nodes.all (c.own-node.result.n + 1) c.args.p (some t c) own
-    ∙ ap (λ l. short_below c.swap.new.self.nodes.all (c.args.level - 1) l (c.args.p % 32 ^ (c.args.level - 1))) (link_of-node c.swap.new.self.nodes.all c.own-node.result.n (c.args.p / 32 ^ (c.args.level - 1)) ∙ ap (entry_of c.swap.new.self.nodes.all c.own-node.result.n) (sym (at t c)) ∙ ch.here)
-    ∙ ch.short_after (c.args.p % 32 ^ (c.args.level - 1))
+    short-own c.args.level c.swap.new.self.nodes.all (c.own-node.result.n + 1) c.args.page (some t c) own
+    ∙ ap (λ l. short_below c.swap.new.self.nodes.all (c.args.level - 1) l (c.args.page % 32 ^ (c.args.level - 1))) (link_of-node c.swap.new.self.nodes.all c.own-node.result.n (c.args.page / 32 ^ (c.args.level - 1)) ∙ ap (entry_of c.swap.new.self.nodes.all c.own-node.result.n) (sym (at t c)) ∙ ch.here)
+    ∙ ch.short_after (c.args.page % 32 ^ (c.args.level - 1))
     ∙ ap (short_below c.set_at-child.new.self.nodes.all (c.args.level - 1) (c.set_at-child.result.n + 1)) (sym (within t c)) ∙ rec.alone
 
 pub returns-else-level-eq-LEAF_LEVEL-clause-free : goal.returns-else-level-eq-LEAF_LEVEL-clause-free
@@ -150,8 +150,8 @@ returns-else-level-eq-LEAF_LEVEL-clause-free t c =
     let two = c.swap.ensures in
     let rec = c.set_at-child.ensures in
     let ch = changed t c in
-    let all = all-short c.args.level c.args.self.now.nodes.all c.own-node.new.self.nodes.all c.swap-child.new.self.nodes.all c.set_at-child.new.self.nodes.all c.args.link c.args.p c.swap-child.result (some t c) c.own-node.ensures.same
-    (λ own. sym (c.own-node.ensures.entries (c.args.p / 32 ^ (c.args.level - 1))) ∙ ap (entry_of c.own-node.new.self.nodes.all c.own-node.result.n) (sym (at t c)) ∙ sym one.was)
+    let all = all-short c.args.level c.args.self.now.nodes.all c.own-node.new.self.nodes.all c.swap-child.new.self.nodes.all c.set_at-child.new.self.nodes.all c.args.link c.args.page c.swap-child.result (some t c) c.own-node.ensures.same
+    (λ own. sym (c.own-node.ensures.entries (c.args.page / 32 ^ (c.args.level - 1))) ∙ ap (entry_of c.own-node.new.self.nodes.all c.own-node.result.n) (sym (at t c)) ∙ sym one.was)
     (rw one.was ch.short_before)
     c.own-node.ensures.free one.free (subst (λ x. free_of c.swap-child.new.self.nodes.all ≤ free_of c.set_at-child.new.self.nodes.all + short_below c.swap-child.new.self.nodes.all (c.args.level - 1) c.swap-child.result x) (within t c) rec.free) in
     omega (arith, all, two.free)
@@ -168,9 +168,9 @@ returns-then-level-eq-LEAF_LEVEL-clause-page t c =
     let mid = c.own-node.new.self.nodes.all in
     let new = c.write.new.self.nodes.all in
     let n = c.own-node.result.n in
-    let place : c.args.p < 32 = let power = ap (λ l. 32 ^ l) leaf in omega (arith, power, c.requires.page) in
-    ap (λ l. entry_below new l (n + 1) c.args.p) leaf ∙ entry-leaf new (n + 1) c.args.p ∙ link_of-node new n c.args.p ∙ ap (λ ns. entry_of ns n c.args.p) c.write.ensures.nodes
-    ∙ here-entered c.args.level 1 mid _ c.own-node.ensures.sound n c.args.p _ (subst (λ l. IsOwned mid l n) leaf c.own-node.ensures.own) place
+    let place : c.args.page < 32 = let power = ap (λ l. 32 ^ l) leaf in omega (arith, power, c.requires.page) in
+    ap (λ l. entry_below new l (n + 1) c.args.page) leaf ∙ entry-leaf new (n + 1) c.args.page ∙ link_of-node new n c.args.page ∙ ap (λ ns. entry_of ns n c.args.page) c.write.ensures.nodes
+    ∙ here-entered c.args.level 1 mid _ c.own-node.ensures.sound n c.args.page _ (subst (λ l. IsOwned mid l n) leaf c.own-node.ensures.own) place
 
 pub returns-then-level-eq-LEAF_LEVEL-clause-pages : goal.returns-then-level-eq-LEAF_LEVEL-clause-pages
 returns-then-level-eq-LEAF_LEVEL-clause-pages t c =
@@ -179,10 +179,10 @@ returns-then-level-eq-LEAF_LEVEL-clause-pages t c =
     let mid = c.own-node.new.self.nodes.all in
     let new = c.write.new.self.nodes.all in
     let n = c.own-node.result.n in
-    let place : c.args.p < 32 = let power = ap (λ l. 32 ^ l) leaf in omega (arith, power, c.requires.page) in
+    let place : c.args.page < 32 = let power = ap (λ l. 32 ^ l) leaf in omega (arith, power, c.requires.page) in
     λ q lt off.
     ap (λ l. entry_below new l (n + 1) q) leaf ∙ entry-leaf new (n + 1) q ∙ link_of-node new n q ∙ ap (λ ns. entry_of ns n q) c.write.ensures.nodes
-    ∙ there-entered c.args.level 1 mid _ c.own-node.ensures.sound n c.args.p _ (subst (λ l. IsOwned mid l n) leaf c.own-node.ensures.own) place q off
+    ∙ there-entered c.args.level 1 mid _ c.own-node.ensures.sound n c.args.page _ (subst (λ l. IsOwned mid l n) leaf c.own-node.ensures.own) place q off
     ∙ sym (link_of-node mid n q) ∙ sym (entry-leaf mid (n + 1) q) ∙ ap (λ l. entry_below mid l (n + 1) q) (sym leaf) ∙ c.own-node.ensures.maps q
 
 pub returns-then-level-eq-LEAF_LEVEL-clause-alone : goal.returns-then-level-eq-LEAF_LEVEL-clause-alone
@@ -192,8 +192,8 @@ returns-then-level-eq-LEAF_LEVEL-clause-alone t c =
     let mid = c.own-node.new.self.nodes.all in
     let new = c.write.new.self.nodes.all in
     let n = c.own-node.result.n in
-    let place : c.args.p < 32 = let power = ap (λ l. 32 ^ l) leaf in omega (arith, power, c.requires.page) in
-    ap (λ l. short_below new l (n + 1) c.args.p) leaf ∙ short-leaf new (n + 1) c.args.p (link_short-once new n c.write.ensures.own.once)
+    let place : c.args.page < 32 = let power = ap (λ l. 32 ^ l) leaf in omega (arith, power, c.requires.page) in
+    ap (λ l. short_below new l (n + 1) c.args.page) leaf ∙ short-leaf new (n + 1) c.args.page (link_short-once new n c.write.ensures.own.once)
 
 pub returns-then-level-eq-LEAF_LEVEL-clause-free : goal.returns-then-level-eq-LEAF_LEVEL-clause-free
 returns-then-level-eq-LEAF_LEVEL-clause-free t c =
@@ -202,11 +202,11 @@ returns-then-level-eq-LEAF_LEVEL-clause-free t c =
     let mid = c.own-node.new.self.nodes.all in
     let new = c.write.new.self.nodes.all in
     let n = c.own-node.result.n in
-    let place : c.args.p < 32 = let power = ap (λ l. 32 ^ l) leaf in omega (arith, power, c.requires.page) in
-    let kept = ap (λ ns. free_of ns) c.write.ensures.nodes ∙ free_of-enter mid n c.args.p _ in
+    let place : c.args.page < 32 = let power = ap (λ l. 32 ^ l) leaf in omega (arith, power, c.requires.page) in
+    let kept = ap (λ ns. free_of ns) c.write.ensures.nodes ∙ free_of-enter mid n c.args.page _ in
     ⊎_elim
     (λ own. omega (arith, kept, own.0, c.own-node.ensures.free))
-    (λ short. let all = short-whole c.args.level old c.args.link c.args.p (omega (arith, leaf)) short in omega (arith, kept, short, all, leaf, c.own-node.ensures.free))
+    (λ short. let all = short-whole c.args.level old c.args.link c.args.page (omega (arith, leaf)) short in omega (arith, kept, short, all, leaf, c.own-node.ensures.free))
     (link_short-cases old c.args.link)
 
 pub returns-then-level-eq-LEAF_LEVEL-clause-grows : goal.returns-then-level-eq-LEAF_LEVEL-clause-grows
@@ -215,8 +215,8 @@ returns-then-level-eq-LEAF_LEVEL-clause-grows t c = λ same f.
     let old = c.args.self.now.nodes.all in
     let mid = c.own-node.new.self.nodes.all in
     let n = c.own-node.result.n in
-    let here : entry_of mid n c.args.p ≡ entry_for c.args.cell =
-    sym (link_of-node mid n c.args.p) ∙ sym (entry-leaf mid (n + 1) c.args.p) ∙ ap (λ l. entry_below mid l (n + 1) c.args.p) (sym leaf) ∙ c.own-node.ensures.maps c.args.p ∙ sym same in
+    let here : entry_of mid n c.args.page ≡ entry_for c.args.cell =
+    sym (link_of-node mid n c.args.page) ∙ sym (entry-leaf mid (n + 1) c.args.page) ∙ ap (λ l. entry_below mid l (n + 1) c.args.page) (sym leaf) ∙ c.own-node.ensures.maps c.args.page ∙ sym same in
     let grown = c.own-node.ensures.grows f in
     let holds = c.write.ensures.holds f in
     let even = ap (λ e. one_if (eqb e (f + 2))) here in
@@ -229,12 +229,12 @@ returns-else-level-eq-LEAF_LEVEL-clause-grows t c = λ same f.
     let b = c.swap-child.new.self.nodes.all in
     let n = c.own-node.result.n in
     let one = c.swap-child.ensures in
-    let before = entry-swapped c.args.level a b _ n (c.args.p / c.width-width.result) (up t c) (place t c) c.own-node.ensures.sound c.own-node.ensures.own one.nodes (c.args.p % c.width-width.result) in
-    let there : entry_for c.args.cell ≡ entry_below b (c.args.level - 1) c.swap-child.result (c.args.p % c.width-width.result) =
-    same ∙ sym (c.own-node.ensures.maps c.args.p) ∙ entry-step a c.args.level (n + 1) c.args.p (some t c)
-    ∙ ap (λ l. entry_below a (c.args.level - 1) l (c.args.p % 32 ^ (c.args.level - 1))) (link_of-node a n (c.args.p / 32 ^ (c.args.level - 1)))
-    ∙ ap (λ x. entry_below a (c.args.level - 1) (entry_of a n (c.args.p / x)) (c.args.p % x)) (sym w)
-    ∙ sym before ∙ ap (λ l. entry_below b (c.args.level - 1) l (c.args.p % c.width-width.result)) (sym one.was) in
+    let before = entry-swapped c.args.level a b _ n (c.args.page / c.width-width.result) (up t c) (place t c) c.own-node.ensures.sound c.own-node.ensures.own one.nodes (c.args.page % c.width-width.result) in
+    let there : entry_for c.args.cell ≡ entry_below b (c.args.level - 1) c.swap-child.result (c.args.page % c.width-width.result) =
+    same ∙ sym (c.own-node.ensures.maps c.args.page) ∙ entry-step a c.args.level (n + 1) c.args.page (some t c)
+    ∙ ap (λ l. entry_below a (c.args.level - 1) l (c.args.page % 32 ^ (c.args.level - 1))) (link_of-node a n (c.args.page / 32 ^ (c.args.level - 1)))
+    ∙ ap (λ x. entry_below a (c.args.level - 1) (entry_of a n (c.args.page / x)) (c.args.page % x)) (sym w)
+    ∙ sym before ∙ ap (λ l. entry_below b (c.args.level - 1) l (c.args.page % c.width-width.result)) (sym one.was) in
     let grown = c.own-node.ensures.grows f in
     let below = c.set_at-child.ensures.grows there f in
     let first = ap (λ fs. frame_count fs f) one.frames in

@@ -66,8 +66,8 @@ share_entry-share_at-child-requires t c =
     let mine = beside-less a (is_root (n + 1)) (λ x. is_root (n + 1) x + is_root 0 x) (c.args.level - 1) c.args.link (λ x. let z = is_root-none x in omega (arith, z)) (c.requires.beside up) in
     let from = beside-less b (λ x. is_root (n + 1) x + is_root c.swap-child.result x) (is_root c.swap-child.result) (c.args.level - 1) c.args.link (λ x. omega arith)
     (beside-moved c.args.level c.args.level (c.args.level - 1) a b _ _ (λ x. is_root (n + 1) x + is_root 0 x) (λ x. is_root (n + 1) x + is_root c.swap-child.result x) c.args.link (omega (arith, up)) c.requires.sound one.moves mine) in
-    let part = part-some a (c.args.level - 1) (entry_of a n c.args.i) c.args.first c.args.end c.requires.order why in
-    let out = range-swapped c.args.level a b _ n c.args.i up c.requires.place c.requires.sound c.requires.own one.nodes c.args.first c.args.end in
+    let part = part-some a (c.args.level - 1) (entry_of a n c.args.index) c.args.first c.args.end c.requires.order why in
+    let out = range-swapped c.args.level a b _ n c.args.index up c.requires.place c.requires.sound c.requires.own one.nodes c.args.first c.args.end in
     let same = ap (λ l. range_below b (c.args.level - 1) l c.args.first c.args.end) one.was in
     (first_of (omega (arith, c.decreases), search rules), (omega (arith, up), (omega (arith, c.requires.high), (one.sound, (one.loose, (omega (arith, c.requires.order), (c.requires.page, (λ is. absurd (omega (arith, is, c.requires.high, up)), (from, omega (arith, c.requires.free, one.free, part, out, same))))))))))
 
@@ -101,12 +101,12 @@ module _ (t : ℕ) (c : goal.share_entry-After-swap t) where
       let n = c.args.node.n in
       beside-less a (is_root (n + 1)) (λ x. is_root (n + 1) x + is_root 0 x) (c.args.level - 1) c.args.link (λ x. let z = is_root-none x in omega (arith, z)) (c.requires.beside up)
 
-  changed : ChildChanged c.args.level c.args.self.now.nodes.all c.swap-child.new.self.nodes.all c.share_at-child.new.self.nodes.all c.swap.new.self.nodes.all c.args.self.now.frames c.swap.new.self.frames c.args.node.n c.args.i (c.share_at-child.result.n + 1)
+  changed : ChildChanged c.args.level c.args.self.now.nodes.all c.swap-child.new.self.nodes.all c.share_at-child.new.self.nodes.all c.swap.new.self.nodes.all c.args.self.now.frames c.swap.new.self.frames c.args.node.n c.args.index (c.share_at-child.result.n + 1)
   changed =
       let one = c.swap-child.ensures in
       let two = c.swap.ensures in
       let rec = c.share_at-child.ensures in
-      child-changed c.args.level c.args.self.now.nodes.all c.swap-child.new.self.nodes.all c.share_at-child.new.self.nodes.all c.swap.new.self.nodes.all _ _ _ _ c.args.node.n c.args.i (c.share_at-child.result.n + 1) up c.requires.place
+      child-changed c.args.level c.args.self.now.nodes.all c.swap-child.new.self.nodes.all c.share_at-child.new.self.nodes.all c.swap.new.self.nodes.all _ _ _ _ c.args.node.n c.args.index (c.share_at-child.result.n + 1) up c.requires.place
       c.requires.sound c.requires.own one.nodes one.sound one.own (rw one.was at one.loose) (rw one.was at one.moves)
       rec.sound (loose-own _ _ _ rec.own) (rw one.was at rec.moves) two.nodes two.sound two.own (rw two.was at two.moves)
 
@@ -155,14 +155,14 @@ share_entry-returns-else-first-eq0-clause-free t c =
     let n = c.args.node.n in
     let two = c.swap.ensures in
     let rec = c.share_at-child.ensures in
-    let part = part-some a (c.args.level - 1) (entry_of a n c.args.i) c.args.first c.args.end c.requires.order (why t c) in
-    let out = range-swapped c.args.level a b _ n c.args.i (up t c) c.requires.place c.requires.sound c.requires.own one.nodes c.args.first c.args.end in
+    let part = part-some a (c.args.level - 1) (entry_of a n c.args.index) c.args.first c.args.end c.requires.order (why t c) in
+    let out = range-swapped c.args.level a b _ n c.args.index (up t c) c.requires.place c.requires.sound c.requires.own one.nodes c.args.first c.args.end in
     let same = ap (λ l. range_below b (c.args.level - 1) l c.args.first c.args.end) one.was in
     omega (arith, rec.free, one.free, two.free, part, out, same)
 
 pub share_entries-overflow_add-start : goal.share_entries-overflow_add-start
 share_entries-overflow_add-start t c =
-    let at = in-range c.args.level c.args.first c.args.end c.entries.i c.width-width.result c.requires.low c.width-width.ensures c.entries.auto.i c.entries-test.true c.requires.order c.requires.page in
+    let at = in-range c.args.level c.args.first c.args.end c.entries.index c.width-width.result c.requires.low c.width-width.ensures c.entries.auto.index c.entries-test.true c.requires.order c.requires.page in
     let most = width-le c.args.level c.requires.low c.requires.high in
     omega (arith, at.fits, most.1)
 
@@ -186,11 +186,11 @@ share_entries-share_entry-requires t c =
     let inv = c.entries.invariant in
     let level = c.args.level in
     let w = c.width-width.result in
-    let i = c.entries.i in
+    let i = c.entries.index in
     let s0 = c.args.self.now.nodes.all in
     let s1 = c.entries.self.nodes.all in
     let n = c.args.node.n in
-    let at = in-range level c.args.first c.args.end i w c.requires.low c.width-width.ensures c.entries.auto.i c.entries-test.true c.requires.order c.requires.page in
+    let at = in-range level c.args.first c.args.end i w c.requires.low c.width-width.ensures c.entries.auto.index c.entries-test.true c.requires.order c.requires.page in
     let beside = beside-moved level level level s0 s1 _ _ (is_root (n + 1)) (is_root (n + 1)) c.args.from (omega (arith, c.requires.low)) c.requires.sound inv.moves c.requires.from in
     let low = c.max.result - i * w in
     let high = c.min.result - i * w in
@@ -241,11 +241,11 @@ share_entries-entries-preserved t c =
     let inv = c.entries.invariant in
     let level = c.args.level in
     let w = c.width-width.result in
-    let i = c.entries.i in
+    let i = c.entries.index in
     let s0 = c.args.self.now.nodes.all in
     let s1 = c.entries.self.nodes.all in
     let n = c.args.node.n in
-    let at = in-range level c.args.first c.args.end i w c.requires.low c.width-width.ensures c.entries.auto.i c.entries-test.true c.requires.order c.requires.page in
+    let at = in-range level c.args.first c.args.end i w c.requires.low c.width-width.ensures c.entries.auto.index c.entries-test.true c.requires.order c.requires.page in
     let beside = beside-moved level level level s0 s1 _ _ (is_root (n + 1)) (is_root (n + 1)) c.args.from (omega (arith, c.requires.low)) c.requires.sound inv.moves c.requires.from in
     let low = c.max.result - i * w in
     let high = c.min.result - i * w in
@@ -263,7 +263,7 @@ share_entries-entries-preserved t c =
     let high_is : high + i * w ≡ min c.args.end (i * w + w) = omega (arith, c.min.ensures, at.within) in
     let some : 0 < level = omega (arith, c.requires.low) in
     let pos : 0 < w = let p = pow-pos (level - 1) in omega (arith, p, c.width-width.ensures) in
-    let costs = steps-next i (c.args.first / w) ((c.args.end - 1) / w) (entry_steps level) (share_steps (level - 1)) c.args.self.now.nodes.steps c.entries.self.nodes.steps c.share_entry.new.self.nodes.steps c.entries.auto.i c.entries-test.true
+    let costs = steps-next i (c.args.first / w) ((c.args.end - 1) / w) (entry_steps level) (share_steps (level - 1)) c.args.self.now.nodes.steps c.entries.self.nodes.steps c.share_entry.new.self.nodes.steps c.entries.auto.index c.entries-test.true
     (subst (λ x. i ≤ c.args.first / x → c.entries.self.nodes.steps ≡ c.args.self.now.nodes.steps) (sym c.width-width.ensures) inv.cost_first)
     (subst (λ x. i ≤ (c.args.end - 1) / x → c.entries.self.nodes.steps ≤ c.args.self.now.nodes.steps + ((i - c.args.first / x) * entry_steps level + share_steps (level - 1))) (sym c.width-width.ensures) inv.cost_middle)
     put.cost
@@ -274,14 +274,14 @@ share_entries-entries-preserved t c =
       moves = Moves-trans _ _ _ _ _ _ _ _ _ _ _ c.requires.sound inv.moves put.moves;
       within = range-within level s0 s1 c.share_entry.new.self.nodes.all n i c.args.from c.link_at-link.result c.args.first c.args.end low high w some c.width-width.ensures low_is high_is c.link_at-link.ensures same put.within put.outside put.there inv.within;
       rest = range-rest level s0 s1 c.share_entry.new.self.nodes.all n i c.args.from c.link_at-link.result c.args.first c.args.end low high w some c.width-width.ensures low_is high_is c.link_at-link.ensures same put.within put.outside put.there inv.rest;
-      cost_first = λ early. absurd (let e = ap (λ x. c.args.first / x) c.width-width.ensures in omega (arith, early, e, c.entries.auto.i));
+      cost_first = λ early. absurd (let e = ap (λ x. c.args.first / x) c.width-width.ensures in omega (arith, early, e, c.entries.auto.index));
       cost_middle = (subst (λ x. StepsNext i (c.args.first / x) ((c.args.end - 1) / x) (entry_steps level) (share_steps (level - 1)) c.args.self.now.nodes.steps c.share_entry.new.self.nodes.steps) c.width-width.ensures costs).0;
       cost_all = (subst (λ x. StepsNext i (c.args.first / x) ((c.args.end - 1) / x) (entry_steps level) (share_steps (level - 1)) c.args.self.now.nodes.steps c.share_entry.new.self.nodes.steps) c.width-width.ensures costs).1;
       cost_leaf = λ leaf. let a = put.cost_leaf leaf in let b = inv.cost_leaf leaf in omega (arith, a, b);
       opens = λ is_open.
           opens-next level c.args.first c.args.end i low high s0 s1 c.share_entry.new.self.nodes.all n c.args.self.now.nodes.steps c.entries.self.nodes.steps c.share_entry.new.self.nodes.steps c.requires.low
           (subst (InRange level c.args.first c.args.end i) c.width-width.ensures at)
-          (subst (λ x. c.args.first / x ≤ i) c.width-width.ensures c.entries.auto.i) (subst (λ x. i < (c.args.end - 1) / x + 1) c.width-width.ensures c.entries-test.true)
+          (subst (λ x. c.args.first / x ≤ i) c.width-width.ensures c.entries.auto.index) (subst (λ x. i < (c.args.end - 1) / x + 1) c.width-width.ensures c.entries-test.true)
           (subst (λ x. low + i * x ≡ max c.args.first (i * x)) c.width-width.ensures low_is) (subst (λ x. high + i * x ≡ min c.args.end (i * x + x)) c.width-width.ensures high_is)
           c.requires.order c.requires.page is_open (inv.opens is_open) (link_short-once c.share_entry.new.self.nodes.all n put.own.once)
           put.others put.open put.edge put.free_open put.free_whole put.cost_open put.cost_open_whole
@@ -436,7 +436,7 @@ share_at-returns-else-first-end-clause-cost_open t c = λ is_open.
 
 pub share_entries-link_at-link-requires-clause-place : goal.share_entries-link_at-link-requires-clause-place
 share_entries-link_at-link-requires-clause-place t c =
-    (in-range c.args.level c.args.first c.args.end c.entries.i c.width-width.result c.requires.low c.width-width.ensures c.entries.auto.i c.entries-test.true c.requires.order c.requires.page).low
+    (in-range c.args.level c.args.first c.args.end c.entries.index c.width-width.result c.requires.low c.width-width.ensures c.entries.auto.index c.entries-test.true c.requires.order c.requires.page).low
 
 pub share_entry-returns-else-first-eq0-clause-lone : goal.share_entry-returns-else-first-eq0-clause-lone
 share_entry-returns-else-first-eq0-clause-lone t c =
@@ -454,7 +454,7 @@ share_entry-returns-else-first-eq0-clause-lone t c =
     let rec = c.share_at-child.ensures in
     let own_d = own-below c.args.level (c.args.level - 1) b c.share_at-child.new.self.nodes.all _ _ (is_root c.swap-child.result) (is_root (c.share_at-child.result.n + 1)) n (omega (arith, up)) one.own rec.moves
     (not-root b c.args.level (c.args.level - 1) c.swap-child.result n (omega (arith, up)) one.own.level_is (λ m is. (one.loose m is).0) ∙ sym (is_root-no (c.share_at-child.result.n + 1) n (λ is. let e : c.share_at-child.result.n ≡ n = omega (arith, is) in let l = ap (level_of c.share_at-child.new.self.nodes.all) e in let same = ap (λ y. y.level) (rec.moves.higher n (omega (arith, one.own.once)) (omega (arith, one.own.level_is, up))) in absurd (omega (arith, l, rec.own.level_is, same, one.own.level_is, up))))) in
-    lone-child c.args.level a b c.share_at-child.new.self.nodes.all c.swap.new.self.nodes.all _ _ _ n c.args.i (c.share_at-child.result.n + 1) c.args.link up c.requires.place
+    lone-child c.args.level a b c.share_at-child.new.self.nodes.all c.swap.new.self.nodes.all _ _ _ n c.args.index (c.share_at-child.result.n + 1) c.args.link up c.requires.place
     c.requires.sound c.requires.own one.nodes one.sound one.own (rw one.was at one.loose) (rw one.was at one.moves)
     (loose-own _ _ _ rec.own) own_d rec.sound (rw one.was at rec.moves) two.nodes (c.requires.beside up) (rw one.was at rec.lone)
 
@@ -474,7 +474,7 @@ share_entry-returns-else-first-eq0-clause-rest t c =
     let rec = c.share_at-child.ensures in
     let own_d = own-below c.args.level (c.args.level - 1) b c.share_at-child.new.self.nodes.all _ _ (is_root c.swap-child.result) (is_root (c.share_at-child.result.n + 1)) n (omega (arith, up)) one.own rec.moves
     (not-root b c.args.level (c.args.level - 1) c.swap-child.result n (omega (arith, up)) one.own.level_is (λ m is. (one.loose m is).0) ∙ sym (is_root-no (c.share_at-child.result.n + 1) n (λ is. let e : c.share_at-child.result.n ≡ n = omega (arith, is) in let l = ap (level_of c.share_at-child.new.self.nodes.all) e in let same = ap (λ y. y.level) (rec.moves.higher n (omega (arith, one.own.once)) (omega (arith, one.own.level_is, up))) in absurd (omega (arith, l, rec.own.level_is, same, one.own.level_is, up))))) in
-    λ k p q off. rest-child c.args.level a b c.share_at-child.new.self.nodes.all c.swap.new.self.nodes.all _ _ _ n c.args.i (c.share_at-child.result.n + 1) c.args.link up c.requires.place
+    λ k p q off. rest-child c.args.level a b c.share_at-child.new.self.nodes.all c.swap.new.self.nodes.all _ _ _ n c.args.index (c.share_at-child.result.n + 1) c.args.link up c.requires.place
     c.requires.sound c.requires.own one.nodes one.sound one.own (rw one.was at one.loose) (rw one.was at one.moves)
     (loose-own _ _ _ rec.own) own_d rec.sound (rw one.was at rec.moves) two.nodes (c.requires.beside up) (rw one.was at rec.lone) k off p q
 
@@ -546,7 +546,7 @@ share_entries-returns-clause-free t c =
     let pos = pow-pos (c.args.level - 1) in
     let step = pow-step c.args.level (omega (arith, c.requires.low)) in
     let few = div_below (c.args.end - 1) c.width-width.result 32 (omega (arith, pos, c.width-width.ensures)) (omega (arith, c.requires.order, c.requires.page, step, c.width-width.ensures)) in
-    let more = total-more (entry_short c.args.self.now.nodes.all c.args.level c.args.node.n c.args.first c.args.end) c.entries.i 32 (let down = order-div c.args.first (c.args.end - 1) c.width-width.result (omega (arith, pos, c.width-width.ensures)) (omega (arith, c.requires.order)) in omega (arith, few, c.entries.auto.i-end, down)) in
+    let more = total-more (entry_short c.args.self.now.nodes.all c.args.level c.args.node.n c.args.first c.args.end) c.entries.index 32 (let down = order-div c.args.first (c.args.end - 1) c.width-width.result (omega (arith, pos, c.width-width.ensures)) (omega (arith, c.requires.order)) in omega (arith, few, c.entries.auto.index-end, down)) in
     omega (arith, all, more, c.entries.invariant.free)
 
 pub share_at-returns-then-first-end-clause-outside : goal.share_at-returns-then-first-end-clause-outside
@@ -557,13 +557,13 @@ share_at-returns-then-first-end-clause-cost t c = let step = share-step c.args.l
 
 pub share_entries-overflow_mul-start : goal.share_entries-overflow_mul-start
 share_entries-overflow_mul-start t c =
-    let at = in-range c.args.level c.args.first c.args.end c.entries.i c.width-width.result c.requires.low c.width-width.ensures c.entries.auto.i c.entries-test.true c.requires.order c.requires.page in
+    let at = in-range c.args.level c.args.first c.args.end c.entries.index c.width-width.result c.requires.low c.width-width.ensures c.entries.auto.index c.entries-test.true c.requires.order c.requires.page in
     let most = width-le c.args.level c.requires.low c.requires.high in
     omega (arith, at.within, c.requires.page, most.1)
 
 pub share_entries-overflow_sub-high : goal.share_entries-overflow_sub-high
 share_entries-overflow_sub-high t c =
-    let at = in-range c.args.level c.args.first c.args.end c.entries.i c.width-width.result c.requires.low c.width-width.ensures c.entries.auto.i c.entries-test.true c.requires.order c.requires.page in
+    let at = in-range c.args.level c.args.first c.args.end c.entries.index c.width-width.result c.requires.low c.width-width.ensures c.entries.auto.index c.entries-test.true c.requires.order c.requires.page in
     omega (arith, at.within, c.min.ensures)
 
 pub share_entries-returns-clause-outside : goal.share_entries-returns-clause-outside
@@ -572,8 +572,8 @@ share_entries-returns-clause-outside t c = λ q lt out. c.entries.invariant.rest
 pub share_entries-returns-clause-cost : goal.share_entries-returns-clause-cost
 share_entries-returns-clause-cost t c =
     let even = ap (λ x. (c.args.end - 1) / x) c.width-width.ensures in
-    steps-all c.args.level c.args.first c.args.end c.entries.i (32 ^ (c.args.level - 1)) (entry_steps c.args.level) (share_steps (c.args.level - 1)) c.args.self.now.nodes.steps c.entries.self.nodes.steps (pow-pos (c.args.level - 1)) refl c.requires.low c.requires.order c.requires.page c.requires.inside
-    (let pos = pow-pos (c.args.level - 1) in let down = order-div c.args.first (c.args.end - 1) c.width-width.result (omega (arith, pos, c.width-width.ensures)) (omega (arith, c.requires.order)) in omega (arith, even, c.entries.auto.i-end, down)) c.entries.invariant.cost_all
+    steps-all c.args.level c.args.first c.args.end c.entries.index (32 ^ (c.args.level - 1)) (entry_steps c.args.level) (share_steps (c.args.level - 1)) c.args.self.now.nodes.steps c.entries.self.nodes.steps (pow-pos (c.args.level - 1)) refl c.requires.low c.requires.order c.requires.page c.requires.inside
+    (let pos = pow-pos (c.args.level - 1) in let down = order-div c.args.first (c.args.end - 1) c.width-width.result (omega (arith, pos, c.width-width.ensures)) (omega (arith, c.requires.order)) in omega (arith, even, c.entries.auto.index-end, down)) c.entries.invariant.cost_all
 
 pub share_entries-returns-clause-open : goal.share_entries-returns-clause-open
 share_entries-returns-clause-open t c = λ is_open. (c.entries.invariant.opens is_open).open_end (let even = ap (λ x. (c.args.end - 1) / x) c.width-width.ensures in omega (arith, even, c.entries-test.false))

@@ -7,7 +7,7 @@ pub entry-requires-clause-node : goal.entry-requires-clause-node
 entry-requires-clause-node c = c.requires.inside c.node_of.result.n (sym c.node_of.ensures)
 
 pub returns-then-link-eq0 : goal.returns-then-link-eq0
-returns-then-link-eq0 c = sym (ap (λ l. link_of c.args.self.now.nodes.all l c.args.i) c.if-link-eq0.true ∙ link_of-none c.args.self.now.nodes.all c.args.i)
+returns-then-link-eq0 c = sym (ap (λ l. link_of c.args.self.now.nodes.all l c.args.index) c.if-link-eq0.true ∙ link_of-none c.args.self.now.nodes.all c.args.index)
 
 pub returns-else-link-eq0 : goal.returns-else-link-eq0
-returns-else-link-eq0 c = c.entry.ensures ∙ sym (link_of-node c.args.self.now.nodes.all c.node_of.result.n c.args.i) ∙ ap (λ l. link_of c.args.self.now.nodes.all l c.args.i) c.node_of.ensures
+returns-else-link-eq0 c = c.entry.ensures ∙ sym (link_of-node c.args.self.now.nodes.all c.node_of.result.n c.args.index) ∙ ap (λ l. link_of c.args.self.now.nodes.all l c.args.index) c.node_of.ensures

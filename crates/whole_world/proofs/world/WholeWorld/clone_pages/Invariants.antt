@@ -10,5 +10,5 @@ abbrev pub invariant-loop-p : goal.invariant-loop-p
 invariant-loop-p l = record {
   whole : IsWhole (seen l.self).size.pages l.row;
   context : context_of l.row
-      ≡ with_cells (is_below kind.Page l.p) (clone_cells (seen l.self) l.c l.job l.spec l.rest) (context_of l.initial.row);
+      ≡ with_cells (is_below kind.Page l.p) (clone_cells (seen l.self) l.context l.job l.spec l.rest) (context_of l.initial.row);
 }

@@ -7,8 +7,8 @@ use Rattle.whole_world.proofs.world.WholeWorld.clone_ranges.Goals as goal
 
 pub returns : goal.returns
 returns c = λ job.
-    let after = side_after_clone (seen c.args.self.now) c.args.c c.args.spec.now in
-    let made = side_in_clone (seen c.args.self.now) c.args.c c.args.spec.now in
-    ranges-both (seen c.args.self.now) c.args.c (fresh-seen c.args.self.now) job c.args.spec.now c.requires.live c.requires.within _ _
+    let after = side_after_clone (seen c.args.self.now) c.args.context c.args.spec.now in
+    let made = side_in_clone (seen c.args.self.now) c.args.context c.args.spec.now in
+    ranges-both (seen c.args.self.now) c.args.context (fresh-seen c.args.self.now) job c.args.spec.now c.requires.live c.requires.within _ _
     (c.count_ranges.ensures after (λ p h within post. search of_calls) ∙ ap (λ n. count_of_ranges n after) c.page_count-pages.ensures)
     (c.count_ranges-2.ensures made (λ p h within post. search of_calls) ∙ ap (λ n. count_of_ranges n made) c.page_count-pages.ensures)

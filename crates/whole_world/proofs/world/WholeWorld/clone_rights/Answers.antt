@@ -12,5 +12,5 @@ pub loop-p-preserved : goal.loop-p-preserved
 loop-p-preserved c = record {
   whole = still_whole _ _ _ c.loop-p.invariant.whole c.set_right.ensures.size;
   context = with_rights-next c.loop-p.p _ _ _ _ _ c.loop-p.invariant.context
-      (c.cloned_right.ensures ∙ ap (cloned_right (seen c.args.self.now) c.args.c c.loop-p.p) c.mode_or-mode.ensures) c.set_right.ensures.context;
+      (c.cloned_right.ensures ∙ ap (cloned_right (seen c.args.self.now) c.args.context c.loop-p.p) c.mode_or-mode.ensures) c.set_right.ensures.context;
 }

@@ -13,5 +13,5 @@ abbrev pub invariant-loop-p : goal.invariant-loop-p
 invariant-loop-p l = record {
   whole : IsWhole (seen l.self).size.pages l.row;
   context : context_of l.row
-      ≡ with_rights l.p (λ p. cloned_right (seen l.self) l.c p (unwrap_or (mode l.spec (Page p)) l.rest)) (context_of l.initial.row);
+      ≡ with_rights l.p (λ p. cloned_right (seen l.self) l.context p (unwrap_or (mode l.spec (Page p)) l.rest)) (context_of l.initial.row);
 }

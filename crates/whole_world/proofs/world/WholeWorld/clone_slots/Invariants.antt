@@ -10,5 +10,5 @@ abbrev pub invariant-loop-n : goal.invariant-loop-n
 invariant-loop-n l = record {
   whole : IsWhole (seen l.self).size.pages l.row;
   context : context_of l.row
-      ≡ with_cells (is_below kind.Slot l.n) (clone_cells (seen l.self) l.c l.job l.spec l.rest) (context_of l.initial.row);
+      ≡ with_cells (is_below kind.Slot l.n) (clone_cells (seen l.self) l.context l.job l.spec l.rest) (context_of l.initial.row);
 }

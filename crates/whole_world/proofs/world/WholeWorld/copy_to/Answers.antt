@@ -6,5 +6,5 @@ use Rattle.lwc_types.proofs.Small.{filled_from}
 
 pub returns : goal.returns
 returns c =
-    filled_from (byte_at (seen c.args.self.now) c.args.c) c.args.at _ c.loop-i.out c.loop-i.auto.out
+    filled_from (byte_at (seen c.args.self.now) c.args.context) c.args.at _ c.loop-i.out c.loop-i.auto.out
     (λ k h. c.loop-i.invariant k (omega (arith, c.loop-i-test.false)))

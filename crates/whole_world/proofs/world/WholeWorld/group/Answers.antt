@@ -10,13 +10,13 @@ use Rattle.whole_world.proofs.world.WholeWorld.group.Goals as goal
 pub returns-clause-found : goal.returns-clause-found
 unfolding seen
 returns-clause-found c =
-    if_found (λ row. group (seen c.args.self.now) c.args.g ≡ group_of row) _ _ c.get.ensures (group-found _ _ _ _ c.args.self.now.sound c.args.g)
+    if_found (λ row. group (seen c.args.self.now) c.args.group_name ≡ group_of row) _ _ c.get.ensures (group-found _ _ _ _ c.args.self.now.sound c.args.group_name)
 
 pub returns-clause-whole : goal.returns-clause-whole
 unfolding seen world_of
 returns-clause-whole c =
-    if_found (IsWholeGroup (seen c.args.self.now).size.pages) _ _ c.get.ensures (whole_group-found _ _ _ _ c.args.self.now.sound c.args.g)
+    if_found (IsWholeGroup (seen c.args.self.now).size.pages) _ _ c.get.ensures (whole_group-found _ _ _ _ c.args.self.now.sound c.args.group_name)
 
 pub returns-clause-missed : goal.returns-clause-missed
 unfolding seen
-returns-clause-missed c = if_missed _ _ _ c.get.ensures (group-missed _ _ _ _ c.args.self.now.sound c.args.g)
+returns-clause-missed c = if_missed _ _ _ c.get.ensures (group-missed _ _ _ _ c.args.self.now.sound c.args.group_name)

@@ -7,6 +7,6 @@ use Rattle.whole_world.proofs.world.WholeWorld.map_ranges.Goals as goal
 
 pub returns : goal.returns
 returns c =
-    let after = side_after_map (seen c.args.self.now) c.args.c c.args.range.from c.args.range.to c.args.present in
+    let after = side_after_map (seen c.args.self.now) c.args.context c.args.range.from c.args.range.to c.args.present in
     c.count_ranges.ensures after (λ p h within post. search of_calls) ∙ ap (λ n. count_of_ranges n after) c.page_count.ensures
-    ∙ sym (ranges-mapped _ c.args.c (fresh-seen c.args.self.now) c.args.range.from c.args.range.to c.args.present c.requires)
+    ∙ sym (ranges-mapped _ c.args.context (fresh-seen c.args.self.now) c.args.range.from c.args.range.to c.args.present c.requires)

@@ -29,11 +29,11 @@ unfolding put_at
 returns-in-Group c =
     let is_row = subst (λ k. c.holder.result ≡ holder_of k ((context_of c.row.result.now).cell k)) c.key.ensures c.holder.ensures in
     let is_here = ap (λ (x : Context). holder_of (key_in c.args.value) (x.cell (key_in c.args.value))) c.row.ensures.context ∙ sym is_row ∙ c.in-Group.is in
-    c.put_common.ensures ∙ sym (put-group (seen c.args.self.now) c.args.c (key_in c.args.value) (value_in c.args.value) _ c.in-Group.g is_here)
+    c.put_common.ensures ∙ sym (put-group (seen c.args.self.now) c.args.context (key_in c.args.value) (value_in c.args.value) _ c.in-Group.g is_here)
 
 pub returns-in-Nobody : goal.returns-in-Nobody
 unfolding put_at
 returns-in-Nobody c =
     let is_row = subst (λ k. c.holder.result ≡ holder_of k ((context_of c.row.result.now).cell k)) c.key.ensures c.holder.ensures in
     let is_here = ap (λ (x : Context). holder_of (key_in c.args.value) (x.cell (key_in c.args.value))) c.row.ensures.context ∙ sym is_row in
-    sym (put-nobody (seen c.args.self.now) c.args.c (key_in c.args.value) (value_in c.args.value) _ (is-nobody (key_in c.args.value) _ _ is_here c.in-Nobody.is))
+    sym (put-nobody (seen c.args.self.now) c.args.context (key_in c.args.value) (value_in c.args.value) _ (is-nobody (key_in c.args.value) _ _ is_here c.in-Nobody.is))

@@ -13,7 +13,7 @@ use Rattle.whole_world.proofs.world.WholeWorld.put_own.Goals as goal
 pub put-requires : goal.put-requires
 unfolding seen world_of
 put-requires c =
-    let whole = whole-at _ _ _ _ c.args.self.now.sound c.args.c c.in-Some.i _ (sym c.position.ensures ∙ c.in-Some.is) c.index_mut.ensures.value in
+    let whole = whole-at _ _ _ _ c.args.self.now.sound c.args.of_context c.in-Some.i _ (sym c.position.ensures ∙ c.in-Some.is) c.index_mut.ensures.value in
     has_key _ _ _ (key_in c.args.value) whole.pages whole.slots c.requires.within
 
 pub invariant_of-self : goal.invariant_of-self
@@ -21,21 +21,21 @@ unfolding seen put_at
 invariant_of-self c =
     let found = sym c.position.ensures ∙ c.in-Some.is in
     record {
-      sound = sound-at _ _ _ _ c.args.self.now.sound c.args.c c.in-Some.i _ found c.index_mut.ensures.value c.put.new.self (with_cell (key_in c.args.value) (Own (value_in c.args.value)))
+      sound = sound-at _ _ _ _ c.args.self.now.sound c.args.of_context c.in-Some.i _ found c.index_mut.ensures.value c.put.new.self (with_cell (key_in c.args.value) (Own (value_in c.args.value)))
           c.put.ensures.context
-          (still_whole _ _ _ (whole-at _ _ _ _ c.args.self.now.sound c.args.c c.in-Some.i _ found c.index_mut.ensures.value) c.put.ensures.size)
-          (subst IsFresh (put-own _ c.args.c (key_in c.args.value) (value_in c.args.value) _ c.requires.own)
-          (stays_fresh.put _ c.args.c (key_in c.args.value) (value_in c.args.value) c.args.self.now.sound.fresh));
+          (still_whole _ _ _ (whole-at _ _ _ _ c.args.self.now.sound c.args.of_context c.in-Some.i _ found c.index_mut.ensures.value) c.put.ensures.size)
+          (subst IsFresh (put-own _ c.args.of_context (key_in c.args.value) (value_in c.args.value) _ c.requires.own)
+          (stays_fresh.put _ c.args.of_context (key_in c.args.value) (value_in c.args.value) c.args.self.now.sound.fresh));
     }
 
 pub returns-in-Some : goal.returns-in-Some
 unfolding seen put_at
 returns-in-Some c =
-    change_context-at _ _ _ _ c.args.self.now.sound c.args.c c.in-Some.i _ (sym c.position.ensures ∙ c.in-Some.is) c.index_mut.ensures.value c.put.new.self _ c.put.ensures.context
-    ∙ sym (put-own _ c.args.c (key_in c.args.value) (value_in c.args.value) _ c.requires.own)
+    change_context-at _ _ _ _ c.args.self.now.sound c.args.of_context c.in-Some.i _ (sym c.position.ensures ∙ c.in-Some.is) c.index_mut.ensures.value c.put.new.self _ c.put.ensures.context
+    ∙ sym (put-own _ c.args.of_context (key_in c.args.value) (value_in c.args.value) _ c.requires.own)
 
 pub returns-in-None : goal.returns-in-None
 unfolding seen put_at
 returns-in-None c =
-    change_context-missed _ _ _ _ c.args.self.now.sound c.args.c _ (sym c.position.ensures ∙ c.in-None.is)
-    ∙ sym (put-own _ c.args.c (key_in c.args.value) (value_in c.args.value) _ c.requires.own)
+    change_context-missed _ _ _ _ c.args.self.now.sound c.args.of_context _ (sym c.position.ensures ∙ c.in-None.is)
+    ∙ sym (put-own _ c.args.of_context (key_in c.args.value) (value_in c.args.value) _ c.requires.own)

@@ -9,15 +9,15 @@ use Rattle.whole_world.proofs.world.WholeWorld.put_pages.Goals as goal
 
 pub loop-p-preserved : goal.loop-p-preserved
 loop-p-preserved c = record {
-  left = ap (λ w. put_pages w c.args.c c.next.new.self.rest.items) c.put.ensures
-      ∙ ap (put_pages (seen c.loop-p.self) c.args.c) (sym c.in-Some.ensures.steps.0)
+  left = ap (λ w. put_pages w c.args.context c.next.new.self.rest.items) c.put.ensures
+      ∙ ap (put_pages (seen c.loop-p.self) c.args.context) (sym c.in-Some.ensures.steps.0)
       ∙ c.loop-p.invariant.left;
-  live = ap (λ w. is_live w c.args.c) c.put.ensures
-      ∙ (changes.put (seen c.loop-p.self) c.args.c (Page c.in-Some.p) (Some c.in-Some.value)).live c.args.c
+  live = ap (λ w. is_live w c.args.context) c.put.ensures
+      ∙ (changes.put (seen c.loop-p.self) c.args.context (Page c.in-Some.p) (Some c.in-Some.value)).live c.args.context
       ∙ c.loop-p.invariant.live;
 }
 
 pub returns : goal.returns
 returns c =
-    sym (ap (put_pages (seen c.loop-p.self) c.args.c) (nil_from_length c.loop-p.p-iterator.rest.items (sym c.loop-p.p-iterator.rest.ok.0 ∙ c.in-None.ensures.steps.0)))
+    sym (ap (put_pages (seen c.loop-p.self) c.args.context) (nil_from_length c.loop-p.p-iterator.rest.items (sym c.loop-p.p-iterator.rest.ok.0 ∙ c.in-None.ensures.steps.0)))
     ∙ c.loop-p.invariant.left

@@ -8,12 +8,12 @@ use Rattle.whole_world.proofs.world.WholeWorld.row.Goals as goal
 
 pub unreachable-requires : goal.unreachable-requires
 unfolding seen
-unreachable-requires c = false≢true (sym (dead-missed _ _ _ _ c.args.self.now.sound c.args.c (sym c.get.ensures ∙ ap option_copied c.in-None.is)) ∙ c.requires)
+unreachable-requires c = false≢true (sym (dead-missed _ _ _ _ c.args.self.now.sound c.args.of_context (sym c.get.ensures ∙ ap option_copied c.in-None.is)) ∙ c.requires)
 
 pub returns-clause-context : goal.returns-clause-context
 unfolding seen
-returns-clause-context c = context-found _ _ _ _ c.args.self.now.sound c.args.c _ (sym c.get.ensures ∙ ap option_copied c.in-Some.is)
+returns-clause-context c = context-found _ _ _ _ c.args.self.now.sound c.args.of_context _ (sym c.get.ensures ∙ ap option_copied c.in-Some.is)
 
 pub returns-clause-whole : goal.returns-clause-whole
 unfolding seen world_of
-returns-clause-whole c = whole-found _ _ _ _ c.args.self.now.sound c.args.c _ (sym c.get.ensures ∙ ap option_copied c.in-Some.is)
+returns-clause-whole c = whole-found _ _ _ _ c.args.self.now.sound c.args.of_context _ (sym c.get.ensures ∙ ap option_copied c.in-Some.is)

@@ -25,13 +25,13 @@ move_out-requires-clause-whole c =
 
 pub move_out-requires-clause-live : goal.move_out-requires-clause-live
 move_out-requires-clause-live c =
-    counted-live (seen c.args.self.now) (seen c.count_group.new.self) c.args.job c.count_group.ensures.world c.args.c ∙ c.requires.live
+    counted-live (seen c.args.self.now) (seen c.count_group.new.self) c.args.job c.count_group.ensures.world c.args.context ∙ c.requires.live
 
 pub insert-requires-clause-new : goal.insert-requires-clause-new
 unfolding seen
 insert-requires-clause-new c =
     missed-group _ _ _ _ c.move_out.new.self.sound c.next_group-name.result
-    (left-new (seen c.args.self.now) (seen c.count_group.new.self) c.args.job c.count_group.ensures.world (seen c.move_out.new.self) c.args.c _ c.move_out.ensures.world
+    (left-new (seen c.args.self.now) (seen c.count_group.new.self) c.args.job c.count_group.ensures.world (seen c.move_out.new.self) c.args.context _ c.move_out.ensures.world
     c.next_group-name.result (fresh-seen c.args.self.now) c.next_group-name.ensures)
 
 pub invariant_of-self : goal.invariant_of-self
@@ -40,13 +40,13 @@ invariant_of-self c =
     let old = seen c.args.self.now in
     let counted = seen c.count_group.new.self in
     let left = c.move_out.new.self in
-    let same = ap fm.len (left-groups old counted c.args.job c.count_group.ensures.world (seen left) c.args.c _ c.move_out.ensures.world) in
+    let same = ap fm.len (left-groups old counted c.args.job c.count_group.ensures.world (seen left) c.args.context _ c.move_out.ensures.world) in
     let counted_size = counted-size old counted c.args.job c.count_group.ensures.world in
-    let size = left-size old counted c.args.job c.count_group.ensures.world (seen left) c.args.c _ c.move_out.ensures.world in
+    let size = left-size old counted c.args.job c.count_group.ensures.world (seen left) c.args.context _ c.move_out.ensures.world in
     record {
       sound = subst (λ (rows : List (Name × GroupRow)). IsSound left.size left.contexts.rows.items rows left.counts.items) (sym c.insert.ensures)
           (sound-added_group _ _ _ _ left.sound c.next_group-name.result c.move_out.new.group
-          (left-named old counted c.args.job c.count_group.ensures.world (seen left) c.args.c _ c.move_out.ensures.world c.next_group-name.result c.next_group-name.ensures)
+          (left-named old counted c.args.job c.count_group.ensures.world (seen left) c.args.context _ c.move_out.ensures.world c.next_group-name.result c.next_group-name.ensures)
           (subst (λ (s : WorldSize). IsWholeGroup s.pages c.move_out.new.group) (counted_size ∙ sym size) c.move_out.ensures.whole)
           (omega (arith, same, ap (λ (s : WorldSize). s.groups) size, c.requires.place)));
     }
@@ -55,7 +55,7 @@ pub returns-clause-world : goal.returns-clause-world
 unfolding seen
 returns-clause-world c =
     let left = c.move_out.new.self in
-    share-steps (seen c.args.self.now) (seen c.count_group.new.self) (seen left) _ c.args.c c.args.job c.args.spec.now
+    share-steps (seen c.args.self.now) (seen c.count_group.new.self) (seen left) _ c.args.context c.args.job c.args.spec.now
     c.next_group-name.result _ c.requires.needed c.next_group-name.ensures c.move_out.ensures.group
     c.count_group.ensures.world c.move_out.ensures.world
     (ap (λ (rows : List (Name × GroupRow)). world_of left.size left.contexts.rows.items rows left.counts.items) c.insert.ensures

@@ -15,7 +15,7 @@ use Rattle.whole_world.proofs.world.WholeWorld.stored_pages.Goals as goal
 
 pub loop-p-init : goal.loop-p-init
 loop-p-init c = record {
-  put_so_far = ap (λ vs. vs ++ stored_pages (seen c.args.self.now) c.args.c c.args.job (record { at = c.args.at; bytes = c.args.piece.now }) c.counts_of-k.result.tags (range_with_len c.args.pages.from (c.args.pages.to - c.args.pages.from))) c.new-values.ensures.items;
+  put_so_far = ap (λ vs. vs ++ stored_pages (seen c.args.self.now) c.args.context c.args.job (record { at = c.args.at; bytes = c.args.piece.now }) c.counts_of-k.result.tags (range_with_len c.args.pages.from (c.args.pages.to - c.args.pages.from))) c.new-values.ensures.items;
   few = omega arith;
 }
 
@@ -31,8 +31,8 @@ pub loop-p-preserved : goal.loop-p-preserved
 loop-p-preserved c =
     let one : c.from-k.result ≤ 1 = subst (λ n. n ≤ 1) (sym c.from-k.ensures) (at_most_one c.is_parting-parting.result) in
     record {
-      put_so_far = ap (λ vs. vs ++ stored_pages (seen c.args.self.now) c.args.c c.args.job (record { at = c.args.at; bytes = c.args.piece.now }) (c.loop-p.k + c.from-k.result) (range_with_len (c.loop-p.p + 1) (c.args.pages.to - (c.loop-p.p + 1)))) c.in_ok-push.ensures.items
-          ∙ plan_more (seen c.args.self.now) c.args.c c.args.job (record { at = c.args.at; bytes = c.args.piece.now }) c.loop-p.k (c.loop-p.k + c.from-k.result) c.loop-p.p c.args.pages.to c.loop-p.values.items
+      put_so_far = ap (λ vs. vs ++ stored_pages (seen c.args.self.now) c.args.context c.args.job (record { at = c.args.at; bytes = c.args.piece.now }) (c.loop-p.k + c.from-k.result) (range_with_len (c.loop-p.p + 1) (c.args.pages.to - (c.loop-p.p + 1)))) c.in_ok-push.ensures.items
+          ∙ plan_more (seen c.args.self.now) c.args.context c.args.job (record { at = c.args.at; bytes = c.args.piece.now }) c.loop-p.k (c.loop-p.k + c.from-k.result) c.loop-p.p c.args.pages.to c.loop-p.values.items
           c.is_parting-parting.result c.in_ok-value.value (unwrap_or (option_copied c.page_value.result) Zero)
           (omega (arith, c.loop-p-test.true)) c.is_parting-parting.ensures
           (ap (λ o. unwrap_or o Zero) c.page_value.ensures)
@@ -52,7 +52,7 @@ none_left w c job piece k p end front past =
 
 pub returns : goal.returns
 returns c =
-    sym (none_left (seen c.args.self.now) c.args.c c.args.job (record { at = c.args.at; bytes = c.args.piece.now }) c.loop-p.k c.loop-p.p c.args.pages.to c.loop-p.values.items c.loop-p-test.false)
+    sym (none_left (seen c.args.self.now) c.args.context c.args.job (record { at = c.args.at; bytes = c.args.piece.now }) c.loop-p.k c.loop-p.p c.args.pages.to c.loop-p.values.items c.loop-p-test.false)
     ∙ c.loop-p.invariant.put_so_far
-    ∙ ap (λ (n : Counters). stored_pages (seen c.args.self.now) c.args.c c.args.job (record { at = c.args.at; bytes = c.args.piece.now }) n.tags (range_with_len c.args.pages.from (c.args.pages.to - c.args.pages.from)))
+    ∙ ap (λ (n : Counters). stored_pages (seen c.args.self.now) c.args.context c.args.job (record { at = c.args.at; bytes = c.args.piece.now }) n.tags (range_with_len c.args.pages.from (c.args.pages.to - c.args.pages.from)))
     (sym c.counts_of-k.ensures)

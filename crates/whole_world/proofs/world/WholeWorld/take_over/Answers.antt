@@ -22,7 +22,7 @@ pub take_named-requires-clause-whole : goal.take_named-requires-clause-whole
 unfolding seen world_of
 take_named-requires-clause-whole c =
     subst (λ pages. IsWhole pages c.index_mut.result.now.1) (sym c.page_count-pages.ensures)
-    (whole-at _ _ _ _ c.args.self.now.sound c.args.c c.in-Some.i _ (sym c.position.ensures ∙ c.in-Some.is) c.index_mut.ensures.value)
+    (whole-at _ _ _ _ c.args.self.now.sound c.args.context c.in-Some.i _ (sym c.position.ensures ∙ c.in-Some.is) c.index_mut.ensures.value)
 
 pub invariant_of-self : goal.invariant_of-self
 unfolding seen world_of
@@ -30,19 +30,19 @@ invariant_of-self c =
     let found = sym c.position.ensures ∙ c.in-Some.is in
     let world = c.args.self.now.sound in
     record {
-      sound = sound-at _ _ _ _ world c.args.c c.in-Some.i _ found c.index_mut.ensures.value c.take_named.new.self (with_taken (is_named c.args.spec.now) (context_of c.args.row))
+      sound = sound-at _ _ _ _ world c.args.context c.in-Some.i _ found c.index_mut.ensures.value c.take_named.new.self (with_taken (is_named c.args.spec.now) (context_of c.args.row))
           c.take_named.ensures.context
-          (still_whole _ _ _ (whole-at _ _ _ _ world c.args.c c.in-Some.i _ found c.index_mut.ensures.value) c.take_named.ensures.size)
-          (stays_fresh.context_changed _ c.args.c (with_taken (is_named c.args.spec.now) (context_of c.args.row))
-          (λ live old. in_taken (named_groups (seen c.args.self.now).next) c.args.c.job (is_named c.args.spec.now) (context_of c.args.row) (context (seen c.args.self.now) c.args.c) c.requires.old_groups old) world.fresh);
+          (still_whole _ _ _ (whole-at _ _ _ _ world c.args.context c.in-Some.i _ found c.index_mut.ensures.value) c.take_named.ensures.size)
+          (stays_fresh.context_changed _ c.args.context (with_taken (is_named c.args.spec.now) (context_of c.args.row))
+          (λ live old. in_taken (named_groups (seen c.args.self.now).next) c.args.context.job (is_named c.args.spec.now) (context_of c.args.row) (context (seen c.args.self.now) c.args.context) c.requires.old_groups old) world.fresh);
     }
 
 pub unreachable-requires : goal.unreachable-requires
 unfolding seen
 unreachable-requires c =
-    false≢true (sym (dead-missed _ _ _ _ c.args.self.now.sound c.args.c (nothing-at c.args.c c.args.self.now.contexts.rows.items (sym c.position.ensures ∙ c.in-None.is))) ∙ c.requires.live)
+    false≢true (sym (dead-missed _ _ _ _ c.args.self.now.sound c.args.context (nothing-at c.args.context c.args.self.now.contexts.rows.items (sym c.position.ensures ∙ c.in-None.is))) ∙ c.requires.live)
 
 pub returns : goal.returns
 unfolding seen
 returns c =
-    change_context-at _ _ _ _ c.args.self.now.sound c.args.c c.in-Some.i _ (sym c.position.ensures ∙ c.in-Some.is) c.index_mut.ensures.value c.take_named.new.self _ c.take_named.ensures.context
+    change_context-at _ _ _ _ c.args.self.now.sound c.args.context c.in-Some.i _ (sym c.position.ensures ∙ c.in-Some.is) c.index_mut.ensures.value c.take_named.new.self _ c.take_named.ensures.context
