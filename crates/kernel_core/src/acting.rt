@@ -41,7 +41,7 @@ pub struct Effect {
 
 impl Effect {
     /// The effect of a step that finishes no request.
-    fn of(change: Change) -> Effect
+    fn only(change: Change) -> Effect
         ensures { result ≡ record { change = change; finished = None } }
     {
         Effect {
@@ -130,7 +130,7 @@ fn settle<W: World>(
                 finished: Some(r),
             }
         }
-        _ => Effect::of(change),
+        _ => Effect::only(change),
     }
 }
 
@@ -172,11 +172,11 @@ fn wake<W: World>(
                 budget: serve.budget,
             };
             serve.next = r + 1;
-            Ok(Effect::of(Change::Links))
+            Ok(Effect::only(Change::Links))
         }
         _ => {
             thread.finish(0);
-            Ok(Effect::of(Change::Thread))
+            Ok(Effect::only(Change::Thread))
         }
     }
 }

@@ -150,7 +150,7 @@ fn call_syscall<W: World>(
     ensures err_thread { OnErr result (thread.new ≡ thread.old) }
     ensures ample { W.roomy ≡ true → IsOk result }
 {
-    let accepted = change_by_plain(PlainCall::of(thread.regs.r[3]));
+    let accepted = change_by_plain(PlainCall::from_number(thread.regs.r[3]));
     let answer = lw_syscall(world, io, thread.context, thread.job, &thread.regs)?;
     Ok(end_plain(thread, answer, accepted))
 }
@@ -181,7 +181,7 @@ fn call_plain<W: World>(
         cred: c,
     };
     let args = [thread.regs.r[1], thread.regs.r[2], thread.regs.r[3]];
-    let call = PlainCall::of(u64::from(number));
+    let call = PlainCall::from_number(u64::from(number));
     let answer = plain(world, io, &targets, thread.job, call, args)?;
     Ok(end_plain(thread, answer, change_by_plain(call)))
 }

@@ -77,7 +77,7 @@ impl Serve {
         ensures { self.new ≡ spec.with_reply self.old
             (record { request = request_number; status = status; bytes = bytes_in io.now.replies request_number }) }
     {
-        self.replies[usize::from(request_number)] = Some(Recorded::of(io, request_number, status));
+        self.replies[usize::from(request_number)] = Some(Recorded::new(io, request_number, status));
     }
 
     /// What is recorded of a request; `None` if it is not finished.

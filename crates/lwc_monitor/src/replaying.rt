@@ -30,13 +30,9 @@ pub fn monitor_replay<W: World>(
         text.items ≡ monitored_text (inputs_of image.now [] settings.now) schedule.now) }
 {
     let steps = schedule.len() as u32;
-    match Monitored::<W>::open(alloc, image, steps, settings) {
-        Ok(mut run) => {
-            make_steps(&mut run, schedule)?;
-            run.report(alloc)
-        }
-        Err(_) => Err(OutOfMemory),
-    }
+    let mut run: Monitored<W> = Monitored::open(alloc, image, steps, settings)?;
+    make_steps(&mut run, schedule)?;
+    run.report(alloc)
 }
 
 /// Makes the steps of the schedule, one after another.

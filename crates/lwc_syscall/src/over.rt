@@ -39,7 +39,14 @@ pub fn lw_syscall<W: World>(
         Err(refusal) => return Ok(CallAnswer::Refused(refusal)),
     };
     let args = [regs.r[4], regs.r[5], regs.r[6]];
-    plain(world, io, &targets, job, PlainCall::of(regs.r[3]), args)
+    plain(
+        world,
+        io,
+        &targets,
+        job,
+        PlainCall::from_number(regs.r[3]),
+        args,
+    )
 }
 
 /// The contexts of the inner call, or the first refusal before it is looked at.

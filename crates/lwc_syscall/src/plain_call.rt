@@ -19,7 +19,7 @@ pub enum PlainCall {
 impl PlainCall {
     /// The plain call of a number, 1 to 10; no other number has one.
     #[inline(always)]
-    pub fn of(number: u64) -> Option<PlainCall>
+    pub fn from_number(number: u64) -> Option<PlainCall>
         ensures { result ≡ spec.plain_call number }
     {
         match number {

@@ -71,7 +71,7 @@ fn threads_text<W: World>(alloc: Global, kernel: &Kernel<W>) -> Result<Vec<u8>, 
     ensures { IfOk result (λ text. text.items ≡ threads_text (machine_of kernel.now)) }
 {
     let mut text = Vec::new(alloc);
-    'threads: for t in 0..k.thread_count() {
+    'threads: for t in 0..kernel.thread_count() {
         thread_lines(&mut text, t, &kernel.thread(t))?;
     }
     Ok(text)
@@ -111,7 +111,7 @@ fn each_context_line<W: World>(out: &mut Vec<u8>, world: &W) -> Result<(), OutOf
 fn reply_lines<W: World>(out: &mut Vec<u8>, kernel: &Kernel<W>) -> Result<(), OutOfMemory>
     ensures { OnOk result (out.new.items ≡ out.old.items ++ replies_text (machine_of kernel.now)) }
 {
-    'requests: for r in 0..k.request_count() as u16 {
+    'requests: for r in 0..kernel.request_count() as u16 {
         reply_line(out, r, kernel.reply(r))?;
     }
     Ok(())

@@ -83,19 +83,3 @@ keeps_secret inputs v schedule can = record {
     text = schedule-handed inputs v other schedule can shape hand;
   };
 }
-
--- and where the pages of a run's image and of a vault fit the frames
-pub keeps_secret_of : (image : Image) (v : Vault) (settings : Settings) (schedule : List ℕ) → IsImage image → CanKeep image settings.job v → IsSettings settings → (settings.frames < length image.pages + length v.pages → ⊥) →
-    KeepsSecret (record { image = image; vault = None; requests = []; settings = settings }) v schedule
-keeps_secret_of image v settings schedule is keep limits never =
-    keeps_secret (record { image = image; vault = None; requests = []; settings = settings }) v schedule (record {
-      image = is;
-      vault = keep;
-      settings = limits;
-      fits = fits_by (ltb settings.frames (length image.pages + length v.pages)) refl;
-      requests = subst (λ (job : Job). MayHave job []) (sym keep.run) refl;
-    })
-  where
-    fits_by : (b : Bool) → ltb settings.frames (length image.pages + length v.pages) ≡ b → length image.pages + length v.pages ≤ settings.frames
-    fits_by true less = absurd (never (grind (arith, nat_tests)))
-    fits_by false low = grind (arith, nat_tests)

@@ -25,7 +25,7 @@ impl Model for ReplyBytes {
 
 impl ReplyBytes {
     /// These bytes, which are copied. It takes no memory.
-    pub fn of(bytes: &[u8]) -> ReplyBytes
+    pub fn from_slice(bytes: &[u8]) -> ReplyBytes
         requires { length bytes.now ≤ MOST_REPLY_BYTES }
         ensures { result ≡ bytes.now }
     {
@@ -118,7 +118,7 @@ impl<'a> FinishedView<'a> {
         Finished {
             request: self.request,
             status: self.status,
-            bytes: ReplyBytes::of(self.bytes),
+            bytes: ReplyBytes::from_slice(self.bytes),
         }
     }
 
@@ -147,6 +147,6 @@ pub fn finish(io: &Channels, request_number: u16, status: ThreadStatus) -> Finis
     Finished {
         request: request_number,
         status,
-        bytes: ReplyBytes::of(io.reply(request_number)),
+        bytes: ReplyBytes::from_slice(io.reply(request_number)),
     }
 }

@@ -37,7 +37,7 @@ impl Model for Recorded {
 impl Recorded {
     /// What is kept of a request, whose thread has ended with a status: the bytes are those written so far.
     /// It copies none of them.
-    pub fn of(io: &Channels, request_number: u16, status: ThreadStatus) -> Recorded
+    pub fn new(io: &Channels, request_number: u16, status: ThreadStatus) -> Recorded
         requires { request_number < length io.now.requests }
         ensures { result
             ≡ record { request = request_number; status = status; bytes = bytes_in io.now.replies request_number } }

@@ -15,4 +15,4 @@ returns-clause-kept g c =
     (λ is. subst (λ (v : World). LeavesNothing (g.W.World.seen c.args.world.now) c.args.thread.now.context v c.args.thread.now.context) made
     (cuts_leaves _ c.args.thread.now.context _ _ _ (syscall-cuts _ _ _ _ _ is)))
     (λ refusal is. sym made ∙ (syscall-done _ _ _ _ _ refusal (ap (λ (o : Outcome). o.answer) c.in_ok-answer.ensures.done ∙ is)).0)
-    (c.end_plain.ensures.change ∙ ap (change_by_end c.in_ok-answer.answer) (c.change_by_plain-accepted.ensures ∙ ap change_by_plain c.of.ensures)) c.end_plain.ensures.thread
+    (c.end_plain.ensures.change ∙ ap (change_by_end c.in_ok-answer.answer) (c.change_by_plain-accepted.ensures ∙ ap change_by_plain c.from_number.ensures)) c.end_plain.ensures.thread

@@ -22,7 +22,7 @@ empty-entries-links-requires t c = let l = (c.requires.loose c.args.node.n refl)
 
 pub empty-entries-init : goal.empty-entries-init
 empty-entries-init t c =
-    let first = c.next_link-index.ensures in
+    let first = c.next_link-i.ensures in
     record {
       inside = first.order.1;
       link = first.some;
@@ -42,11 +42,11 @@ empty-returns-else-count-eq1-clause-lone t c = lone-same _ _ _ _ (λ x. refl)
 pub empty-entries-preserved : goal.empty-entries-preserved
 empty-entries-preserved t c =
     let inv = c.entries.invariant in
-    let next = c.next_link-index-in-entries.ensures in
-    let link = get_or c.entries-links.result c.entries.index 0 in
+    let next = c.next_link-i-in-entries.ensures in
+    let link = get_or c.entries-links.result c.entries.i 0 in
     let there = λ (k : ℕ). ap (λ links. get_or links k 0) c.entries-links.ensures in
-    let link-now : entry_of c.entries.self.nodes.all c.args.node.n c.entries.index ≡ link = inv.rest c.entries.index (omega arith) ∙ sym (there c.entries.index) in
-    let narrow : c.args.level ≡ 3 → 16 ≤ c.entries.index → link ≡ 0 = λ top past. sym link-now ∙ inv.sound.narrow c.args.node.n c.entries.index (inv.own.level_is ∙ top) past in
+    let link-now : entry_of c.entries.self.nodes.all c.args.node.n c.entries.i ≡ link = inv.rest c.entries.i (omega arith) ∙ sym (there c.entries.i) in
+    let narrow : c.args.level ≡ 3 → 16 ≤ c.entries.i → link ≡ 0 = λ top past. sym link-now ∙ inv.sound.narrow c.args.node.n c.entries.i (inv.own.level_is ∙ top) past in
     let put = c.put.ensures in
     record {
       inside = next.order.1;
@@ -60,14 +60,14 @@ empty-entries-preserved t c =
           (λ off. put.others k off ∙ ⊎_elim
           (λ before. inv.done k before)
           (λ from. inv.rest k from ∙ sym (there k) ∙ next.none k (omega (arith, from, off)) lt)
-          (cases_lt k c.entries.index))
-          (cases_eq k c.entries.index);
+          (cases_lt k c.entries.i))
+          (cases_eq k c.entries.i);
       rest = λ k past. put.others k (λ is. absurd (omega (arith, is, past, next.order.0))) ∙ inv.rest k (omega (arith, past, next.order.0));
       free = omega (arith, inv.free, put.free);
       lone = lone-trans _ _ _ _ _ _ _ (is_root (c.args.node.n + 1)) (is_root (c.args.node.n + 1)) none_shared _ c.requires.sound inv.moves inv.lone put.lone (λ t m _ _ shared. absurd (omega (arith, shared.1)));
-      cost = passed-steps (c.entries.index + 1) c.next_link-index-in-entries.result (entries_in c.args.level) (most_nodes (c.args.level - 1)) c.args.self.now.nodes.steps c.put.new.self.nodes.steps next.order.0
-          (more-steps c.entries.index (entries_in c.args.level) (most_nodes (c.args.level - 1)) c.args.self.now.nodes.steps c.entries.self.nodes.steps c.put.new.self.nodes.steps inv.cost (put.cost_none refl)
-          (λ past. absurd (inv.link (omega (arith, c.entries-test.true)) (unused c.args.level c.entries.index link narrow (omega (arith, c.entries-test.true)) past))));
+      cost = passed-steps (c.entries.i + 1) c.next_link-i-in-entries.result (entries_in c.args.level) (most_nodes (c.args.level - 1)) c.args.self.now.nodes.steps c.put.new.self.nodes.steps next.order.0
+          (more-steps c.entries.i (entries_in c.args.level) (most_nodes (c.args.level - 1)) c.args.self.now.nodes.steps c.entries.self.nodes.steps c.put.new.self.nodes.steps inv.cost (put.cost_none refl)
+          (λ past. absurd (inv.link (omega (arith, c.entries-test.true)) (unused c.args.level c.entries.i link narrow (omega (arith, c.entries-test.true)) past))));
     }
 
 pub release-returns-then-link-ne0-clause-moves : goal.release-returns-then-link-ne0-clause-moves
@@ -79,42 +79,42 @@ pub put-returns-else-level-eq-LEAF_LEVEL-clause-moves : goal.put-returns-else-le
 put-returns-else-level-eq-LEAF_LEVEL-clause-moves t c =
     let up : 1 < c.args.level = omega (arith, c.requires.low, c.if-level-eq-LEAF_LEVEL.false) in
     let swap = c.swap-old.ensures in
-    Moves-put c.args.level _ _ _ _ _ _ _ _ c.args.node.n c.args.index c.args.link up c.requires.place c.requires.sound c.requires.own (λ m is. (c.requires.held up m is).0)
+    Moves-put c.args.level _ _ _ _ _ _ _ _ c.args.node.n c.args.i c.args.link up c.requires.place c.requires.sound c.requires.own (λ m is. (c.requires.held up m is).0)
     c.hold_link.ensures.sound c.hold_link.ensures.moves (rw swap.was at swap.moves) swap.nodes swap.own swap.sound (rw swap.was at swap.loose) c.release.ensures.sound (rw swap.was at c.release.ensures.moves)
 
 pub put-returns-else-level-eq-LEAF_LEVEL-clause-sound : goal.put-returns-else-level-eq-LEAF_LEVEL-clause-sound
 put-returns-else-level-eq-LEAF_LEVEL-clause-sound t c =
     let up : 1 < c.args.level = omega (arith, c.requires.low, c.if-level-eq-LEAF_LEVEL.false) in
     let swap = c.swap-old.ensures in
-    IsSound-put c.args.level _ _ _ _ _ _ _ _ c.args.node.n c.args.index c.args.link up c.requires.place c.requires.sound c.requires.own (λ m is. (c.requires.held up m is).0)
+    IsSound-put c.args.level _ _ _ _ _ _ _ _ c.args.node.n c.args.i c.args.link up c.requires.place c.requires.sound c.requires.own (λ m is. (c.requires.held up m is).0)
     c.hold_link.ensures.sound c.hold_link.ensures.moves (rw swap.was at swap.moves) swap.nodes swap.own swap.sound (rw swap.was at swap.loose) c.release.ensures.sound (rw swap.was at c.release.ensures.moves)
 
 pub put-returns-else-level-eq-LEAF_LEVEL-clause-here : goal.put-returns-else-level-eq-LEAF_LEVEL-clause-here
 put-returns-else-level-eq-LEAF_LEVEL-clause-here t c =
     let up : 1 < c.args.level = omega (arith, c.requires.low, c.if-level-eq-LEAF_LEVEL.false) in
     let swap = c.swap-old.ensures in
-    here-put c.args.level _ _ _ _ _ _ _ _ c.args.node.n c.args.index c.args.link up c.requires.place c.requires.sound c.requires.own (λ m is. (c.requires.held up m is).0)
+    here-put c.args.level _ _ _ _ _ _ _ _ c.args.node.n c.args.i c.args.link up c.requires.place c.requires.sound c.requires.own (λ m is. (c.requires.held up m is).0)
     c.hold_link.ensures.sound c.hold_link.ensures.moves (rw swap.was at swap.moves) swap.nodes swap.own swap.sound (rw swap.was at swap.loose) c.release.ensures.sound (rw swap.was at c.release.ensures.moves)
 
 pub put-returns-else-level-eq-LEAF_LEVEL-clause-others : goal.put-returns-else-level-eq-LEAF_LEVEL-clause-others
 put-returns-else-level-eq-LEAF_LEVEL-clause-others t c =
     let up : 1 < c.args.level = omega (arith, c.requires.low, c.if-level-eq-LEAF_LEVEL.false) in
     let swap = c.swap-old.ensures in
-    others-put c.args.level _ _ _ _ _ _ _ _ c.args.node.n c.args.index c.args.link up c.requires.place c.requires.sound c.requires.own (λ m is. (c.requires.held up m is).0)
+    others-put c.args.level _ _ _ _ _ _ _ _ c.args.node.n c.args.i c.args.link up c.requires.place c.requires.sound c.requires.own (λ m is. (c.requires.held up m is).0)
     c.hold_link.ensures.sound c.hold_link.ensures.moves (rw swap.was at swap.moves) swap.nodes swap.own swap.sound (rw swap.was at swap.loose) c.release.ensures.sound (rw swap.was at c.release.ensures.moves)
 
 pub put-returns-else-level-eq-LEAF_LEVEL-clause-peers : goal.put-returns-else-level-eq-LEAF_LEVEL-clause-peers
 put-returns-else-level-eq-LEAF_LEVEL-clause-peers t c =
     let up : 1 < c.args.level = omega (arith, c.requires.low, c.if-level-eq-LEAF_LEVEL.false) in
     let swap = c.swap-old.ensures in
-    peers-put c.args.level _ _ _ _ _ _ _ _ c.args.node.n c.args.index c.args.link up c.requires.place c.requires.sound c.requires.own (λ m is. (c.requires.held up m is).0)
+    peers-put c.args.level _ _ _ _ _ _ _ _ c.args.node.n c.args.i c.args.link up c.requires.place c.requires.sound c.requires.own (λ m is. (c.requires.held up m is).0)
     c.hold_link.ensures.sound c.hold_link.ensures.moves (rw swap.was at swap.moves) swap.nodes swap.own swap.sound (rw swap.was at swap.loose) c.release.ensures.sound (rw swap.was at c.release.ensures.moves)
 
 pub put-returns-else-level-eq-LEAF_LEVEL-clause-there : goal.put-returns-else-level-eq-LEAF_LEVEL-clause-there
 put-returns-else-level-eq-LEAF_LEVEL-clause-there t c =
     let up : 1 < c.args.level = omega (arith, c.requires.low, c.if-level-eq-LEAF_LEVEL.false) in
     let swap = c.swap-old.ensures in
-    there-put c.args.level _ _ _ _ _ _ _ _ c.args.node.n c.args.index c.args.link up c.requires.place c.requires.sound c.requires.own (λ m is. (c.requires.held up m is).0)
+    there-put c.args.level _ _ _ _ _ _ _ _ c.args.node.n c.args.i c.args.link up c.requires.place c.requires.sound c.requires.own (λ m is. (c.requires.held up m is).0)
     c.hold_link.ensures.sound c.hold_link.ensures.moves (rw swap.was at swap.moves) swap.nodes swap.own swap.sound (rw swap.was at swap.loose) c.release.ensures.sound (rw swap.was at c.release.ensures.moves)
 
 pub put-returns-else-level-eq-LEAF_LEVEL-clause-free : goal.put-returns-else-level-eq-LEAF_LEVEL-clause-free
@@ -127,14 +127,14 @@ put-returns-then-level-eq-LEAF_LEVEL-clause-there t c = λ k q off.
     let new = c.write.new.self.nodes.all in
     let n = c.args.node.n in
     let one : c.args.level ≡ 1 = c.if-level-eq-LEAF_LEVEL.true in
-    let same : entry_of new n k ≡ entry_of old n k = ap (λ ns. entry_of ns n k) c.write.ensures.nodes ∙ there-entered c.args.level 1 old _ c.requires.sound n c.args.index _ (subst (λ l. IsOwned old l n) one c.requires.own) c.requires.place k off in
+    let same : entry_of new n k ≡ entry_of old n k = ap (λ ns. entry_of ns n k) c.write.ensures.nodes ∙ there-entered c.args.level 1 old _ c.requires.sound n c.args.i _ (subst (λ l. IsOwned old l n) one c.requires.own) c.requires.place k off in
     entry-cell new (c.args.level - 1) (entry_of new n k) q leaf ∙ same ∙ sym (entry-cell old (c.args.level - 1) (entry_of old n k) q leaf)
 
 pub put-returns-else-level-eq-LEAF_LEVEL-clause-lone : goal.put-returns-else-level-eq-LEAF_LEVEL-clause-lone
 put-returns-else-level-eq-LEAF_LEVEL-clause-lone t c =
     let up : 1 < c.args.level = omega (arith, c.requires.low, c.if-level-eq-LEAF_LEVEL.false) in
     let swap = c.swap-old.ensures in
-    lone-put c.args.level _ _ _ _ _ _ _ _ c.args.node.n c.args.index c.args.link up c.requires.place c.requires.sound c.requires.own (c.requires.held up)
+    lone-put c.args.level _ _ _ _ _ _ _ _ c.args.node.n c.args.i c.args.link up c.requires.place c.requires.sound c.requires.own (c.requires.held up)
     c.hold_link.ensures.sound c.hold_link.ensures.moves (rw swap.was at swap.moves) swap.nodes swap.own swap.sound (rw swap.was at swap.loose) c.release.ensures.sound (rw swap.was at c.release.ensures.moves)
     c.hold_link.ensures.lone (rw swap.was at c.release.ensures.lone)
 
@@ -142,7 +142,7 @@ pub put-returns-else-level-eq-LEAF_LEVEL-clause-rest : goal.put-returns-else-lev
 put-returns-else-level-eq-LEAF_LEVEL-clause-rest t c =
     let up : 1 < c.args.level = omega (arith, c.requires.low, c.if-level-eq-LEAF_LEVEL.false) in
     let swap = c.swap-old.ensures in
-    λ k from to off apart. rest-put c.args.level _ _ _ _ _ _ _ _ c.args.node.n c.args.index c.args.link up c.requires.place c.requires.sound c.requires.own (c.requires.held up)
+    λ k from to off apart. rest-put c.args.level _ _ _ _ _ _ _ _ c.args.node.n c.args.i c.args.link up c.requires.place c.requires.sound c.requires.own (c.requires.held up)
     c.hold_link.ensures.sound c.hold_link.ensures.moves (rw swap.was at swap.moves) swap.nodes swap.own swap.sound (rw swap.was at swap.loose) c.release.ensures.sound (rw swap.was at c.release.ensures.moves)
     c.hold_link.ensures.lone (rw swap.was at c.release.ensures.lone) k off apart from to
 
@@ -151,7 +151,7 @@ put-returns-then-level-eq-LEAF_LEVEL-clause-lone t c =
     let old = c.args.self.now.nodes.all in
     let n = c.args.node.n in
     lone-same old c.write.new.self.nodes.all (is_root (n + 1)) _
-    (λ x. ap (λ ns. count_of ns x) c.write.ensures.nodes ∙ count-entered c.args.level 1 old _ c.requires.sound n c.args.index _ (subst (λ l. IsOwned old l n) c.if-level-eq-LEAF_LEVEL.true c.requires.own) c.requires.place x)
+    (λ x. ap (λ ns. count_of ns x) c.write.ensures.nodes ∙ count-entered c.args.level 1 old _ c.requires.sound n c.args.i _ (subst (λ l. IsOwned old l n) c.if-level-eq-LEAF_LEVEL.true c.requires.own) c.requires.place x)
 
 pub put-returns-then-level-eq-LEAF_LEVEL-clause-rest : goal.put-returns-then-level-eq-LEAF_LEVEL-clause-rest
 put-returns-then-level-eq-LEAF_LEVEL-clause-rest t c = λ k from to off apart.

@@ -101,12 +101,12 @@ module _ (t : ℕ) (c : goal.share_entry-After-swap t) where
       let n = c.args.node.n in
       beside-less a (is_root (n + 1)) (λ x. is_root (n + 1) x + is_root 0 x) (c.args.level - 1) c.args.link (λ x. let z = is_root-none x in omega (arith, z)) (c.requires.beside up)
 
-  changed : ChildChanged c.args.level c.args.self.now.nodes.all c.swap-child.new.self.nodes.all c.share_at-child.new.self.nodes.all c.swap.new.self.nodes.all c.args.self.now.frames c.swap.new.self.frames c.args.node.n c.args.index (c.share_at-child.result.n + 1)
+  changed : ChildChanged c.args.level c.args.self.now.nodes.all c.swap-child.new.self.nodes.all c.share_at-child.new.self.nodes.all c.swap.new.self.nodes.all c.args.self.now.frames c.swap.new.self.frames c.args.node.n c.args.i (c.share_at-child.result.n + 1)
   changed =
       let one = c.swap-child.ensures in
       let two = c.swap.ensures in
       let rec = c.share_at-child.ensures in
-      child-changed c.args.level c.args.self.now.nodes.all c.swap-child.new.self.nodes.all c.share_at-child.new.self.nodes.all c.swap.new.self.nodes.all _ _ _ _ c.args.node.n c.args.index (c.share_at-child.result.n + 1) up c.requires.place
+      child-changed c.args.level c.args.self.now.nodes.all c.swap-child.new.self.nodes.all c.share_at-child.new.self.nodes.all c.swap.new.self.nodes.all _ _ _ _ c.args.node.n c.args.i (c.share_at-child.result.n + 1) up c.requires.place
       c.requires.sound c.requires.own one.nodes one.sound one.own (rw one.was at one.loose) (rw one.was at one.moves)
       rec.sound (loose-own _ _ _ rec.own) (rw one.was at rec.moves) two.nodes two.sound two.own (rw two.was at two.moves)
 
@@ -162,7 +162,7 @@ share_entry-returns-else-first-eq0-clause-free t c =
 
 pub share_entries-overflow_add-start : goal.share_entries-overflow_add-start
 share_entries-overflow_add-start t c =
-    let at = in-range c.args.level c.args.first c.args.end c.entries.index c.width-width.result c.requires.low c.width-width.ensures c.entries.auto.index c.entries-test.true c.requires.order c.requires.page in
+    let at = in-range c.args.level c.args.first c.args.end c.entries.i c.width-width.result c.requires.low c.width-width.ensures c.entries.auto.i c.entries-test.true c.requires.order c.requires.page in
     let most = width-le c.args.level c.requires.low c.requires.high in
     omega (arith, at.fits, most.1)
 
@@ -186,11 +186,11 @@ share_entries-share_entry-requires t c =
     let inv = c.entries.invariant in
     let level = c.args.level in
     let w = c.width-width.result in
-    let i = c.entries.index in
+    let i = c.entries.i in
     let s0 = c.args.self.now.nodes.all in
     let s1 = c.entries.self.nodes.all in
     let n = c.args.node.n in
-    let at = in-range level c.args.first c.args.end i w c.requires.low c.width-width.ensures c.entries.auto.index c.entries-test.true c.requires.order c.requires.page in
+    let at = in-range level c.args.first c.args.end i w c.requires.low c.width-width.ensures c.entries.auto.i c.entries-test.true c.requires.order c.requires.page in
     let beside = beside-moved level level level s0 s1 _ _ (is_root (n + 1)) (is_root (n + 1)) c.args.from (omega (arith, c.requires.low)) c.requires.sound inv.moves c.requires.from in
     let low = c.max.result - i * w in
     let high = c.min.result - i * w in
@@ -436,7 +436,7 @@ share_at-returns-else-first-end-clause-cost_open t c = λ is_open.
 
 pub share_entries-link_at-link-requires-clause-place : goal.share_entries-link_at-link-requires-clause-place
 share_entries-link_at-link-requires-clause-place t c =
-    (in-range c.args.level c.args.first c.args.end c.entries.index c.width-width.result c.requires.low c.width-width.ensures c.entries.auto.index c.entries-test.true c.requires.order c.requires.page).low
+    (in-range c.args.level c.args.first c.args.end c.entries.i c.width-width.result c.requires.low c.width-width.ensures c.entries.auto.i c.entries-test.true c.requires.order c.requires.page).low
 
 pub share_entry-returns-else-first-eq0-clause-lone : goal.share_entry-returns-else-first-eq0-clause-lone
 share_entry-returns-else-first-eq0-clause-lone t c =
@@ -546,7 +546,7 @@ share_entries-returns-clause-free t c =
     let pos = pow-pos (c.args.level - 1) in
     let step = pow-step c.args.level (omega (arith, c.requires.low)) in
     let few = div_below (c.args.end - 1) c.width-width.result 32 (omega (arith, pos, c.width-width.ensures)) (omega (arith, c.requires.order, c.requires.page, step, c.width-width.ensures)) in
-    let more = total-more (entry_short c.args.self.now.nodes.all c.args.level c.args.node.n c.args.first c.args.end) c.entries.index 32 (let down = order-div c.args.first (c.args.end - 1) c.width-width.result (omega (arith, pos, c.width-width.ensures)) (omega (arith, c.requires.order)) in omega (arith, few, c.entries.auto.index-end, down)) in
+    let more = total-more (entry_short c.args.self.now.nodes.all c.args.level c.args.node.n c.args.first c.args.end) c.entries.i 32 (let down = order-div c.args.first (c.args.end - 1) c.width-width.result (omega (arith, pos, c.width-width.ensures)) (omega (arith, c.requires.order)) in omega (arith, few, c.entries.auto.i-end, down)) in
     omega (arith, all, more, c.entries.invariant.free)
 
 pub share_at-returns-then-first-end-clause-outside : goal.share_at-returns-then-first-end-clause-outside
@@ -557,13 +557,13 @@ share_at-returns-then-first-end-clause-cost t c = let step = share-step c.args.l
 
 pub share_entries-overflow_mul-start : goal.share_entries-overflow_mul-start
 share_entries-overflow_mul-start t c =
-    let at = in-range c.args.level c.args.first c.args.end c.entries.index c.width-width.result c.requires.low c.width-width.ensures c.entries.auto.index c.entries-test.true c.requires.order c.requires.page in
+    let at = in-range c.args.level c.args.first c.args.end c.entries.i c.width-width.result c.requires.low c.width-width.ensures c.entries.auto.i c.entries-test.true c.requires.order c.requires.page in
     let most = width-le c.args.level c.requires.low c.requires.high in
     omega (arith, at.within, c.requires.page, most.1)
 
 pub share_entries-overflow_sub-high : goal.share_entries-overflow_sub-high
 share_entries-overflow_sub-high t c =
-    let at = in-range c.args.level c.args.first c.args.end c.entries.index c.width-width.result c.requires.low c.width-width.ensures c.entries.auto.index c.entries-test.true c.requires.order c.requires.page in
+    let at = in-range c.args.level c.args.first c.args.end c.entries.i c.width-width.result c.requires.low c.width-width.ensures c.entries.auto.i c.entries-test.true c.requires.order c.requires.page in
     omega (arith, at.within, c.min.ensures)
 
 pub share_entries-returns-clause-outside : goal.share_entries-returns-clause-outside
@@ -572,8 +572,8 @@ share_entries-returns-clause-outside t c = λ q lt out. c.entries.invariant.rest
 pub share_entries-returns-clause-cost : goal.share_entries-returns-clause-cost
 share_entries-returns-clause-cost t c =
     let even = ap (λ x. (c.args.end - 1) / x) c.width-width.ensures in
-    steps-all c.args.level c.args.first c.args.end c.entries.index (32 ^ (c.args.level - 1)) (entry_steps c.args.level) (share_steps (c.args.level - 1)) c.args.self.now.nodes.steps c.entries.self.nodes.steps (pow-pos (c.args.level - 1)) refl c.requires.low c.requires.order c.requires.page c.requires.inside
-    (let pos = pow-pos (c.args.level - 1) in let down = order-div c.args.first (c.args.end - 1) c.width-width.result (omega (arith, pos, c.width-width.ensures)) (omega (arith, c.requires.order)) in omega (arith, even, c.entries.auto.index-end, down)) c.entries.invariant.cost_all
+    steps-all c.args.level c.args.first c.args.end c.entries.i (32 ^ (c.args.level - 1)) (entry_steps c.args.level) (share_steps (c.args.level - 1)) c.args.self.now.nodes.steps c.entries.self.nodes.steps (pow-pos (c.args.level - 1)) refl c.requires.low c.requires.order c.requires.page c.requires.inside
+    (let pos = pow-pos (c.args.level - 1) in let down = order-div c.args.first (c.args.end - 1) c.width-width.result (omega (arith, pos, c.width-width.ensures)) (omega (arith, c.requires.order)) in omega (arith, even, c.entries.auto.i-end, down)) c.entries.invariant.cost_all
 
 pub share_entries-returns-clause-open : goal.share_entries-returns-clause-open
 share_entries-returns-clause-open t c = λ is_open. (c.entries.invariant.opens is_open).open_end (let even = ap (λ x. (c.args.end - 1) / x) c.width-width.ensures in omega (arith, even, c.entries-test.false))
