@@ -1,7 +1,6 @@
 ghost use Rattle.std.specs.Prelude.{◌≡◌, ℕ, ◌+◌, ◌-◌, ◌<◌, ◌≤◌, ◌↔◌, min, ◌⊎◌, List, [], length, take};
 ghost use Rattle.std.specs.Prelude.{replicate, Some, None, option_copied, IfOk, IfSome, OnOk, OnErr, IsErr};
-ghost use Rattle.std.specs.Prelude.{IsTrue, bytes_eq, position, ◌==◌};
-ghost use Rattle.std.specs.List.{list_any};
+ghost use Rattle.std.specs.Prelude.{IsTrue, bytes_eq, position};
 ghost use Rattle.lwc_io.specs.Outside.{CountsOneFault, IsPiece, fetch_into, given_by};
 ghost use Rattle.lwc_io.specs.Memory.{place_of, bytes_of, faults_of, fetch_fails, after_fetch, with_fault};
 ghost use Rattle.lwc_io.specs.Memory.{write_fails, after_write, after_failed_write};
@@ -47,13 +46,6 @@ impl NamedFile {
     {
         self.name.as_str() == name
     }
-
-    /// Its bytes.
-    pub fn bytes(&self) -> &[u8]
-        ensures { result.now ≡ self.now.bytes }
-    {
-        self.bytes.as_slice()
-    }
 }
 
 /// The place of the first file of that name.
@@ -75,7 +67,9 @@ fn place_named(files: &[NamedFile], name: &str) -> usize
 pub(crate) fn bytes_named<'a>(files: &'a [NamedFile], name: &str) -> Option<&'a [u8]>
     ensures { option_copied result ≡ bytes_of files.now name.now }
 {
-    files.get(place_named(files, name)).map(|file| file.bytes())
+    files
+        .get(place_named(files, name))
+        .map(|file| file.bytes.as_slice())
 }
 
 /// Copies the bytes from the offset `at` on into the front of the buffer, as many as there are and fit.
@@ -151,13 +145,6 @@ impl MemoryFiles {
         self.faults[place_named(&self.files, name)]
     }
 
-    /// Whether the next call is one of those that fail.
-    fn fails_next(&self) -> bool
-        ensures { result ≡ list_any (λ call. call == self.now.calls) self.now.failing }
-    {
-        self.failing.contains(&self.calls)
-    }
-
     /// Counts a call.
     fn count_call(&mut self, asked: &Asked<'_>)
         ensures { self.new ≡ after_fetch self.old (record {
@@ -211,7 +198,9 @@ impl Files for MemoryFiles {
     {
         let most = buffer.len();
         let given = match bytes_named(&self.files, name) {
-            Some(bytes) if !self.fails_next() => Some(copy_piece(bytes, at, buffer)),
+            Some(bytes) if !self.failing.contains(&self.calls) => Some(copy_piece(
+                bytes, at, buffer,
+            )),
             _ => None,
         };
         self.count_call(&Asked {

@@ -1,7 +1,6 @@
 //! The modes, each a row of a table.
 
 ghost use Rattle.std.specs.Prelude.{◌≡◌};
-ghost use Rattle.std.specs.List.{find};
 ghost use Rattle.lwcrun_line.specs.Modes as spec;
 
 /// A mode. A replay has one for a run and one for a serve.
@@ -98,14 +97,7 @@ fn new_row<'a>(word: &'a str, places: usize, options: Options) -> Row<'a>
 pub(crate) fn mode_called(word: &str, places: usize) -> Option<Mode>
     ensures { result ≡ spec.mode_called word.now places }
 {
-    first_called(&MODES, word, places)
-}
-
-/// The first of some modes that has this word and this number of words behind it.
-fn first_called(modes: &[Mode], word: &str, places: usize) -> Option<Mode>
-    ensures { result ≡ find (spec.is_called word.now places) modes.now }
-{
-    modes
+    MODES
         .iter()
         .copied()
         .find(|mode| is_called(*mode, word, places))
