@@ -70,7 +70,7 @@ use Rattle.lwcrun_core.specs.Headlines.{AreRequestsIn, Headline, IsFitting, IsLi
 use Rattle.lwcrun_inputs.specs.Ends.{End, Outside, Ended, IsUnwritten, NothingFailed, WriteFailed}
 use Rattle.lwcrun_inputs.specs.Ends as ends
 use Rattle.lwc_text.specs.Report.{report_of_schedule, stream_text}
-use Rattle.lwcrun_core.specs.Works.{AnyImage, BoundedRequests, FileKind, FittingImage, IsText, Named, Parts, Requests, Schedule, ScriptFile, Source, VaultFile, Work, plan_by, plan_of, read_by, read_file, read_files, requests_named, task_of, scheduled}
+use Rattle.lwcrun_core.specs.Works.{AnyImage, BoundedRequests, FileKind, FileList, FittingImage, Gathered, IsText, Requests, Schedule, ScriptFile, Source, VaultFile, Work, plan_by, plan_of, read_by, read_file, read_files, requests_named, task_of, scheduled}
 use Rattle.lwcrun_core.specs.Works as works
 use Rattle.lwcrun_inputs.specs.Inputs.{bounded, bounded_requests_of, fitted, fitting_image_of, image_of, or_rejected, requests_of, schedule_of, serve_steps, source_of, then_tested, worker_count}
 use Rattle.lwcrun_core.specs.Beside.{fitted_beside, fitting_vault_for, script_of, vault_for}
@@ -157,7 +157,7 @@ reads_by : {A : Type 0} (files : FileContents) (grammar : List ℕ → Result A 
 reads_by files grammar limit name next q P here there (inl is) = here is
 reads_by files grammar limit name next q P here there (inr h) = reads_accepted files (grammar h.0) next q P there h.2
 
-reads_file : (files : FileContents) (kind : FileKind) (name : List ℕ) (settings : Settings) (parts : Parts) (next : Parts → Plan Rejection Work) (q : List ℕ) (P : Type 0) → (q ≡ name → P) → ((read : Parts) → Reads files (next read) q → P) → Reads files (read_file kind name settings parts next) q → P
+reads_file : (files : FileContents) (kind : FileKind) (name : List ℕ) (settings : Settings) (parts : Gathered) (next : Gathered → Plan Rejection Work) (q : List ℕ) (P : Type 0) → (q ≡ name → P) → ((read : Parts) → Reads files (next read) q → P) → Reads files (read_file kind name settings parts next) q → P
 reads_file files FittingImage name settings parts next q P here there h = reads_by files (fitting_image_of settings.frames) MOST_IMAGE_BYTES name (λ x. next (record parts { image = x })) q P here (λ x after. there (record parts { image = x }) after) h
 reads_file files AnyImage name settings parts next q P here there h = reads_by files image_of MOST_IMAGE_BYTES name (λ x. next (record parts { image = x })) q P here (λ x after. there (record parts { image = x }) after) h
 reads_file files Source name settings parts next q P here there h = reads_by files source_of MOST_SOURCE_BYTES name (λ x. next (record parts { image = x })) q P here (λ x after. there (record parts { image = x }) after) h
@@ -167,14 +167,14 @@ reads_file files BoundedRequests name settings parts next q P here there h = rea
 reads_file files VaultFile name settings parts next q P here there h = reads_by files (fitting_vault_for settings.frames parts.image) MOST_VAULT_BYTES name (λ v. next (record parts { vault = Some v })) q P here (λ v after. there (record parts { vault = Some v }) after) h
 reads_file files ScriptFile name settings parts next q P here there h = reads_by files script_of MOST_SCRIPT_BYTES name (λ script. next (record parts { script = script })) q P here (λ script after. there (record parts { script = script }) after) h
 
-reads_files : (files : FileContents) (named : Named) (settings : Settings) (work : Parts → Work) (parts : Parts) (q : List ℕ) → Reads files (read_files named settings work parts) q → IsNamed named q
+reads_files : (files : FileContents) (named : FileList) (settings : Settings) (work : Gathered → Work) (parts : Gathered) (q : List ℕ) → Reads files (read_files named settings work parts) q → IsNamed named q
 reads_files files [] settings work parts q h = h
 reads_files files ((kind, name) ∷ named) settings work parts q h =
     reads_file files kind name settings parts (read_files named settings work) q _ (λ is. inl is) (λ read after. inr (reads_files files named settings work read q after)) h
 
 reads_names : (files : FileContents) (command : Command) (q : List ℕ) → Reads files (plan_of command) q → Names command q
 unfolding plan_by
-reads_names files command q h = reads_files files (task_of command).files (task_of command).settings ((task_of command).work (task_of command).settings) _ q h
+reads_names files command q h = reads_files files (task_of command).files (task_of command).settings (task_of command).work _ q h
 
 are_known : (files : FileContents) (command : Command) (bytes : List ℕ → List ℕ) → AreContents files command bytes → AreKnown files (plan_of command) bytes
 are_known files command bytes h q reads = h q (reads_names files command q reads)

@@ -6,7 +6,7 @@ use Rattle.lwcrun_inputs.specs.declared.status.ExitStatus.{ExitStatus}
 use Rattle.lwcrun_inputs.specs.declared.status.ExitStatus.TheVariants as statuses
 use Rattle.lwcrun_inputs.specs.Ends.{End, Outside, Ended, FetchFailed, IsUnwritten, WriteFailed}
 use Rattle.lwcrun_inputs.specs.Ends as ends
-use Rattle.lwcrun_core.specs.Works.{IsText, Named, Work, plan_of, task_of}
+use Rattle.lwcrun_core.specs.Works.{FileList, IsText, Work, plan_of, task_of}
 use Rattle.lwcrun_line.specs.Lines.{Command, IsStream}
 use Rattle.lwcrun_inputs.specs.Plans.{AreFetchesOf, FileContents, outcome}
 use Rattle.lwcrun_inputs.specs.Reading.{Fetched}
@@ -37,7 +37,7 @@ Answers o asked status err err_after =
     (e : End Rejection) × CallEnded o asked e × IsAnswered e status err err_after
 
 -- this is the name of one of these files
-abbrev pub IsNamed : Named → List ℕ → Type 0
+abbrev pub IsNamed : FileList → List ℕ → Type 0
 IsNamed [] q = ⊥
 IsNamed (file ∷ files) q = (q ≡ file.1) ⊎ IsNamed files q
 

@@ -72,7 +72,7 @@ pub data FileKind : Type 0 where
 
 -- what was read so far: an image, a vault beside it if there is one, the steps of a schedule, requests, and the
 -- commands of a script
-pub record Parts : Type 0 where
+pub record Gathered : Type 0 where
   pub image : Image
   pub vault : Option Vault
   pub steps : List ℕ
@@ -84,11 +84,11 @@ abbrev pub blank : Image
 blank = record { form = One; text = []; uid = 0; pages = []; files = []; slots = []; entries = [] }
 
 -- nothing was read
-abbrev pub nothing_read : Parts
+abbrev pub nothing_read : Gathered
 nothing_read = record { image = blank; vault = None; steps = []; requests = []; script = [] }
 
 -- an image and a schedule were read
-abbrev pub scheduled : Image → List ℕ → Parts
+abbrev pub scheduled : Image → List ℕ → Gathered
 scheduled image steps = record nothing_read { image = image; steps = steps }
 
 -- a file is read by a grammar, and what it is says what follows
@@ -97,7 +97,7 @@ abbrev pub read_by : {A : Type 0} → (List ℕ → Result A Rejection) → ℕ 
 read_by grammar limit name next = Read name limit (λ bytes. accepted (grammar bytes) next)
 
 -- a file is read behind these parts and becomes one of them; then comes what follows
-abbrev pub read_file : FileKind → List ℕ → Settings → Parts → (Parts → Plan Rejection Work) → Plan Rejection Work
+abbrev pub read_file : FileKind → List ℕ → Settings → Gathered → (Gathered → Plan Rejection Work) → Plan Rejection Work
 read_file FittingImage name settings parts next =
     read_by (fitting_image_of settings.frames) MOST_IMAGE_BYTES name (λ x. next (record parts { image = x }))
 read_file AnyImage name settings parts next =
@@ -119,65 +119,65 @@ read_file ScriptFile name settings parts next =
     read_by script_of MOST_SCRIPT_BYTES name (λ script. next (record parts { script = script }))
 
 -- files that are read in order, what each is read as and its name
-abbrev pub Named : Type 0
-Named = List (FileKind × List ℕ)
+abbrev pub FileList : Type 0
+FileList = List (FileKind × List ℕ)
 
 -- files are read behind these parts, each tested before the next, and then a work is done with all parts
-abbrev pub read_files : Named → Settings → (Parts → Work) → Parts → Plan Rejection Work
+abbrev pub read_files : FileList → Settings → (Gathered → Work) → Gathered → Plan Rejection Work
 read_files [] settings work parts = Write (work parts)
 read_files (file ∷ files) settings work parts =
     read_file file.0 file.1 settings parts (read_files files settings work)
 
 -- the requests of a replay; a run has none
-abbrev pub requests_named : Option (List ℕ) → Named
+abbrev pub requests_named : Option (List ℕ) → FileList
 requests_named None = []
 requests_named (Some name) = (Requests, name) ∷ []
 
 -- a command's task: the files that it reads in order, the settings that these are tested with, and what is done with
 -- them
 pub record Task : Type 0 where
-  pub files : Named
+  pub files : FileList
   pub settings : Settings
-  pub work : Settings → Parts → Work
+  pub work : Gathered → Work
 
 -- a task of these
-abbrev pub new_task : Named → Settings → (Settings → Parts → Work) → Task
+abbrev pub new_task : FileList → Settings → (Gathered → Work) → Task
 new_task files settings work = record { files = files; settings = settings; work = work }
 
 -- the steps of a schedule, plain or under traps
 abbrev pub replay_task : (Inputs → List ℕ → Work) → List ℕ → List ℕ → Option (List ℕ) → Settings → Task
 replay_task work image schedule requests settings =
     new_task ((FittingImage, image) ∷ (Schedule MOST_STEPS, schedule) ∷ requests_named requests) settings
-    (λ s p. work (inputs_of p.image p.requests s) p.steps)
+    (λ p. work (inputs_of p.image p.requests settings) p.steps)
 
 -- a serve or a stream
 abbrev pub server_task : (Inputs → Work) → List ℕ → List ℕ → Settings → Task
 server_task work image requests settings =
     new_task ((FittingImage, image) ∷ (BoundedRequests, requests) ∷ []) settings
-    (λ s p. work (inputs_of p.image p.requests s))
+    (λ p. work (inputs_of p.image p.requests settings))
 
 -- the table of what commands read and do
 abbrev pub task_of : Command → Task
 task_of (commands.Replay image schedule requests settings) = replay_task Replaying image schedule requests settings
 task_of (commands.Run image settings) =
-    new_task ((FittingImage, image) ∷ []) settings (λ s p. Running (inputs_of p.image [] s))
+    new_task ((FittingImage, image) ∷ []) settings (λ p. Running (inputs_of p.image [] settings))
 task_of (commands.Serve image requests settings) = server_task Running image requests settings
-task_of (commands.Asm source) = new_task ((Source, source) ∷ []) default_settings (λ s p. Spelling p.image)
-task_of (commands.Dis image) = new_task ((AnyImage, image) ∷ []) default_settings (λ s p. Disassembling p.image)
-task_of (commands.Gen number) = new_task [] default_settings (λ s p. Generating number)
-task_of (commands.Lift image) = new_task ((AnyImage, image) ∷ []) default_settings (λ s p. Spelling (lifted p.image))
+task_of (commands.Asm source) = new_task ((Source, source) ∷ []) default_settings (λ p. Spelling p.image)
+task_of (commands.Dis image) = new_task ((AnyImage, image) ∷ []) default_settings (λ p. Disassembling p.image)
+task_of (commands.Gen number) = new_task [] default_settings (λ p. Generating number)
+task_of (commands.Lift image) = new_task ((AnyImage, image) ∷ []) default_settings (λ p. Spelling (lifted p.image))
 task_of (commands.Monitor image schedule settings) = replay_task Monitoring image schedule None settings
 task_of (commands.Vault image vault schedule settings) =
     new_task ((AnyImage, image) ∷ (VaultFile, vault) ∷ (Schedule MOST_STEPS, schedule) ∷ []) settings
-    (λ s p. Replaying (record (inputs_of p.image [] s) { vault = p.vault }) p.steps)
+    (λ p. Replaying (record (inputs_of p.image [] settings) { vault = p.vault }) p.steps)
 task_of (commands.Debug image schedule script settings) =
     new_task ((FittingImage, image) ∷ (Schedule MOST_DEBUGGED_STEPS, schedule) ∷ (ScriptFile, script) ∷ []) settings
-    (λ s p. Debugging (inputs_of p.image [] s) p.steps p.script)
+    (λ p. Debugging (inputs_of p.image [] settings) p.steps p.script)
 task_of (commands.Stream image requests settings) = server_task Streaming image requests settings
 
 -- what is done by a task
 unfoldable pub plan_by : Task → Plan Rejection Work
-plan_by task = read_files task.files task.settings (task.work task.settings) nothing_read
+plan_by task = read_files task.files task.settings task.work nothing_read
 
 -- what a command does
 abbrev pub plan_of : Command → Plan Rejection Work

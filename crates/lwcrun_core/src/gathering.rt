@@ -7,7 +7,7 @@ ghost use Rattle.kernel_core.specs.Start.{Inputs, inputs_of, threads_for};
 ghost use Rattle.lwc_types.specs.declared.limits.TheConstants.{MOST_STEPS};
 ghost use Rattle.lwc_vault.specs.Secrets.{beside};
 ghost use Rattle.lwcrun_core.specs.Works as works;
-ghost use Rattle.lwcrun_core.specs.Works.{Parts, Work, plan_by, plan_of, read_files};
+ghost use Rattle.lwcrun_core.specs.Works.{Gathered, Work, plan_by, plan_of, read_files};
 ghost use Rattle.lwcrun_core.specs.Works.{replay_task, requests_named, scheduled, server_task};
 ghost use Rattle.lwcrun_line.specs.Lines as commands;
 ghost use Rattle.lwcrun_line.specs.Lines.{AreReplaySettings, AreRunSettings, AreServeSettings};
@@ -68,12 +68,12 @@ fn named_requests<'a, F: Files>(
     files: &mut F,
     name: Option<&'a str>,
 ) -> Result<Requests, Ending<'a>>
-    ensures gathers { (settings : Settings) (work : Parts → Work) (image : Image) (steps : List ℕ)
+    ensures gathers { (settings : Settings) (work : Gathered → Work) (image : Image) (steps : List ℕ)
         → Gathers (F.seen files.old) (F.seen files.new)
         (read_files (requests_named (option_map (λ s. s.now) name.entry)) settings work
         (scheduled image steps))
         (found (λ asked. work (record (scheduled image steps) { requests = asked })) result) }
-    ensures fetches { (settings : Settings) (work : Parts → Work) (image : Image) (steps : List ℕ)
+    ensures fetches { (settings : Settings) (work : Gathered → Work) (image : Image) (steps : List ℕ)
         → Fetched (AreFetchesOf (F.seen files.old).contents
         (read_files (requests_named (option_map (λ s. s.now) name.entry)) settings work
         (scheduled image steps)))
