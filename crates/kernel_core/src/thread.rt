@@ -59,14 +59,16 @@ impl Turn {
     pub(crate) fn note(&mut self, thread: &Thread, finished: Option<FinishedView<'_>>)
         ensures { self.new ≡ turn_of thread.now finished.entry }
     {
-        self.regs = thread.regs;
-        self.status = thread.status;
         match finished {
             Some(finished) => finished.copy_to(&mut self.finished),
             // The 4096 bytes of a reply are not written where there are none.
             None if self.finished.is_none() => {}
             None => self.finished = None,
         }
+        // Copied as one they are long enough for a call of the C library.
+        self.regs.r = thread.regs.r;
+        self.regs.pc = thread.regs.pc;
+        self.status = thread.status;
     }
 
     /// Whether the thread has ended.

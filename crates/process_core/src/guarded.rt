@@ -11,28 +11,29 @@ use crate::opened::Opened;
 use guest_machine::Advance;
 use kernel_core::{Kernel, Turn};
 use lwc_base::OutOfMemory;
+use std::snapshot::Snapshot;
 use turnstile::Turned;
 use world_face::World;
 
 /// A kernel over a roomy world, whose steps are a legal history, with room for all the steps that are left.
 /// The steps and the room are together the room at the start.
 ///
-/// The kernel is in a box, since the lock moves it twice in each turn.
+/// The kernel is in a box, since the lock moves it twice in each turn. Contracts alone speak of the room at the start.
 #[derive(Drop)]
 pub(crate) struct Guarded<W: World> {
     pub(crate) kernel: Box<Kernel<W>>,
-    pub(crate) first_room: u32,
+    pub(crate) first_room: Snapshot<u32>,
     pub(crate) ghost legal: { IsLegal (start kernel.value.inputs) kernel.value.steps },
     pub(crate) ghost room: { work (machine_of kernel.value) ≤ kernel.value.room },
-    pub(crate) ghost whole: { length kernel.value.steps + kernel.value.room ≡ first_room },
-    pub(crate) ghost few: { first_room ≤ MOST_STEPS },
+    pub(crate) ghost whole: { length kernel.value.steps + kernel.value.room ≡ first_room.value },
+    pub(crate) ghost few: { first_room.value ≤ MOST_STEPS },
     pub(crate) ghost roomy: { W.roomy ≡ true },
 }
 
 impl<W: World> Turned for Guarded<W> {
     type Name = Opened;
 
-    ghost name = { λ g. record { inputs = g.kernel.value.inputs; room = g.first_room } };
+    ghost name = { λ g. record { inputs = g.kernel.value.inputs; room = g.first_room.value } };
 
     ghost past = { λ g. g.kernel.value.steps };
 
@@ -72,10 +73,10 @@ pub(crate) fn guard<W: World>(kernel: Box<Kernel<W>>) -> Guarded<W>
     requires fresh { kernel.value.steps ≡ [] }
     requires room { work (machine_of kernel.value) ≤ kernel.value.room }
     ensures kernel { result.kernel.value ≡ kernel.value }
-    ensures room { result.first_room ≡ kernel.value.room }
+    ensures room { result.first_room.value ≡ kernel.value.room }
 {
     let _steps = kernel.schedule();
-    let first_room = kernel.room();
+    let first_room = Snapshot::of(&kernel.room());
     Guarded { kernel, first_room }
 }
 
@@ -92,7 +93,7 @@ impl<W: World> Guarded<W> {
         requires proposal { IfSome proposal (λ a. a.now
             ≡ advanced self.old.kernel.value.inputs.image.text a.now.before) }
         ensures inputs { self.new.kernel.value.inputs ≡ self.old.kernel.value.inputs }
-        ensures room { self.new.first_room ≡ self.old.first_room }
+        ensures room { self.new.first_room.value ≡ self.old.first_room.value }
         ensures steps { self.new.kernel.value.steps ≡ self.old.kernel.value.steps ++ thread ∷ [] }
         ensures turn { turn self.new.kernel.value thread ≡ Some result.value }
     {

@@ -63,6 +63,7 @@ fn slice_of(proposal: Option<&Advance>) -> &[Advance]
 }
 
 /// One step of the pass's thread, which its last turn had not ended. What it left is noted in the box.
+#[inline(always)]
 fn take_turn<R: Wait, W: World>(
     gate: &Turnstile<Guarded<W>>,
     rt: &R,
@@ -91,7 +92,7 @@ fn take_turn<R: Wait, W: World>(
                 × (is_ended (machine_of guarded.now.kernel.value) t ≡ false)
                 × AreAdvances guarded.now.kernel.value.inputs.image.text proposal.now }
             ensures { (guarded.exit.now.kernel.value.inputs ≡ guarded.entry.now.kernel.value.inputs)
-                × (guarded.exit.now.first_room ≡ guarded.entry.now.first_room)
+                × (guarded.exit.now.first_room.value ≡ guarded.entry.now.first_room.value)
                 × (guarded.exit.now.kernel.value.steps ≡ guarded.entry.now.kernel.value.steps ++ t ∷ [])
                 × (kernels.turn guarded.exit.now.kernel.value t ≡ Some result.value) }
         { guarded.make_step(t, proposal.first(), last) },

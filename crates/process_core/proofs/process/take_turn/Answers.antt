@@ -38,7 +38,7 @@ turn_inside-requires-clause-moves g c κs lives x y r due f =
     let e : x.kernel.value ≡ f.shown.now.kernel.value = cc in
     let d : y.kernel.value ≡ f.left.now.kernel.value = cc in
     let inputs : y.kernel.value.inputs ≡ x.kernel.value.inputs = ap (λ (h : History). h.inputs) d ∙ (f.met.0 ∙ sym (ap (λ (h : History). h.inputs) e)) in
-    let room : y.first_room ≡ x.first_room = cc in (
+    let room : y.first_room.value ≡ x.first_room.value = cc in (
       named inputs room,
       ap (λ (h : History). h.steps) d ∙ (f.met.2 ∙ (ap (λ (n : ℕ). f.shown.now.kernel.value.steps ++ n ∷ []) number ∙ ap (λ (h : History). h.steps ++ c.args.pass.now.number ∷ []) (sym e))),
     )
