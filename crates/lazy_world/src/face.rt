@@ -133,7 +133,7 @@ impl World for LazyWorld {
         ensures store { CloneStore (lazy.placed self.old) (lazy.placed self.new) context job spec.now }
         ensures steps { CloneSteps (lazy.placed self.old) (lazy.placed self.new) context job spec.now }
     {
-        Ok(self.clone_counted(context, spec, job, entry))
+        Ok(self.clone_with_costs(context, spec, job, entry))
     }
 
     fn overlay(&mut self, to: Name, from: Name, spec: &Items, job: u32) -> Result<(), OutOfMemory>
@@ -151,7 +151,7 @@ impl World for LazyWorld {
         ensures store { OverlayStore (lazy.placed self.old) (lazy.placed self.new) from job spec.now }
         ensures steps { OverlaySteps (lazy.placed self.old) (lazy.placed self.new) from job spec.now }
     {
-        self.overlay_counted(to, from, spec, job);
+        self.overlay_with_costs(to, from, spec, job);
         Ok(())
     }
 
