@@ -135,7 +135,7 @@ impl PlacedWorld {
             → All (IsPageRun (count self.now.places) to) page_runs.new.items }
     {
         list_item_runs(spec, from, page_runs);
-        for segment in self.places.segments(from) {
+        for segment in self.places.pages.segments(from) {
             page_runs.push(PageRun {
                 range: Range {
                     from: segment.from,

@@ -179,15 +179,15 @@ impl World for LazyWorld {
     }
 
     fn live_of(&self, job: u32) -> u32 {
-        self.world.live_of(job)
+        self.world.contexts.count_of(job)
     }
 
     fn groups_of(&self, job: u32) -> u32 {
-        self.world.groups_of(job)
+        self.world.groups.count_of(job)
     }
 
     fn nth_context(&self, index: u32) -> Option<Name> {
-        self.world.nth_context(index)
+        self.world.contexts.nth(index)
     }
 
     fn summary(&self, context: Name) -> Summary {
@@ -195,14 +195,14 @@ impl World for LazyWorld {
     }
 
     fn context_count(&self) -> u32 {
-        self.world.context_count()
+        self.world.contexts.len()
     }
 
     fn group_count(&self) -> u32 {
-        self.world.group_count()
+        self.world.groups.len()
     }
 
     fn used(&self) -> u32 {
-        self.world.used()
+        self.world.places.pages.used()
     }
 }

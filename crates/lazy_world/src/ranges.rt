@@ -272,7 +272,7 @@ impl PlacedWorld {
             (states_of (rows self.now.places place) (rights self.now.places place))
             ≤ MOST_RANGES }
     {
-        let (state, edge) = self.places.run_at(place, page);
+        let (state, edge) = self.places.pages.run_at(place, page);
         (self.found_state(state), edge)
     }
 
