@@ -37,7 +37,7 @@ impl PlacedWorld {
         ensures place { result ≡ holder (parts self.now) place page }
         ensures inside { IfSome result (λ j. j < count self.now.places) }
     {
-        match self.places.pages.kind(place, page) {
+        match self.places.kind(place, page) {
             None => None,
             Some(SegmentKind::Own) => Some(place),
             Some(SegmentKind::Common(g)) => match self.groups.place(g) {
@@ -54,7 +54,7 @@ impl PlacedWorld {
         ensures { option_copied result ≡ data_of (page_in (seen self.now) (rows self.now.places place) page) }
     {
         match self.holder(place, page) {
-            Some(j) => self.places.pages.bytes(j, page),
+            Some(j) => self.places.bytes(j, page),
             None => None,
         }
     }
@@ -93,10 +93,10 @@ impl PlacedWorld {
         if pages.to - pages.from != 1 {
             return false;
         }
-        match self.places.pages.kind(place, pages.from) {
+        match self.places.kind(place, pages.from) {
             Some(SegmentKind::Own) => {
                 let from = at % PAGE_BYTES;
-                match self.places.pages.bytes(place, pages.from) {
+                match self.places.bytes(place, pages.from) {
                     Some(bytes) => out.copy_from_slice(&bytes[from..from + out.len()]),
                     None => out.fill(0),
                 }

@@ -11,7 +11,8 @@ ghost use Rattle.lazy_world.specs.Kept.{IsKept, number_of};
 use crate::key_value::KeyValue;
 use cow_space::PageCells;
 use fd_table::{NUMBERS, Slots, TargetNumber};
-use lwc_base::{Cell, Lent, NOBODY, Name, OutOfMemory, SlotNumber};
+use lwc_base::{Cell, Lent, NOBODY, Name, OutOfMemory, PageNumber, SlotNumber};
+use range_map::SegmentKind;
 use std::alloc::Global;
 
 /// The cells of a fixed number of places: of each the pages, the slots and the credential.
@@ -44,11 +45,17 @@ fn number_of(name: Name) -> TargetNumber
 }
 
 impl Places {
-    ghost use Rattle.std.specs.Prelude.{◌≤◌, ◌≢◌, ℕ, IfSome, Some, false, true};
+    ghost use Rattle.std.specs.Prelude.{◌≤◌, ◌≢◌, ℕ, IfSome, Some, false, length, true};
+    ghost use Rattle.std.specs.Option.{option_copied};
+    ghost use Rattle.lwc_base.specs.Frames.{own_value};
     ghost use Rattle.lwc_base.specs.Keys.{with_key};
     ghost use Rattle.lwc_base.specs.declared.cell.Cell.{Cell};
     ghost use Rattle.lwc_types.specs.declared.key.TheConstants.{SLOTS};
-    ghost use Rattle.lwc_types.specs.declared.key.Key.TheVariants.{Slot, Cred};
+    ghost use Rattle.lwc_types.specs.declared.key.Key.TheVariants.{Page, Slot, Cred};
+    ghost use Rattle.lwc_types.specs.declared.limits.TheConstants.{MOST_PAGES};
+    ghost use Rattle.lwc_types.specs.declared.page.TheConstants.{PAGE_BYTES};
+    ghost use Rattle.cow_space.specs.Maps.{data_of};
+    ghost use Rattle.range_map.specs.Kinds.{kind_of};
     ghost use Rattle.cow_space.specs.Cells.{all_write};
     ghost use Rattle.lwc_base.specs.Capabilities.{has_bit};
     ghost use Rattle.fd_table.specs.declared.slots.TheConstants.{NUMBERS};
@@ -73,6 +80,24 @@ impl Places {
         let slots = Slots::open(alloc, places)?;
         let pages = PageCells::open(alloc, frames, places)?;
         Ok(Places { pages, slots, uids })
+    }
+
+    /// The kind of a page of a place; `None` where it is absent.
+    pub fn kind(&self, place: usize, page: PageNumber) -> Option<SegmentKind>
+        requires { place < count self.now }
+        ensures { result ≡ kind_of (rows self.now place (Page page)) }
+    {
+        self.pages.kind(place, page)
+    }
+
+    /// The bytes of a page that is the place's own. A page that is absent, common or zeros has none.
+    pub fn bytes(&self, place: usize, page: PageNumber) -> Option<&[u8]>
+        requires place { place < count self.now }
+        requires page { page < MOST_PAGES }
+        ensures value { option_copied result ≡ data_of (own_value (rows self.now place (Page page))) }
+        ensures whole { IfSome result (λ bytes. length bytes.now ≡ PAGE_BYTES) }
+    {
+        self.pages.bytes(place, page)
     }
 
     /// The cell of a slot of a place, lent.

@@ -251,6 +251,7 @@ impl PlacedWorld {
 
     /// What is found at a page of a place, and the first later page of another state, or the end of all
     /// pages.
+    #[tactic(auto, unfolding(crate::specs::Seen::rows, crate::specs::Seen::rights, crate::specs::Cells::rows_of))]
     pub(crate) fn found_page(&self, place: usize, page: PageNumber) -> (Found, PageNumber)
         requires place { place < count self.now.places }
         requires page { page < MOST_PAGES }

@@ -4,7 +4,6 @@ use Rattle.lwc_base.specs.Frames.{own_value}
 use Rattle.lwc_types.specs.declared.key.Key.TheVariants.{Page}
 use Rattle.range_map.specs.declared.segment.SegmentKind.TheVariants.{Own}
 use Rattle.range_map.specs.Kinds.{kind_of}
-use Rattle.lazy_world.specs.Cells.{rows_of}
 use Rattle.lazy_world.specs.declared.world.PlacedWorld.{PlacedWorld}
 use Rattle.lazy_world.specs.Memory.{page_in}
 use Rattle.lazy_world.specs.Seen.{rows}
@@ -22,14 +21,12 @@ pub slice_bounds-copy_from_slice-end : goal.slice_bounds-copy_from_slice-end
 slice_bounds-copy_from_slice-end c = omega (arith, c.touched_pages-pages.ensures.one c.if-pages-ne1.false, c.in-Some.ensures.whole)
 
 pub returns-in-Some-clause-copied : goal.returns-in-Some-clause-copied
-unfolding rows rows_of
 returns-in-Some-clause-copied c = λ _.
     copied-own (seen c.args.self.now) (rows c.args.self.now.places c.args.place) c.args.at _ (c.touched_pages-pages.ensures.one c.if-pages-ne1.false) c.in-Some.bytes.now _
     (c.in-Some.ensures.value ∙ ap data_of (under c.args.self.now c.args.place c.touched_pages-pages.result.from _ (sym c.kind.ensures ∙ c.in-Some-Own.is ∙ ap Some c.in-Some-Own.field-0-is) c.touched_pages-pages.ensures.from))
     c.in-Some.ensures.whole c.copy_from_slice.ensures.after
 
 pub returns-in-None-clause-copied : goal.returns-in-None-clause-copied
-unfolding rows rows_of
 returns-in-None-clause-copied c = λ _.
     copied-zeros (seen c.args.self.now) (rows c.args.self.now.places c.args.place) c.args.at _ (c.touched_pages-pages.ensures.one c.if-pages-ne1.false) _
     (c.in-None.ensures.value ∙ ap data_of (under c.args.self.now c.args.place c.touched_pages-pages.result.from _ (sym c.kind.ensures ∙ c.in-Some-Own.is ∙ ap Some c.in-Some-Own.field-0-is) c.touched_pages-pages.ensures.from))
