@@ -46,7 +46,7 @@ impl Flags for Mask {
 
 impl Mask {
     /// The mask of a number; `None` if it is above 7, so that it has a bit of no kind.
-    pub fn of(bits: u64) -> Option<Mask>
+    pub fn from_bits(bits: u64) -> Option<Mask>
         ensures none { is_none result ≡ nat_lt 7 bits }
         ensures mask { IfSome result (λ mask. mask.0 ≡ bits) }
     {

@@ -8,6 +8,7 @@ ghost use Rattle.cow_space.specs.RowSeen.{no_tree-prop};
 use crate::rows::Rows;
 use late_rows::LateRows;
 use lwc_base::{OutOfMemory, PageNumber, Right};
+use page_tree::PageCell;
 use range_map::{PageState, RangeMap, Segment, SegmentKind};
 use std::alloc::Global;
 
@@ -145,7 +146,10 @@ impl PageCells {
         ensures value { option_copied result ≡ data_of (own_values (place_of (cells self.now) place) page) }
         ensures whole { IfSome result (λ bytes. length bytes.now ≡ PAGE_BYTES) }
     {
-        self.rows.bytes(place, page)
+        match self.rows.cell(place, page) {
+            PageCell::Frame(frame) => Some(self.rows.store.frames.bytes(frame)),
+            _ => None,
+        }
     }
 
     /// Whether a page that is the place's own parts when it is written: it is zeros, or its tag is at another
@@ -155,7 +159,7 @@ impl PageCells {
         requires own { IsOwnPage (place_of (cells self.now) place page) }
         ensures { result ≡ is_parting (cells self.now) place page }
     {
-        self.rows.parts(place, page)
+        self.rows.lone_frame(place, page).is_none()
     }
 
     /// How many frames are in use: one for each different tag.
@@ -163,13 +167,13 @@ impl PageCells {
         ensures used { result ≡ used (cells self.now) }
         ensures within { result ≤ frames_of self.now }
     {
-        self.rows.used()
+        self.rows.store.frames.used()
     }
 
     /// How many frames there are, in use or free.
     pub fn frames(&self) -> u32
         ensures { result ≡ frames_of self.now }
     {
-        self.rows.frames()
+        self.rows.store.frames.len()
     }
 }

@@ -31,17 +31,15 @@ fn empty_trees(alloc: Global, rows: u32) -> Result<Vec<PageTree>, OutOfMemory>
 }
 
 impl Rows {
-    ghost use Rattle.std.specs.Prelude.{◌≡◌, ℕ, ◌+◌, ◌*◌, ◌<◌, ◌≤◌, ◌↔◌, true, false, IfNone, IfOk, IfSome, length};
+    ghost use Rattle.std.specs.Prelude.{◌≡◌, ℕ, ◌+◌, ◌*◌, ◌<◌, ◌≤◌, true, false, IfNone, IfOk, IfSome, length};
     ghost use Rattle.std.specs.Prelude.{replicate, slice_index};
     ghost use Rattle.page_tree.specs.declared.cell.PageCell.TheVariants as cell;
-    ghost use Rattle.std.specs.Option.{option_copied};
     ghost use Rattle.page_tree.specs.declared.store.TheConstants.{PAGES, TREE_NODES};
     ghost use Rattle.page_tree.specs.Pages.{page};
     ghost use Rattle.lwc_types.specs.declared.limits.TheConstants.{MOST_PAGE_PLACES};
-    ghost use Rattle.lwc_types.specs.declared.page.TheConstants.{PAGE_BYTES};
-    ghost use Rattle.cow_space.specs.Maps.{data_of, no_pages, row_of};
+    ghost use Rattle.cow_space.specs.Maps.{no_pages, row_of};
     ghost use Rattle.cow_space.specs.RowSeen.{frames_of, free_nodes, maps, HasNoTree};
-    ghost use Rattle.cow_space.specs.Tags.{different, parts, row_tags};
+    ghost use Rattle.cow_space.specs.Tags.{parts, row_tags};
 
     /// This number of rows without pages, over this number of frames. The only error is out of memory.
     pub fn open(alloc: Global, frames: u32, rows: u32) -> Result<Rows, OutOfMemory>
@@ -67,19 +65,6 @@ impl Rows {
         self.trees[place].get(&self.store, page_number)
     }
 
-    /// The bytes of a page. A page without bytes, which reads as zeros, has none.
-    pub fn bytes(&self, place: usize, page: PageNumber) -> Option<&[u8]>
-        requires row { place < length (maps self.now) }
-        requires page { page < PAGES }
-        ensures value { option_copied result ≡ data_of (row_of (maps self.now) place page) }
-        ensures whole { IfSome result (λ bytes. length bytes.now ≡ PAGE_BYTES) }
-    {
-        match self.cell(place, page) {
-            PageCell::Frame(frame) => Some(self.store.frames.bytes(frame)),
-            _ => None,
-        }
-    }
-
     /// The frame of a page that does not part when it is written: no other page has its tag.
     #[inline(always)]
     pub(crate) fn lone_frame(&self, place: usize, page_number: PageNumber) -> Option<FrameNo>
@@ -103,36 +88,5 @@ impl Rows {
             }
             _ => None,
         }
-    }
-
-    /// Whether a page parts when it is written: it is absent or zeros, or its tag is at another page too.
-    pub fn parts(&self, place: usize, page: PageNumber) -> bool
-        requires row { place < length (maps self.now) }
-        requires page { page < PAGES }
-        ensures { result ≡ parts (row_tags (maps self.now)) (row_of (maps self.now) place page) }
-    {
-        self.lone_frame(place, page).is_none()
-    }
-
-    /// How many frames are in use: one for each different tag.
-    pub fn used(&self) -> u32
-        ensures used { result ≡ different (row_tags (maps self.now)) }
-        ensures within { result ≤ frames_of self.now }
-    {
-        self.store.frames.used()
-    }
-
-    /// How many rows there are.
-    pub fn len(&self) -> usize
-        ensures { result ≡ length (maps self.now) }
-    {
-        self.trees.len()
-    }
-
-    /// How many frames there are, in use or free.
-    pub fn frames(&self) -> u32
-        ensures { result ≡ frames_of self.now }
-    {
-        self.store.frames.len()
     }
 }

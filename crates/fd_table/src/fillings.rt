@@ -87,7 +87,7 @@ impl Fillings {
         ensures room { self.new.room ≡ self.old.room }
     {
         self.stored[place as usize] = Stored {
-            cell: StoredCell::of(&filling.cell),
+            cell: StoredCell::from_cell(&filling.cell),
             target: filling.target,
         };
         if let Some(words) = words_of(&filling.cell) {
@@ -102,7 +102,7 @@ impl Fillings {
         ensures room { self.new.room ≡ self.old.room }
     {
         self.stored.push_reserved(Stored {
-            cell: StoredCell::of(&filling.cell),
+            cell: StoredCell::from_cell(&filling.cell),
             target: filling.target,
         });
         match words_of(&filling.cell) {

@@ -46,7 +46,7 @@ pub(crate) fn words_of<'a>(cell: &Cell<Lent<'a>>) -> Option<&'a Cap>
 
 impl StoredKeys {
     /// Keys as they are stored.
-    fn of(keys: Grant<'_>) -> StoredKeys
+    fn from_grant(keys: Grant<'_>) -> StoredKeys
         ensures { (words : caps.Cap) → keys_in result (unwrap_or (spec.words_of_keys keys.entry) words)
             ≡ keys_of keys.entry }
     {
@@ -71,7 +71,7 @@ impl StoredKeys {
 
 impl StoredCell {
     /// A cell as it is stored.
-    pub(crate) fn of(cell: &Cell<Lent<'_>>) -> StoredCell
+    pub(crate) fn from_cell(cell: &Cell<Lent<'_>>) -> StoredCell
         ensures { (words : caps.Cap) → cell_in result (unwrap_or (spec.words_of cell.now) words)
             ≡ cell_of cell.now }
     {
@@ -87,7 +87,7 @@ impl StoredCell {
             Cell::Own(Lent::Reply { r }) => StoredCell::Reply { r: *r },
             Cell::Own(Lent::Ctx { name, keys }) => StoredCell::Ctx {
                 name: *name,
-                keys: StoredKeys::of(*keys),
+                keys: StoredKeys::from_grant(*keys),
             },
         }
     }

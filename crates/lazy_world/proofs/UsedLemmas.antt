@@ -24,14 +24,17 @@ use Rattle.lwc_types.specs.declared.page.PageValue.{PageValue}
 use Rattle.lwc_types.specs.Names.{name_cmp}
 use Rattle.ctx_table.specs.NameTables.{ArePlaced, NameTable}
 use Rattle.cow_space.specs.Cells.{Place, place_of}
+use Rattle.cow_space.specs.Seen as pages_seen
 use Rattle.cow_space.specs.Tags as places
 use Rattle.cow_space.specs.Tags.{tags_of_place}
 use Rattle.cow_space.specs.Worlds.{HoldAllTags, tags_at}
 use Rattle.lazy_world.specs.declared.places.Places.{Places}
+use Rattle.lazy_world.specs.declared.world.PlacedWorld.{PlacedWorld}
 use Rattle.lazy_world.specs.Cells.{is_own, rows_of}
 use Rattle.lazy_world.specs.Seen.{count, pages, rows}
 use Rattle.lazy_world.specs.Sound.{IsEmpty, IsSound}
 use Rattle.lazy_world.specs.States.{Parts, context_at, group_at, held, world_of}
+use Rattle.lazy_world.specs.Worlds.{parts, seen}
 use Rattle.lazy_world.proofs.AddLemmas.{no_page}
 use Rattle.lazy_world.proofs.MappedLemmas.{mapped-entries}
 use Rattle.lazy_world.proofs.WorldLemmas.{one_name}
@@ -202,3 +205,8 @@ row-page w i p = refl
 pub count-pages : (w : Places) → length (pages w) ≡ count w
 unfolding pages
 count-pages w = refl
+
+-- the frames in use, by the places and by the world
+pub used-world : (w : PlacedWorld) → places.used (pages_seen.cells w.places.pages) ≡ frames.used (seen w)
+unfolding pages seen parts
+used-world w = sym (used-places (parts w) w.sound w.placed w.placed_groups (pages w.places) (row-page w.places) (count-pages w.places ∙ w.count))

@@ -135,7 +135,7 @@ impl PlacedWorld {
             → All (IsPageRun (count self.now.places) to) page_runs.new.items }
     {
         list_item_runs(spec, from, page_runs);
-        for segment in self.places.segments(from) {
+        for segment in self.places.pages.segments(from) {
             page_runs.push(PageRun {
                 range: Range {
                     from: segment.from,
@@ -232,7 +232,7 @@ impl PlacedWorld {
     /// 128 node steps and 4 free nodes, and one free node besides; at most one node step and no node where
     /// all pages are the other one's own, and items share none and leave none out. No frame is taken or
     /// written.
-    pub(crate) fn clone_by(&mut self, spec: &Items, of_context: Name, made: Name)
+    pub(crate) fn copy_cells(&mut self, spec: &Items, of_context: Name, made: Name)
         requires from { IsLive (seen self.old) of_context }
         requires to { IsLive (seen self.old) made }
         requires apart { of_context ≢ made }
@@ -262,7 +262,7 @@ impl PlacedWorld {
     /// new context begins with these registers and has no saved ones. Answers its name. No frame is taken or
     /// written.
     #[tactic(auto, using(lwc_base::proofs::Facts::changes))]
-    pub(crate) fn clone_counted(
+    pub(crate) fn clone_context(
         &mut self,
         of_context: Name,
         spec: &Items,
@@ -284,7 +284,7 @@ impl PlacedWorld {
         self.share(of_context, spec, job);
         let made = self.add_context(job, NOBODY, entry);
         // Nothing is left that moves, so that no value of the new context becomes common by this name.
-        self.clone_by(spec, of_context, made);
+        self.copy_cells(spec, of_context, made);
         made
     }
 }

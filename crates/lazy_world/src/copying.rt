@@ -76,7 +76,7 @@ impl Places {
             → is_own (rows self.now place (Page p)) ≡ true }
         ensures all { HasOwnPages (rows self.now place) → result ≡ true }
     {
-        !has_common(self.segments(place))
+        !has_common(self.pages.segments(place))
     }
 
     /// Whether the credential of a place is its own.

@@ -133,7 +133,7 @@ impl World for LazyWorld {
         ensures store { CloneStore (lazy.placed self.old) (lazy.placed self.new) context job spec.now }
         ensures steps { CloneSteps (lazy.placed self.old) (lazy.placed self.new) context job spec.now }
     {
-        Ok(self.clone_counted(context, spec, job, entry))
+        Ok(self.clone_with_costs(context, spec, job, entry))
     }
 
     fn overlay(&mut self, to: Name, from: Name, spec: &Items, job: u32) -> Result<(), OutOfMemory>
@@ -151,7 +151,7 @@ impl World for LazyWorld {
         ensures store { OverlayStore (lazy.placed self.old) (lazy.placed self.new) from job spec.now }
         ensures steps { OverlaySteps (lazy.placed self.old) (lazy.placed self.new) from job spec.now }
     {
-        self.overlay_counted(to, from, spec, job);
+        self.overlay_with_costs(to, from, spec, job);
         Ok(())
     }
 
@@ -179,15 +179,15 @@ impl World for LazyWorld {
     }
 
     fn live_of(&self, job: u32) -> u32 {
-        self.world.live_of(job)
+        self.world.contexts.count_of(job)
     }
 
     fn groups_of(&self, job: u32) -> u32 {
-        self.world.groups_of(job)
+        self.world.groups.count_of(job)
     }
 
     fn nth_context(&self, index: u32) -> Option<Name> {
-        self.world.nth_context(index)
+        self.world.contexts.nth(index)
     }
 
     fn summary(&self, context: Name) -> Summary {
@@ -195,14 +195,14 @@ impl World for LazyWorld {
     }
 
     fn context_count(&self) -> u32 {
-        self.world.context_count()
+        self.world.contexts.len()
     }
 
     fn group_count(&self) -> u32 {
-        self.world.group_count()
+        self.world.groups.len()
     }
 
     fn used(&self) -> u32 {
-        self.world.used()
+        self.world.places.pages.used()
     }
 }

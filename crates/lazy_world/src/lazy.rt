@@ -52,7 +52,7 @@ impl LazyWorld {
     /// each range of the context and each item takes at most 128 node steps and 4 free nodes, and one free
     /// node besides if there is one; or one step and no node in all, where each page is copied and is the
     /// context's own.
-    pub fn clone_counted(&mut self, context: Name, spec: &Items, job: u32, entry: &Regs) -> Name
+    pub fn clone_with_costs(&mut self, context: Name, spec: &Items, job: u32, entry: &Regs) -> Name
         requires live { IsLive (seen_lazy self.old) context }
         requires within { IsSpec (seen_lazy self.old).size.pages spec.now }
         requires may { MayName (seen_lazy self.old) job }
@@ -68,13 +68,13 @@ impl LazyWorld {
     {
         let next = self.world.next_name(job);
         self.add_cached_root(Some(next));
-        self.world.clone_counted(context, spec, job, entry)
+        self.world.clone_context(context, spec, job, entry)
     }
 
     /// `overlay`, without a `Result`. No frame is taken or written. Where no group is needed, each
     /// range of `from` and each item takes at most 3064 node steps and 16 free nodes, and 1532 steps and 9
     /// nodes besides.
-    pub fn overlay_counted(&mut self, to: Name, from: Name, spec: &Items, job: u32)
+    pub fn overlay_with_costs(&mut self, to: Name, from: Name, spec: &Items, job: u32)
         requires to { IsLive (seen_lazy self.old) to }
         requires from { IsLive (seen_lazy self.old) from }
         requires within { IsSpec (seen_lazy self.old).size.pages spec.now }
@@ -90,7 +90,7 @@ impl LazyWorld {
         if names_slots(spec) {
             self.known = false;
         }
-        self.world.overlay_counted(to, from, spec, job);
+        self.world.overlay(to, from, spec, job);
     }
 }
 

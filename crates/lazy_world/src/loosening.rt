@@ -48,6 +48,7 @@ fn is_among_at(names: &[Name], place: usize, context: Name) -> bool
 
 impl PlacedWorld {
     /// The context that a slot of the context at a place has a descriptor of, if it has one.
+    #[tactic(auto, unfolding(crate::specs::Seen::rows, crate::specs::Cells::rows_of))]
     pub(crate) fn linked(&self, place: usize, slot: SlotNumber) -> Option<Name>
         requires place { place < count self.now.places }
         requires slot { slot < SLOTS }
@@ -55,7 +56,7 @@ impl PlacedWorld {
             ≡ context_of (value_of (seen self.now) (Slot slot) (rows self.now.places place (Slot slot))) }
     {
         if !self.places.is_common(place, slot) {
-            return self.places.context(place, slot);
+            return self.places.slots.context(place, slot);
         }
         match self.slot_at(place, slot) {
             Lent::Ctx { name, .. } => Some(name),
@@ -145,7 +146,7 @@ impl PlacedWorld {
             → Reaches (seen self.now) roots.now c }
     {
         if let Some(j) = first {
-            if self.places.is_shared(place, j, slot) {
+            if self.places.slots.is_shared(place, j, slot) {
                 return true;
             }
         }

@@ -113,7 +113,7 @@ impl PlacedWorld {
             (range_with_len 0 self.now.size.pages))
             marks.old marks.new }
     {
-        for segment in self.places.segments(place) {
+        for segment in self.places.pages.segments(place) {
             self.mark_kind(segment.kind, marks);
         }
     }

@@ -59,7 +59,7 @@ impl PlacedWorld {
     /// gets a copy of each value of mode copy, has each value of mode share in common with `from`, and
     /// nothing under a key of mode unmap. An absent page of `from` becomes absent in `to`. No frame is taken
     /// or written.
-    pub(crate) fn overlay_counted(&mut self, to: Name, from: Name, spec: &Items, job: u32)
+    pub(crate) fn overlay(&mut self, to: Name, from: Name, spec: &Items, job: u32)
         requires to { IsLive (seen self.old) to }
         requires from { IsLive (seen self.old) from }
         requires within { IsSpec (seen self.old).size.pages spec.now }

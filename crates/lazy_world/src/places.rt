@@ -11,8 +11,8 @@ ghost use Rattle.lazy_world.specs.Kept.{IsKept, number_of};
 use crate::key_value::KeyValue;
 use cow_space::PageCells;
 use fd_table::{NUMBERS, Slots, TargetNumber};
-use lwc_base::{Cell, Lent, NOBODY, Name, OutOfMemory, PageNumber, Right, SlotNumber};
-use range_map::{PageState, Segment, SegmentKind};
+use lwc_base::{Cell, Lent, NOBODY, Name, OutOfMemory, PageNumber, SlotNumber};
+use range_map::SegmentKind;
 use std::alloc::Global;
 
 /// The cells of a fixed number of places: of each the pages, the slots and the credential.
@@ -45,22 +45,22 @@ fn number_of(name: Name) -> TargetNumber
 }
 
 impl Places {
-    ghost use Rattle.std.specs.Prelude.{◌≤◌, ◌≢◌, ℕ, All, IfSome, Some, false, length, true};
+    ghost use Rattle.std.specs.Prelude.{◌≤◌, ◌≢◌, ℕ, IfSome, Some, false, length, true};
     ghost use Rattle.std.specs.Option.{option_copied};
     ghost use Rattle.lwc_base.specs.Frames.{own_value};
     ghost use Rattle.lwc_base.specs.Keys.{with_key};
     ghost use Rattle.lwc_base.specs.declared.cell.Cell.{Cell};
     ghost use Rattle.lwc_types.specs.declared.key.TheConstants.{SLOTS};
     ghost use Rattle.lwc_types.specs.declared.key.Key.TheVariants.{Page, Slot, Cred};
-    ghost use Rattle.lwc_types.specs.declared.limits.TheConstants.{MOST_PAGES, MOST_RANGES};
+    ghost use Rattle.lwc_types.specs.declared.limits.TheConstants.{MOST_PAGES};
     ghost use Rattle.lwc_types.specs.declared.page.TheConstants.{PAGE_BYTES};
     ghost use Rattle.cow_space.specs.Maps.{data_of};
-    ghost use Rattle.range_map.specs.Kinds.{IsCanonical, IsSegment, kind_of, ranges, state_at};
+    ghost use Rattle.range_map.specs.Kinds.{kind_of};
     ghost use Rattle.cow_space.specs.Cells.{all_write};
     ghost use Rattle.lwc_base.specs.Capabilities.{has_bit};
     ghost use Rattle.fd_table.specs.declared.slots.TheConstants.{NUMBERS};
     ghost use Rattle.fd_table.specs.Slots.{cell_of, context_in, is_common, is_filled};
-    ghost use Rattle.lazy_world.specs.Cells.{no_row, put_row, states_of};
+    ghost use Rattle.lazy_world.specs.Cells.{no_row, put_row};
     ghost use Rattle.lazy_world.specs.Kept.{target_of};
     ghost use Rattle.lwc_types.specs.declared.limits.TheConstants.{MOST_PAGE_PLACES};
     ghost use Rattle.lazy_world.specs.KeyValues.{HasSlot, group_in, key_in, value_in};
@@ -88,55 +88,6 @@ impl Places {
         ensures { result ≡ kind_of (rows self.now place (Page page)) }
     {
         self.pages.kind(place, page)
-    }
-
-    /// The right of a page of a place; `Write` where it is absent.
-    pub fn right(&self, place: usize, page: PageNumber) -> Right
-        requires { place < count self.now }
-        ensures { result ≡ rights self.now place page }
-    {
-        self.pages.right(place, page)
-    }
-
-    /// The kind and the right of a page of a place; `None` where it is absent.
-    pub fn state(&self, place: usize, page: PageNumber) -> Option<PageState>
-        requires { place < count self.now }
-        ensures { result ≡ states_of (rows self.now place) (rights self.now place) page }
-    {
-        self.pages.state(place, page)
-    }
-
-    /// The kind and the right of a page of a place, and the first page after it that has others, or the end of
-    /// all pages. There are at most 64 ranges, so that a walk from run to run is short.
-    pub fn run_at(&self, place: usize, page: PageNumber) -> (Option<PageState>, PageNumber)
-        requires place { place < count self.now }
-        requires page { page < MOST_PAGES }
-        ensures state { result.0 ≡ states_of (rows self.now place) (rights self.now place) page }
-        ensures past { page < result.1 }
-        ensures within { result.1 ≤ MOST_PAGES }
-        ensures alike { (q : ℕ) → page ≤ q → q < result.1
-            → states_of (rows self.now place) (rights self.now place) q
-            ≡ states_of (rows self.now place) (rights self.now place) page }
-        ensures other { result.1 < MOST_PAGES
-            → states_of (rows self.now place) (rights self.now place) result.1
-            ≢ states_of (rows self.now place) (rights self.now place) page }
-        ensures few { ranges MOST_PAGES (states_of (rows self.now place) (rights self.now place))
-            ≤ MOST_RANGES }
-    {
-        self.pages.run_at(place, page)
-    }
-
-    /// The segments of a place, one for each range.
-    pub fn segments(&self, place: usize) -> &[Segment]
-        requires { place < count self.now }
-        ensures states { state_at result.now ≡ states_of (rows self.now place) (rights self.now place) }
-        ensures count { length result.now
-            ≡ ranges MOST_PAGES (states_of (rows self.now place) (rights self.now place)) }
-        ensures few { length result.now ≤ MOST_RANGES }
-        ensures each { All IsSegment result.now }
-        ensures canonical { IsCanonical result.now }
-    {
-        self.pages.segments(place)
     }
 
     /// The bytes of a page that is the place's own. A page that is absent, common or zeros has none.
@@ -177,15 +128,6 @@ impl Places {
         }
     }
 
-    /// The context that a slot of a place's own has a descriptor of, if it has one.
-    pub fn context(&self, place: usize, slot: SlotNumber) -> Option<Name>
-        requires place { place < count self.now }
-        requires slot { slot < SLOTS }
-        ensures { result ≡ context_in (rows self.now place (Slot slot)) }
-    {
-        self.slots.context(place, slot)
-    }
-
     /// The slots of a place that are common: slot n is bit n.
     pub fn common(&self, place: usize) -> u64
         requires { place < count self.now }
@@ -220,16 +162,6 @@ impl Places {
         ensures { (n : ℕ) → n < SLOTS → has_bit result n ≡ is_filled (rows self.now place (Slot n)) }
     {
         self.slots.filled(place)
-    }
-
-    /// Whether two places share a slot. Slots that are not shared may be the same, too.
-    pub fn is_shared(&self, place: usize, other: usize, slot: SlotNumber) -> bool
-        requires place { place < count self.now }
-        requires other { other < count self.now }
-        requires slot { slot < SLOTS }
-        ensures { result ≡ true → rows self.now place (Slot slot) ≡ rows self.now other (Slot slot) }
-    {
-        self.slots.is_shared(place, other, slot)
     }
 
     /// Whether a slot of a place is more than an empty slot of its own.

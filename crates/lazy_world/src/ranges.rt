@@ -251,6 +251,7 @@ impl PlacedWorld {
 
     /// What is found at a page of a place, and the first later page of another state, or the end of all
     /// pages.
+    #[tactic(auto, unfolding(crate::specs::Seen::rows, crate::specs::Seen::rights, crate::specs::Cells::rows_of))]
     pub(crate) fn found_page(&self, place: usize, page: PageNumber) -> (Found, PageNumber)
         requires place { place < count self.now.places }
         requires page { page < MOST_PAGES }
@@ -272,7 +273,7 @@ impl PlacedWorld {
             (states_of (rows self.now.places place) (rights self.now.places place))
             ≤ MOST_RANGES }
     {
-        let (state, edge) = self.places.run_at(place, page);
+        let (state, edge) = self.places.pages.run_at(place, page);
         (self.found_state(state), edge)
     }
 

@@ -1,50 +1,16 @@
 #![tactic(auto, unfolding(crate::specs::Seen::rows, crate::specs::Seen::rights, crate::specs::Cells::rows_of))]
 
-ghost use Rattle.std.specs.Prelude.{◌≡◌, ◌<◌, ◌≤◌, ◌+◌, ℕ, suc, None, Option};
+ghost use Rattle.std.specs.Prelude.{◌≡◌, ◌<◌, ℕ};
 ghost use Rattle.lwc_base.specs.Modes.{IsSpec};
 ghost use Rattle.lwc_types.specs.declared.limits.TheConstants.{MOST_PAGES};
 ghost use Rattle.range_map.specs.Kinds.{ranges};
-ghost use Rattle.range_map.specs.declared.segment.PageState.{PageState};
-ghost use Rattle.cow_space.specs.declared.page_runs.Origin.TheVariants.{CopyOf};
 ghost use Rattle.lazy_world.specs.Cells.{states_of};
-ghost use Rattle.lazy_world.specs.Origins.{run_states};
 ghost use Rattle.lazy_world.specs.Seen.{count, rights, rows};
 
-use crate::places::Places;
 use crate::ranges::ModeRun;
 use crate::transfer::Transfer;
 use crate::world::PlacedWorld;
-use cow_space::PageRun;
 use lwc_base::{Items, MOST_PAGES, Name, PageNumber};
-use range_map::PageState;
-
-impl Places {
-    /// The number of ranges of a place.
-    fn range_count(&self, place: usize) -> u32
-        requires { place < count self.now }
-        ensures { result ≡ ranges MOST_PAGES (states_of (rows self.now place) (rights self.now place)) }
-    {
-        self.pages.count(place)
-    }
-
-    /// The number of ranges that begin at the pages of a page run, and the state of the last of them. `before`
-    /// is the state of the page before the first.
-    fn count_run(&self, page_run: &PageRun, before: Option<PageState>) -> (u32, Option<PageState>)
-        requires origin { (j : ℕ) → page_run.now.origin ≡ CopyOf j → j < count self.now }
-        requires order { page_run.now.range.from < page_run.now.range.to }
-        requires inside { page_run.now.range.to ≤ MOST_PAGES }
-        ensures counted { (after : ℕ → Option PageState)
-            → ((q : ℕ) → page_run.now.range.from ≤ q → q < page_run.now.range.to
-            → after q ≡ run_states (rows self.now) (rights self.now) page_run.now q)
-            → (page_run.now.range.from ≡ 0 → before ≡ None)
-            → ((n : ℕ) → page_run.now.range.from ≡ suc n → before ≡ after n)
-            → ranges page_run.now.range.to after ≡ ranges page_run.now.range.from after + result.0 }
-        ensures last { (n : ℕ) → page_run.now.range.to ≡ suc n
-            → result.1 ≡ run_states (rows self.now) (rights self.now) page_run.now n }
-    {
-        self.pages.count_given(page_run, before)
-    }
-}
 
 impl PlacedWorld {
     ghost use Rattle.lwc_base.specs.Overlay.{ranges_after_overlay};
@@ -84,7 +50,7 @@ impl PlacedWorld {
         'pages: while p < MOST_PAGES {
             let stretch = self.stretch_from(transfer, spec, modes, from, to, p);
             let page_run = stretch.whole(to, p);
-            let (more, end) = self.places.count_run(&page_run, last);
+            let (more, end) = self.places.pages.count_given(&page_run, last);
             count += more;
             last = end;
             modes = stretch.modes;
@@ -104,7 +70,7 @@ impl PlacedWorld {
         let from = self.place(target);
         let to = self.place(context);
         if self.gives_same(transfer, spec, from) {
-            self.places.range_count(from)
+            self.places.pages.count(from)
         } else {
             self.count_transferred(transfer, spec, from, to)
         }
@@ -122,7 +88,7 @@ impl PlacedWorld {
         if self.needs_group(context, items) {
             self.ranges_after(Transfer::Mark(self.unnamed()), items, context, context)
         } else {
-            self.places.range_count(self.place(context))
+            self.places.pages.count(self.place(context))
         }
     }
 

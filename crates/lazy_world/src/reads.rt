@@ -1,5 +1,5 @@
 ghost use Rattle.std.specs.Prelude.{◌≡◌, ◌<◌, ◌≤◌, ◌^◌, ℕ, IfNone, IfSome, Some};
-ghost use Rattle.std.specs.Prelude.{count_by, false, is_some, not, slice_get};
+ghost use Rattle.std.specs.Prelude.{count_by, false, is_some, not};
 ghost use Rattle.std.specs.FinMap as fm;
 ghost use Rattle.lwc_types.specs.declared.key.TheConstants.{SLOTS};
 ghost use Rattle.lwc_types.specs.declared.key.Key.TheVariants.{Page, Slot, Cred};
@@ -17,7 +17,7 @@ impl PlacedWorld {
     ghost use Rattle.lwc_base.specs.Lending.{descriptor_of};
     ghost use Rattle.lwc_base.specs.Slots.{lowest_empty};
     ghost use Rattle.lwc_base.specs.Summaries.{is_empty, summary_of};
-    ghost use Rattle.lwc_base.specs.World.{context, group, groups_of, live_of, new_group};
+    ghost use Rattle.lwc_base.specs.World.{context, group, new_group};
     ghost use Rattle.world_face.specs.Calls.{IsLive};
     ghost use Rattle.lazy_world.specs.Clones.{place_of_group};
     ghost use Rattle.lazy_world.specs.Seen.{count, rows};
@@ -176,22 +176,24 @@ impl PlacedWorld {
     }
 
     /// Whether a page of a group is present.
+    #[tactic(auto, unfolding(crate::specs::Seen::rows, crate::specs::Cells::rows_of))]
     fn has_group_page(&self, group_name: Name, page: PageNumber) -> bool
         ensures { result ≡ is_some ((group (seen self.now) group_name).value (Page page)) }
     {
         match self.group_place(group_name) {
-            Some(i) => matches!(self.places.kind(i, page), Some(SegmentKind::Own)),
+            Some(i) => matches!(self.places.pages.kind(i, page), Some(SegmentKind::Own)),
             None => false,
         }
     }
 
     /// Whether a page of the context at a place is present.
+    #[tactic(auto, unfolding(crate::specs::Seen::rows, crate::specs::Cells::rows_of))]
     pub(crate) fn is_present(&self, place: usize, page: PageNumber) -> bool
         requires { place < count self.now.places }
         ensures { result
             ≡ is_some (value_of (seen self.now) (Page page) (rows self.now.places place (Page page))) }
     {
-        match self.places.kind(place, page) {
+        match self.places.pages.kind(place, page) {
             None => false,
             Some(SegmentKind::Own) => true,
             Some(SegmentKind::Common(g)) => self.has_group_page(g, page),
@@ -256,40 +258,5 @@ impl PlacedWorld {
         ensures value { result ≡ (context (seen self.now) of_context).saved thread }
     {
         self.registers[self.place(of_context)].saved(thread)
-    }
-
-    /// The number of live contexts of the job.
-    pub(crate) fn live_of(&self, job: u32) -> u32
-        ensures { result ≡ live_of (seen self.now) job }
-    {
-        self.contexts.count_of(job)
-    }
-
-    /// The number of live groups of the job.
-    pub(crate) fn groups_of(&self, job: u32) -> u32
-        ensures { result ≡ groups_of (seen self.now) job }
-    {
-        self.groups.count_of(job)
-    }
-
-    /// The name of the i-th live context in the order of names; `None` if at most i contexts are live.
-    pub(crate) fn nth_context(&self, index: u32) -> Option<Name>
-        ensures { result ≡ slice_get (fm.keys (seen self.now).contexts) index }
-    {
-        self.contexts.nth(index)
-    }
-
-    /// The number of live contexts.
-    pub(crate) fn context_count(&self) -> u32
-        ensures { result ≡ fm.len (seen self.now).contexts }
-    {
-        self.contexts.len()
-    }
-
-    /// The number of live groups.
-    pub(crate) fn group_count(&self) -> u32
-        ensures { result ≡ fm.len (seen self.now).groups }
-    {
-        self.groups.len()
     }
 }

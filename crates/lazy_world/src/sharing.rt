@@ -83,7 +83,7 @@ impl PlacedWorld {
     {
         let mut p: PageNumber = range.from;
         'pages: while p < range.to {
-            let (state, edge) = self.places.run_at(place, p);
+            let (state, edge) = self.places.pages.run_at(place, p);
             if is_of_own(state) {
                 return true;
             }

@@ -20,15 +20,6 @@ use lwc_base::{Counters, Name, PageNumber, Range, Right, StoreFault, Tag, touche
 use range_map::SegmentKind;
 
 impl Places {
-    /// How many frames are in use: one for each different tag.
-    #[tactic(auto, unfolding(crate::specs::Seen::pages, crate::specs::Seen::frame_count))]
-    pub fn used(&self) -> u32
-        ensures used { result ≡ places.used (pages self.now) }
-        ensures within { result ≤ frame_count self.now }
-    {
-        self.pages.used()
-    }
-
     /// Whether a page of a place parts when it is written: it has no bytes of its own, or its tag is at
     /// another page too.
     #[tactic(auto, unfolding(crate::specs::Seen::pages))]
@@ -103,14 +94,6 @@ impl PlacedWorld {
     ghost use Rattle.lazy_world.specs.Stores.{parts_at, store_pages, taken_at};
     ghost use Rattle.lazy_world.specs.Worlds.{seen};
 
-    /// The number of frames in use.
-    pub(crate) fn used(&self) -> u32
-        ensures used { result ≡ used (seen self.now) }
-        ensures within { result ≤ (seen self.now).size.frames }
-    {
-        self.places.used()
-    }
-
     /// Whether a page of the context at a place parts when it is stored to. An absent page reads as zeros,
     /// which part.
     fn is_parting(&self, place: usize, page: PageNumber) -> bool
@@ -153,18 +136,19 @@ impl PlacedWorld {
             (unwrap_or (page_in (seen self.now) (rows self.now.places place) p) Zero))
             (range_with_len pages.from (pages.to - pages.from)) ≤ (seen self.now).size.frames }
     {
-        let used = self.used() as usize;
+        let used = self.places.pages.used() as usize;
         let frames = self.size.frames as usize;
         let most = (pages.to - pages.from) as usize;
         frames < used + most && frames < used + self.parting_count(place, pages)
     }
 
     /// Whether bytes may be stored to a page of the context at a place.
+    #[tactic(auto, unfolding(crate::specs::Seen::rights))]
     fn is_writable(&self, place: usize, page: PageNumber) -> bool
         requires { place < count self.now.places }
         ensures { result ≡ may_write (rights self.now.places place page) }
     {
-        match self.places.right(place, page) {
+        match self.places.pages.right(place, page) {
             Right::Write => true,
             Right::Read => false,
         }

@@ -52,7 +52,7 @@ pub fn trap_target<W: World>(
         Ok(link) => link,
         Err(refusal) => return Err(TrapRefusal::Plain(refusal)),
     };
-    let Some(all) = Mask::of(ALL_KINDS) else {
+    let Some(all) = Mask::from_bits(ALL_KINDS) else {
         unreachable!();
     };
     if !grants_kinds(keys, all, world.pages()) {

@@ -64,7 +64,7 @@ fn chosen<W: World>(world: &W, context: Name, regs: &Regs) -> Result<CallContext
     ensures cred { IfOk result (λ targets. IsLive (W.seen world.now) targets.cred) }
 {
     let (d, keys) = context_for(world, context, regs.r[1])?;
-    let Some(mask) = Mask::of(regs.r[2]) else {
+    let Some(mask) = Mask::from_bits(regs.r[2]) else {
         return Err(Refusal::BadMode);
     };
     if !grants_kinds(keys, mask, world.pages()) {

@@ -1,4 +1,6 @@
+use Rattle.cow_space.specs.RowSeen.{frames_of}
 use Rattle.cow_space.proofs.cells.PageCells.frames.Goals as goal
 
 pub returns : goal.returns
-returns c = c.frames.ensures
+unfolding frames_of
+returns c = c.len.ensures

@@ -22,11 +22,11 @@ returns-in-Some-clause-slots c =
     (λ i. slots_in (c.push_reserved.ensures.items i) (c.push_reserved-in-Some.ensures.items i))
     ∙ stored-push _ _ _ (λ i. (c.self.view_is i).slots) c.self.invariant.beside _ c.in-Some.words.now
     ∙ ap (λ (slot : Slot). c.args.self.now.slots ++ slot ∷ [])
-    (filled-words c.args.filling.now _ c.of.ensures c.in-Some.words.now (sym c.words_of.ensures ∙ ap option_copied c.in-Some.is))
+    (filled-words c.args.filling.now _ c.from_cell.ensures c.in-Some.words.now (sym c.words_of.ensures ∙ ap option_copied c.in-Some.is))
 
 pub returns-in-None-clause-slots : goal.returns-in-None-clause-slots
 returns-in-None-clause-slots c =
     (λ i. slots_in (c.push_reserved.ensures.items i) (c.push_reserved-in-None.ensures.items i))
     ∙ stored-push _ _ _ (λ i. (c.self.view_is i).slots) c.self.invariant.beside _ _
     ∙ ap (λ (slot : Slot). c.args.self.now.slots ++ slot ∷ [])
-    (filled-beside c.args.filling.now _ c.of.ensures _ (sym c.words_of.ensures ∙ ap option_copied c.in-None.is))
+    (filled-beside c.args.filling.now _ c.from_cell.ensures _ (sym c.words_of.ensures ∙ ap option_copied c.in-None.is))

@@ -15,9 +15,9 @@ index_mut-requires-in-Some c =
 pub returns-in-Some-clause-slots : goal.returns-in-Some-clause-slots
 returns-in-Some-clause-slots c =
     stored-set _ _ _ (λ i. (c.self.view_is i).slots) c.self.invariant.beside _ _ c.in-Some.words.now
-    ∙ ap (set c.args.self.now.slots c.args.place) (filled-words c.args.filling.now _ c.of.ensures c.in-Some.words.now (sym c.words_of.ensures ∙ ap option_copied c.in-Some.is))
+    ∙ ap (set c.args.self.now.slots c.args.place) (filled-words c.args.filling.now _ c.from_cell.ensures c.in-Some.words.now (sym c.words_of.ensures ∙ ap option_copied c.in-Some.is))
 
 pub returns-in_default-clause-slots : goal.returns-in_default-clause-slots
 returns-in_default-clause-slots c =
     stored-beside _ _ _ (λ i. (c.self.view_is i).slots) c.self.invariant.beside _ _ empty_cap
-    ∙ ap (set c.args.self.now.slots c.args.place) (filled-beside c.args.filling.now _ c.of.ensures _ (sym c.words_of.ensures ∙ ap option_copied c.in_default.is))
+    ∙ ap (set c.args.self.now.slots c.args.place) (filled-beside c.args.filling.now _ c.from_cell.ensures _ (sym c.words_of.ensures ∙ ap option_copied c.in_default.is))

@@ -1,10 +1,12 @@
 use Rattle.std.proofs.Common.{◌∙◌, ⊎_elim, arith, sym}
 use Rattle.std.proofs.lemmas.Bool.{cases_lt}
 use Rattle.lwc_types.specs.declared.key.Key.TheVariants.{Page}
+use Rattle.lazy_world.specs.Cells.{rows_of}
 use Rattle.lazy_world.specs.Seen.{rights, rows}
 use Rattle.lazy_world.proofs.world.PlacedWorld.has_own_between.Goals as goal
 
 pub returns-then-is_of_own-clause-some : goal.returns-then-is_of_own-clause-some
+unfolding rows rights rows_of
 returns-then-is_of_own-clause-some c = λ _.
     let places = c.args.self.now.places in
     let p = c.pages.p in (
@@ -15,6 +17,7 @@ returns-then-is_of_own-clause-some c = λ _.
     )
 
 pub pages-preserved : goal.pages-preserved
+unfolding rows rights rows_of
 pages-preserved c =
     let places = c.args.self.now.places in
     let inv = c.pages.invariant in

@@ -5,14 +5,16 @@ use Rattle.std.proofs.lemmas.List.{take_all}
 use Rattle.lwc_base.specs.Modes.{mode}
 use Rattle.lwc_types.specs.declared.key.Key.TheVariants.{Page}
 use Rattle.lwc_types.specs.declared.right.Right.TheVariants.{Write}
-use Rattle.range_map.specs.Kinds.{state_at}
+use Rattle.lwc_types.specs.declared.limits.TheConstants.{MOST_PAGES}
+use Rattle.range_map.specs.Kinds.{ranges, state_at}
 use Rattle.range_map.specs.declared.segment.Segment.{Segment}
 use Rattle.range_map.specs.declared.segment.SegmentKind.TheVariants.{Own}
 use Rattle.cow_space.specs.declared.page_runs.Origin.{Origin}
 use Rattle.cow_space.specs.declared.page_runs.PageRun.{PageRun}
 use Rattle.cow_space.specs.Changes.{IsPageRun}
+use Rattle.lazy_world.specs.Cells.{rows_of, states_of}
 use Rattle.lazy_world.specs.Clones.{item_gift, state_gift}
-use Rattle.lazy_world.specs.Seen.{count}
+use Rattle.lazy_world.specs.Seen.{count, rights, rows}
 use Rattle.lazy_world.specs.Origins.{gift_at}
 use Rattle.lazy_world.specs.Worlds.{parts}
 use Rattle.range_map.proofs.Built.{or_none}
@@ -53,7 +55,7 @@ loop-segment-preserved c =
     }
 
 pub returns-clause-gifts : goal.returns-clause-gifts
-unfolding parts
+unfolding parts rows rights rows_of
 returns-clause-gifts c q =
     let w = c.args.self.now in
     let all = take_all c.loop-segment.segment-index c.segments-segment-items.result.now c.loop-segment-test.false in
@@ -62,7 +64,11 @@ returns-clause-gifts c q =
     (ap (λ (xs : List Segment). state_at xs q) all ∙ (λ e. c.segments-segment-items.ensures.states e q))
 
 pub returns-clause-few : goal.returns-clause-few
-returns-clause-few c = omega (arith, c.loop-segment.invariant.few, c.loop-segment.auto.segment-index-end, c.segments-segment-items.ensures.count)
+unfolding rows rights rows_of
+returns-clause-few c =
+    let w = c.args.self.now in
+    let many : length c.segments-segment-items.result.now ≡ ranges MOST_PAGES (states_of (rows w.places c.args.from) (rights w.places c.args.from)) = c.segments-segment-items.ensures.count in
+    omega (arith, c.loop-segment.invariant.few, c.loop-segment.auto.segment-index-end, many)
 
 pub returns-clause-given : goal.returns-clause-given
 returns-clause-given c = c.loop-segment.invariant.given

@@ -4,6 +4,7 @@ use Rattle.std.proofs.lemmas.List.{take_all}
 use Rattle.std.proofs.lemmas.List.Folds.{list_any_more}
 use Rattle.lwc_types.specs.declared.key.Key.TheVariants.{Page}
 use Rattle.range_map.specs.declared.segment.Segment.{Segment}
+use Rattle.lazy_world.specs.Cells.{rows_of}
 use Rattle.lazy_world.specs.Reaping.{is_of}
 use Rattle.lazy_world.specs.Seen.{rights, rows}
 use Rattle.lazy_world.specs.Worlds.{parts}
@@ -21,7 +22,7 @@ loop-segment-preserved c =
     (λ g. sym (list_any_more (λ (s : Segment). is_of s.kind g) c.segments-segment-items.result.now c.loop-segment.segment-index _ c.loop-segment-test.true))
 
 pub returns : goal.returns
-unfolding parts
+unfolding parts rows rights rows_of
 returns c =
     let w = c.args.self.now in
     let row = rows w.places c.args.place in

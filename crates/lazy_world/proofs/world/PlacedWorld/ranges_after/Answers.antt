@@ -1,7 +1,7 @@
 use Rattle.std.proofs.Common.{◌∙◌, sym}
 use Rattle.lwc_types.specs.declared.limits.TheConstants.{MOST_PAGES}
 use Rattle.range_map.specs.Kinds.{ranges}
-use Rattle.lazy_world.specs.Cells.{states_of}
+use Rattle.lazy_world.specs.Cells.{rows_of, states_of}
 use Rattle.lazy_world.specs.Seen.{rights, rows}
 use Rattle.lazy_world.specs.States.{world_of}
 use Rattle.lazy_world.specs.Worlds.{parts, seen}
@@ -22,12 +22,12 @@ returns-else-gives_same c =
     (followed-few (parts w) w.sound w.placed c.args.transfer c.args.spec.now c.requires.within c.args.target c.args.context c.place-from.result c.place-to.result c.place-from.ensures.context c.place-to.ensures.found)
 
 pub returns-then-gives_same : goal.returns-then-gives_same
-unfolding seen parts world_of
+unfolding seen parts world_of rows rights rows_of
 returns-then-gives_same c =
     let w = c.args.self.now in
     let to = c.place-to.result in
     let same = c.gives_same.ensures in
-    c.range_count.ensures
+    c.count.ensures.ranges
     ∙ sym (λ e. ranges MOST_PAGES (states_of (same.row c.if-gives_same.true (rows w.places to) e) (same.rights c.if-gives_same.true (rights w.places to) e)))
     ∙ sym
     (followed-few (parts w) w.sound w.placed c.args.transfer c.args.spec.now c.requires.within c.args.target c.args.context c.place-from.result to c.place-from.ensures.context c.place-to.ensures.found)

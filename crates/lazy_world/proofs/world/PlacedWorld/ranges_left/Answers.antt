@@ -5,7 +5,7 @@ use Rattle.lwc_types.specs.declared.limits.TheConstants.{MOST_PAGES}
 use Rattle.lwc_types.specs.declared.name.Name.{Name}
 use Rattle.range_map.specs.Kinds.{ranges}
 use Rattle.lwc_types.specs.declared.key.Key.{Key}
-use Rattle.lazy_world.specs.Cells.{Row, states_of}
+use Rattle.lazy_world.specs.Cells.{Row, rows_of, states_of}
 use Rattle.lazy_world.specs.Followed.{followed}
 use Rattle.lazy_world.specs.Seen.{rights, rows}
 use Rattle.lazy_world.specs.States.{world_of}
@@ -23,7 +23,7 @@ returns-then-needs_group c =
     c.ranges_after.ensures ∙ ap (λ (g : Name). ranges_of (followed (seen c.args.self.now) (Mark g) c.args.items.now c.args.context c.args.context) c.args.context) c.unnamed.ensures
 
 pub returns-else-needs_group : goal.returns-else-needs_group
-unfolding seen parts world_of
+unfolding seen parts world_of rows rights rows_of
 returns-else-needs_group c =
     let w = c.args.self.now in
     let items = c.args.items.now in
@@ -33,6 +33,6 @@ returns-else-needs_group c =
     let idle = sym c.needs_group.ensures.value ∙ c.if-needs_group.false in
     let none : (k : Key) → moves items k (rows w.places place) ≡ false =
     λ k. subst (λ (row : Row). moves items k row ≡ false) here (none-moves (seen w) c.args.context 0 items c.requires.within c.requires.live idle k) in
-    c.range_count.ensures
+    c.count.ensures.ranges
     ∙ sym (λ e. ranges MOST_PAGES (states_of (unmoved-same (seen w) g items (rows w.places place) (rows w.places place) none e) (marked-rights g items (rows w.places place) (rights w.places place) (rights w.places place) e)))
     ∙ sym (followed-few (parts w) w.sound w.placed (Mark g) items c.requires.within c.args.context c.args.context place place c.place.ensures.context c.place.ensures.found)

@@ -15,7 +15,7 @@ use Rattle.lazy_world.specs.Seen.{KeepsStore}
 use Rattle.lazy_world.specs.declared.world.PlacedWorld.{PlacedWorld}
 use Rattle.lazy_world.proofs.CostLemmas.{added-ranges, clone-takes, copy-before, steps-before}
 use Rattle.lwc_base.proofs.Facts.{changes, counts, stays_fresh}
-use Rattle.lazy_world.proofs.world.PlacedWorld.clone_counted.Goals as goal
+use Rattle.lazy_world.proofs.world.PlacedWorld.clone_context.Goals as goal
 
 pub share-requires-clause-few : goal.share-requires-clause-few
 unfolding ranges_after_clone
@@ -30,9 +30,9 @@ add_context-made-requires-clause-place c =
     subst HasPlace (sym c.share.ensures.world)
     (subst (λ (size : WorldSize). fm.len s.contexts < size.contexts) (sym shared.size) (subst (λ n. n < w.size.contexts) (sym many) c.requires.place))
 
-pub clone_by-requires-clause-from : goal.clone_by-requires-clause-from
+pub copy_cells-requires-clause-from : goal.copy_cells-requires-clause-from
 unfolding seen parts
-clone_by-requires-clause-from c =
+copy_cells-requires-clause-from c =
     let w = seen c.args.self.now in
     let x = new_context NOBODY c.args.entry.now in
     let s = share w c.args.of_context c.args.job c.args.spec.now in
@@ -43,9 +43,9 @@ clone_by-requires-clause-from c =
     (other_name w c.args.of_context c.args.job c.args.spec.now c.requires.within c.requires.live c.args.self.now.sound.fresh NOBODY c.args.entry.now)
     ∙ shared.live c.args.of_context ∙ c.requires.live)
 
-pub clone_by-requires-clause-fresh : goal.clone_by-requires-clause-fresh
+pub copy_cells-requires-clause-fresh : goal.copy_cells-requires-clause-fresh
 unfolding seen parts
-clone_by-requires-clause-fresh c =
+copy_cells-requires-clause-fresh c =
     let w = seen c.args.self.now in
     let added = c.add_context-made.ensures.world ∙ ap (λ v. add_context v c.args.job (new_context NOBODY c.args.entry.now)) c.share.ensures.world in
     let named = c.add_context-made.ensures.name ∙ ap (λ v. next_context v c.args.job) c.share.ensures.world in
@@ -54,9 +54,9 @@ clone_by-requires-clause-fresh c =
     c.add_context-made.result (seen c.add_context-made.new.self) c.add_context-made.result added named))
     (stays_fresh.cloned w c.args.of_context c.args.job c.args.spec.now c.args.entry.now c.requires.live c.args.self.now.sound.fresh)
 
-pub clone_by-requires-clause-few : goal.clone_by-requires-clause-few
+pub copy_cells-requires-clause-few : goal.copy_cells-requires-clause-few
 unfolding seen parts
-clone_by-requires-clause-few c =
+copy_cells-requires-clause-few c =
     let w = seen c.args.self.now in
     let added = c.add_context-made.ensures.world ∙ ap (λ v. add_context v c.args.job (new_context NOBODY c.args.entry.now)) c.share.ensures.world in
     let named = c.add_context-made.ensures.name ∙ ap (λ v. next_context v c.args.job) c.share.ensures.world in
@@ -72,29 +72,29 @@ returns-clause-cloned c =
     let w = seen c.args.self.now in
     let added = c.add_context-made.ensures.world ∙ ap (λ v. add_context v c.args.job (new_context NOBODY c.args.entry.now)) c.share.ensures.world in
     let named = c.add_context-made.ensures.name ∙ ap (λ v. next_context v c.args.job) c.share.ensures.world in
-    c.clone_by.ensures.world
+    c.copy_cells.ensures.world
     ∙ cloned-is w c.args.of_context c.args.job c.args.spec.now c.requires.within c.requires.live c.args.self.now.sound.fresh NOBODY c.args.entry.now
     c.add_context-made.result (seen c.add_context-made.new.self) c.add_context-made.result added named
 
-pub clone_by-requires-clause-apart : goal.clone_by-requires-clause-apart
+pub copy_cells-requires-clause-apart : goal.copy_cells-requires-clause-apart
 unfolding seen parts
-clone_by-requires-clause-apart c same =
+copy_cells-requires-clause-apart c same =
     let w = seen c.args.self.now in
     let named = c.add_context-made.ensures.name ∙ ap (λ v. next_context v c.args.job) c.share.ensures.world in
     other_name w c.args.of_context c.args.job c.args.spec.now c.requires.within c.requires.live c.args.self.now.sound.fresh NOBODY c.args.entry.now
     (same ∙ named)
 
-pub clone_by-requires-clause-settled : goal.clone_by-requires-clause-settled
+pub copy_cells-requires-clause-settled : goal.copy_cells-requires-clause-settled
 unfolding seen parts
-clone_by-requires-clause-settled c =
+copy_cells-requires-clause-settled c =
     let w = seen c.args.self.now in
     let added = c.add_context-made.ensures.world ∙ ap (λ v. add_context v c.args.job (new_context NOBODY c.args.entry.now)) c.share.ensures.world in
     still-settled w c.args.of_context c.args.job c.args.spec.now c.requires.within c.requires.live c.args.self.now.sound.fresh NOBODY c.args.entry.now
     (seen c.add_context-made.new.self) added
 
-pub clone_by-requires-clause-empty : goal.clone_by-requires-clause-empty
+pub copy_cells-requires-clause-empty : goal.copy_cells-requires-clause-empty
 unfolding seen parts
-clone_by-requires-clause-empty c k =
+copy_cells-requires-clause-empty c k =
     let w = seen c.args.self.now in
     let x = new_context NOBODY c.args.entry.now in
     let s = share w c.args.of_context c.args.job c.args.spec.now in
@@ -103,7 +103,7 @@ clone_by-requires-clause-empty c k =
     (λ e. is_nothing k ((context (added e) (named e)).cell k)) ∙ ap (λ (y : Context). is_nothing k (y.cell k)) (changes.context_added s c.args.job x).added ∙ new-nothing NOBODY c.args.entry.now k
 
 -- the context has its ranges and its cells once the new one is there
-module _ (c : goal.After-clone_by) where
+module _ (c : goal.After-copy_cells) where
   here : context (seen c.add_context-made.new.self) c.args.of_context ≡ context (share (seen c.args.self.now) c.args.of_context c.args.job c.args.spec.now) c.args.of_context
   unfolding seen parts
   here =
@@ -120,18 +120,18 @@ module _ (c : goal.After-clone_by) where
 
 pub returns-clause-store : goal.returns-clause-store
 returns-clause-store c = record {
-  all = clone-takes c.args.self.now c.share.new.self c.add_context-made.new.self c.clone_by.new.self c.args.of_context c.args.spec.now _ _ c.share.ensures.store c.add_context-made.ensures.store (ap (λ n. n + length c.args.spec.now) (counted c)) c.clone_by.ensures.store;
+  all = clone-takes c.args.self.now c.share.new.self c.add_context-made.new.self c.copy_cells.new.self c.args.of_context c.args.spec.now _ _ c.share.ensures.store c.add_context-made.ensures.store (ap (λ n. n + length c.args.spec.now) (counted c)) c.copy_cells.ensures.store;
   alone = λ none.
-      copy-before c.args.self.now c.add_context-made.new.self c.clone_by.new.self c.args.of_context c.args.spec.now
+      copy-before c.args.self.now c.add_context-made.new.self c.copy_cells.new.self c.args.of_context c.args.spec.now
       (here c ∙ ap (λ v. context v c.args.of_context) (still c none)) (ap (λ n. n + length c.args.spec.now) (counted c ∙ ap (λ v. ranges_of v c.args.of_context) (still c none)))
-      (subst (λ (v : PlacedWorld). KeepsStore v.places c.add_context-made.new.self.places) (c.share.ensures.none none) c.add_context-made.ensures.store) c.clone_by.ensures.store;
+      (subst (λ (v : PlacedWorld). KeepsStore v.places c.add_context-made.new.self.places) (c.share.ensures.none none) c.add_context-made.ensures.store) c.copy_cells.ensures.store;
 }
 
 pub returns-clause-steps : goal.returns-clause-steps
 returns-clause-steps c = record {
-  all = omega (arith, c.share.ensures.steps, c.add_context-made.ensures.store.steps, c.clone_by.ensures.steps.all, counted c);
+  all = omega (arith, c.share.ensures.steps, c.add_context-made.ensures.store.steps, c.copy_cells.ensures.steps.all, counted c);
   alone = λ none.
-      steps-before c.args.self.now c.add_context-made.new.self c.clone_by.new.self c.args.of_context c.args.spec.now
+      steps-before c.args.self.now c.add_context-made.new.self c.copy_cells.new.self c.args.of_context c.args.spec.now
       (here c ∙ ap (λ v. context v c.args.of_context) (still c none)) (counted c ∙ ap (λ v. ranges_of v c.args.of_context) (still c none))
-      (subst (λ (v : PlacedWorld). KeepsStore v.places c.add_context-made.new.self.places) (c.share.ensures.none none) c.add_context-made.ensures.store) c.clone_by.ensures.steps;
+      (subst (λ (v : PlacedWorld). KeepsStore v.places c.add_context-made.new.self.places) (c.share.ensures.none none) c.add_context-made.ensures.store) c.copy_cells.ensures.steps;
 }

@@ -12,7 +12,7 @@ use Rattle.lazy_world.specs.declared.transfer.Transfer.TheVariants.{Clone}
 use Rattle.lazy_world.proofs.AddLemmas.{no_page}
 use Rattle.lazy_world.proofs.FollowLemmas.{copied-homes, followed-sound, followed-world, ranges-here}
 use Rattle.lazy_world.proofs.ShareLemmas.{none-moved}
-use Rattle.lazy_world.proofs.world.PlacedWorld.clone_by.Goals as goal
+use Rattle.lazy_world.proofs.world.PlacedWorld.copy_cells.Goals as goal
 
 pub invariant_of-self : goal.invariant_of-self
 unfolding seen parts world_of

@@ -4,7 +4,7 @@ use Rattle.lwc_types.specs.declared.name.Name.{Name}
 use Rattle.world_face.specs.Calls.{AreFew}
 use Rattle.lazy_world.specs.Worlds.{seen}
 use Rattle.lazy_world.proofs.RenameLemmas.{names-differ}
-use Rattle.lazy_world.proofs.world.PlacedWorld.overlay_counted.Goals as goal
+use Rattle.lazy_world.proofs.world.PlacedWorld.overlay.Goals as goal
 
 pub overlay_itself-requires-clause-few : goal.overlay_itself-requires-clause-few
 overlay_itself-requires-clause-few c =

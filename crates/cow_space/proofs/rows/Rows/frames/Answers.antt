@@ -1,6 +1,0 @@
-use Rattle.cow_space.specs.RowSeen.{frames_of}
-use Rattle.cow_space.proofs.rows.Rows.frames.Goals as goal
-
-pub returns : goal.returns
-unfolding frames_of
-returns c = c.len.ensures
