@@ -70,7 +70,7 @@ fn limits_of_requests_are_kept(rt: HostRuntime) -> Result<(), Fail> {
 fn steps_of(alloc: Global, text: &[u8], threads: u32) -> Result<(usize, Option<u8>), InputFault> {
     let schedule = read_schedule(alloc, text, threads)?;
     let count = schedule.len();
-    let last = if schedule.is_empty() {
+    let last = if count == 0 {
         None
     } else {
         Some(*schedule.get(count - 1))

@@ -17,7 +17,7 @@ fn refusal(alloc: Global, bytes: &[u8]) -> Option<(InputRule, u64)> {
 fn commands_of(alloc: Global, text: &[u8]) -> Result<(usize, Option<Command>), InputFault> {
     let script = read_script(alloc, text)?;
     let count = script.len();
-    let last = if script.is_empty() {
+    let last = if count == 0 {
         None
     } else {
         Some(script.get(count - 1))

@@ -1,6 +1,6 @@
 //! The commands of a debugger.
 
-ghost use Rattle.std.specs.Prelude.{◌≡◌, ◌≤◌, ◌<◌, ◌↔◌, IsTrue, [], length, slice_get, Some};
+ghost use Rattle.std.specs.Prelude.{◌≡◌, ◌≤◌, ◌<◌, [], length, slice_get, Some};
 
 use lwc_base::Name;
 use std::marker::Model;
@@ -63,13 +63,6 @@ impl Script {
         ensures few { length self.now ≤ MOST_COMMANDS }
     {
         self.commands.len()
-    }
-
-    /// Whether there are none.
-    pub fn is_empty(&self) -> bool
-        ensures { IsTrue result ↔ (self.now ≡ []) }
-    {
-        self.commands.is_empty()
     }
 
     /// The command of this number, from 0 on.

@@ -1,6 +1,6 @@
 //! Schedules: which thread makes each step.
 
-ghost use Rattle.std.specs.Prelude.{◌≡◌, ◌≤◌, ◌<◌, ◌++◌, ◌∷◌, ℕ, List, [], ◌↔◌, IsTrue, length, All};
+ghost use Rattle.std.specs.Prelude.{◌≡◌, ◌≤◌, ◌<◌, ◌++◌, ◌∷◌, ℕ, List, [], IsTrue, length, All};
 ghost use Rattle.std.specs.Prelude.{slice_get, take, ◌+◌, IfOk, IfErr, OnOk, Some, None, Ok};
 ghost use Rattle.std.specs.Option.{option_map};
 ghost use Rattle.lwc_types.specs.Outcomes.{Answers, Fails, IsFound, unless_refused};
@@ -52,13 +52,6 @@ impl Schedule {
         ensures few { length self.now ≤ MOST_STEPS }
     {
         self.steps.len()
-    }
-
-    /// Whether there are none.
-    pub fn is_empty(&self) -> bool
-        ensures { IsTrue result ↔ (self.now ≡ []) }
-    {
-        self.steps.is_empty()
     }
 
     /// The thread that makes the step of this number, from 0 on.
