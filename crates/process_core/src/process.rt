@@ -188,9 +188,9 @@ impl<W: World> Process<W> {
         ensures last { pass.new.last ≡ result }
     {
         if !pass.last().has_ended() {
-            self.gate.door().enter(rt);
+            self.gate.mutex().lock(rt);
             self.turn_inside(rt, pass, proposal);
-            self.gate.door().leave();
+            self.gate.mutex().unlock();
         }
         pass.last().same()
     }
@@ -210,11 +210,11 @@ impl<W: World> Process<W> {
             if pass.last().has_ended() {
                 return;
             }
-            self.gate.door().enter(rt);
+            self.gate.mutex().lock(rt);
         }
         self.turn_inside(rt, pass, stay.proposal());
         if !stay.goes_on(&self.text, pass.last(), self.threads == 1) {
-            self.gate.door().leave();
+            self.gate.mutex().unlock();
         }
     }
 

@@ -236,7 +236,7 @@ fn two_threads_have_their_turns(rt: HostRuntime) -> Result<(), Fail> {
 }
 
 /// A turn takes longer than a waiting thread tries, so the other one sleeps, and has its turns all the same. Whether
-/// it asked for the door shows only in how long it waited, which no test looks at.
+/// it asked for the mutex shows only in how long it waited, which no test looks at.
 #[test]
 fn a_thread_that_waits_long_has_its_turns(rt: HostRuntime) -> Result<(), Fail> {
     assert_eq!(rt; counts_of_both(&rt, 20, 2000)?, [20, 20, 40]);

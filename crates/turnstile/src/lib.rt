@@ -14,7 +14,7 @@
 //! Beneath lies a table of the kit's `atomic_table` with two words, `next` and `serving`, and one slot for
 //! the state. `specs/Rule.antt` has the rule that holds at every moment, and `specs/Steps.antt` what each
 //! kind of step does: draw ticket, look, move out, move in, pass on, split seat and join seat. `moves.rt`
-//! has one function for each kind. Before the table is a door that threads come through one at a time
+//! has one function for each kind. Before the table is a mutex that threads lock before their turns
 //! (`waiting.rt`). It decides who has the next turn, and no clause speaks of it.
 #![tactic(auto)]
 
@@ -30,4 +30,4 @@ pub use lock::Turnstile;
 pub use lwc_types::OutOfMemory;
 pub use passes::{HoldsPass, Pass, Passes};
 pub use states::Turned;
-pub use waiting::Door;
+pub use waiting::Mutex;

@@ -10,7 +10,7 @@ use crate::moves::{act, end_turn, look, open_table, settle, take_turn};
 use crate::passes::{HoldsPass, Pass, Passes, deal_passes, join_all, take_first};
 use crate::queue::LockTable;
 use crate::states::Turned;
-use crate::waiting::Door;
+use crate::waiting::Mutex;
 use lwc_types::OutOfMemory;
 use std::alloc::Global;
 use std::marker::Model;
@@ -23,7 +23,7 @@ use std::sync::Wait;
 #[derive(Drop)]
 pub struct Turnstile<S: Turned> {
     seats: u32,
-    door: Door,
+    mutex: Mutex,
     table: LockTable<S>,
 }
 
@@ -66,8 +66,15 @@ impl<S: Turned> Turnstile<S> {
     {
         let (table, first) = open_table(alloc, state)?;
         let passes = deal_passes(alloc, &table.shared, first, seats)?;
-        let door = Door::new();
-        Ok((Turnstile { seats, door, table }, passes))
+        let mutex = Mutex::new();
+        Ok((
+            Turnstile {
+                seats,
+                mutex,
+                table,
+            },
+            passes,
+        ))
     }
 
     /// Has one turn: calls the action once on the state, and answers what it answered. It may wait. Threads
@@ -98,20 +105,20 @@ impl<S: Turned> Turnstile<S> {
         ensures number { pass.new.number ≡ pass.old.number }
         ensures noted { pass.old.noted ≤ pass.new.noted }
     {
-        self.door.enter(rt);
+        self.mutex.lock(rt);
         let answer = self.turn_inside(rt, pass, action);
-        self.door.leave();
+        self.mutex.unlock();
         answer
     }
 
-    /// The door that threads come through before their turns. Who is through it has several turns in one stay by
-    /// `turn_inside`; those of others wait meanwhile.
-    pub fn door(&self) -> &Door {
-        &self.door
+    /// The mutex that threads lock before their turns. Who holds it has several turns in one stay by `turn_inside`;
+    /// those of others wait meanwhile.
+    pub fn mutex(&self) -> &Mutex {
+        &self.mutex
     }
 
-    /// Has one turn as `with_turn` does, for a thread that is through the door. From outside it may wait longer, and
-    /// the same holds of it.
+    /// Has one turn as `with_turn` does, for a thread that holds the mutex. One that does not may wait longer,
+    /// and the same holds of it.
     #[inline(always)]
     pub fn turn_inside<H: Wait, R, A: FnOnce(&mut S) -> R>(
         &self,
@@ -166,7 +173,7 @@ impl<S: Turned> Turnstile<S> {
     {
         let Turnstile {
             seats: _,
-            door: _,
+            mutex: _,
             table,
         } = self;
         let first = take_first(&mut passes);

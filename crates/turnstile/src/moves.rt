@@ -80,7 +80,7 @@ pub(crate) fn act<S, R, A: FnOnce(&mut S) -> R>(mut state: S, action: A) -> (S, 
     (state, answer)
 }
 
-/// Waits until the seat's turn has come. For a seat that came through the door the first look finds it.
+/// Waits until the seat's turn has come. For a seat whose thread holds the mutex the first look finds it.
 pub(crate) fn wait<S: Turned, H: Wait>(
     rt: &H,
     shared: &LockShared<S>,

@@ -7,17 +7,17 @@ use Rattle.std.proofs.Common.{rules, ◌≡◌, refl, arith}
 use Rattle.process_core.proofs.Offered.{offered_holds, shown_holds}
 use Rattle.process_core.proofs.process.Process.make_turn.Goals as goal
 
-pub door-requires-send-S : goal.door-requires-send-S
-door-requires-send-S g c κs within = let s = c.type_bounds.send-W in search (sendable, crosses, guarded_send) depth 80 fits 20000
+pub mutex-requires-send-S : goal.mutex-requires-send-S
+mutex-requires-send-S g c κs within = let s = c.type_bounds.send-W in search (sendable, crosses, guarded_send) depth 80 fits 20000
 
-pub door-requires-sync-S : goal.door-requires-sync-S
-door-requires-sync-S g c κs within = let s = c.type_bounds.sync-W in search (sendable, crosses, guarded_sync) depth 80 fits 20000
+pub mutex-requires-sync-S : goal.mutex-requires-sync-S
+mutex-requires-sync-S g c κs within = let s = c.type_bounds.sync-W in search (sendable, crosses, guarded_sync) depth 80 fits 20000
 
-pub door-requires-then-not-goes_on-send-S : goal.door-requires-then-not-goes_on-send-S
-door-requires-then-not-goes_on-send-S g c κs within = let s = c.type_bounds.send-W in search (sendable, crosses, guarded_send) depth 80 fits 20000
+pub mutex-requires-then-not-goes_on-send-S : goal.mutex-requires-then-not-goes_on-send-S
+mutex-requires-then-not-goes_on-send-S g c κs within = let s = c.type_bounds.send-W in search (sendable, crosses, guarded_send) depth 80 fits 20000
 
-pub door-requires-then-not-goes_on-sync-S : goal.door-requires-then-not-goes_on-sync-S
-door-requires-then-not-goes_on-sync-S g c κs within = let s = c.type_bounds.sync-W in search (sendable, crosses, guarded_sync) depth 80 fits 20000
+pub mutex-requires-then-not-goes_on-sync-S : goal.mutex-requires-then-not-goes_on-sync-S
+mutex-requires-then-not-goes_on-sync-S g c κs within = let s = c.type_bounds.sync-W in search (sendable, crosses, guarded_sync) depth 80 fits 20000
 
 pub turn_inside-requires-clause-proposal : goal.turn_inside-requires-clause-proposal
 turn_inside-requires-clause-proposal g c κs within =
