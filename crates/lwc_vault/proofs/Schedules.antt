@@ -1,19 +1,13 @@
 -- A schedule beside a vault prints the same beside another one of its shape.
-use Rattle.std.proofs.Common.{◌≡◌, ◌+◌, ◌<◌, ◌≤◌, ℕ, Bool, true, false, cond, ltb, Option, None, List, [], ◌∷◌, length, refl, sym, ap, subst, ◌∙◌, arith}
-use Rattle.std.proofs.lemmas.Bool.Decides.{nat_tests}
+use Rattle.std.proofs.Common.{◌≡◌, ℕ, Bool, true, false, cond, Option, None, List, [], ◌∷◌, refl, sym, ap, subst, ◌∙◌}
 use Rattle.std.specs.Option.{option_map_or}
-use Rattle.guest_image.specs.Limits.{IsImage}
-use Rattle.guest_image.specs.declared.image.Image.{Image}
 use Rattle.guest_image.specs.declared.image.Vault.{Vault}
 use Rattle.kernel_core.proofs.Runs.{step_of_ended}
-use Rattle.kernel_core.specs.Kernel.{CanKeep, CanOpen, MayHave}
+use Rattle.kernel_core.specs.Kernel.{CanOpen}
 use Rattle.kernel_core.specs.Machine.{Machine, has_ended, is_ended}
 use Rattle.kernel_core.specs.Runs.{kept}
 use Rattle.kernel_core.specs.Start.{Inputs, start}
-use Rattle.kernel_core.specs.Settings.{IsSettings}
 use Rattle.kernel_core.specs.Step.{step}
-use Rattle.kernel_core.specs.declared.settings.Job.{Job}
-use Rattle.kernel_core.specs.declared.settings.Settings.{Settings}
 use Rattle.kernel_core.specs.declared.thread.Thread.{Thread}
 use Rattle.lwc_text.specs.Report.{report_of_schedule, text_of}
 use Rattle.lwc_vault.proofs.Handing.{kept-told, schedule-handed}
