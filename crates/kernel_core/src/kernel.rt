@@ -118,20 +118,87 @@ impl<W: World> Kernel<W> {
         ensures fits { length image.now.pages ≤ settings.now.frames →
             IfErr result (λ fault. fault ≡ OpenFault.OutOfMemory) }
     {
-        let pages = image.pages.len() as u32;
-        let frames = settings.frames;
-        if pages > frames {
-            return Err(OpenFault::ImageTooLarge { pages, frames });
+        Kernel::open_at(alloc, image, None, requests, steps, settings)
+    }
+
+    /// A kernel at the start of a run of an image with a vault beside its first context. It is else opened as
+    /// by `open`.
+    ///
+    /// # Errors
+    ///
+    /// `ImageTooLarge` exactly where the image and the vault together have more pages than there are frames,
+    /// which is tested before memory is taken, and has that sum; or `OutOfMemory`.
+    pub fn open_with_vault(
+        alloc: Global,
+        image: &Image,
+        vault: &Vault,
+        steps: u32,
+        settings: &Settings,
+    ) -> Result<Kernel<W>, OpenFault>
+        requires image { IsImage image.now }
+        requires vault { CanKeep image.now settings.now.job vault.now }
+        requires settings { IsSettings settings.now }
+        requires steps { steps ≤ MOST_STEPS }
+        ensures opened { IfOk result (λ k. k ≡ spec.opened (record {
+          image = image.now;
+          vault = Some vault.now;
+          requests = [];
+          settings = settings.now;
+        }) steps) }
+        ensures too_large { settings.now.frames < length image.now.pages + length vault.now.pages →
+            result ≡ Err (OpenFault.ImageTooLarge (length image.now.pages + length vault.now.pages)
+            settings.now.frames) }
+        ensures fits { length image.now.pages + length vault.now.pages ≤ settings.now.frames →
+            IfErr result (λ fault. fault ≡ OpenFault.OutOfMemory) }
+    {
+        let requests = Requests::of(Vec::new(alloc));
+        Kernel::open_at(alloc, image, Some(vault), requests, steps, settings)
+    }
+
+    /// A kernel at the start of an image, with a vault if one is given.
+    fn open_at(
+        alloc: Global,
+        image: &Image,
+        vault: Option<&Vault>,
+        requests: Requests,
+        steps: u32,
+        settings: &Settings,
+    ) -> Result<Kernel<W>, OpenFault>
+        requires image { IsImage image.now }
+        requires vault { IfSome vault (λ v. CanKeep image.now settings.now.job v.now) }
+        requires settings { IsSettings settings.now }
+        requires requests { MayHave settings.now.job requests }
+        requires steps { steps ≤ MOST_STEPS }
+        ensures opened { IfOk result (λ k. k ≡ spec.opened (record {
+          image = image.now;
+          vault = option_map (λ v. v.now) vault.entry;
+          requests = requests;
+          settings = settings.now;
+        }) steps) }
+        ensures too_large { settings.now.frames
+            < spec.pages_in image.now (option_map (λ v. v.now) vault.entry) →
+            result ≡ Err (OpenFault.ImageTooLarge
+            (spec.pages_in image.now (option_map (λ v. v.now) vault.entry))
+            settings.now.frames) }
+        ensures fits { spec.pages_in image.now (option_map (λ v. v.now) vault.entry) ≤ settings.now.frames →
+            IfErr result (λ fault. fault ≡ OpenFault.OutOfMemory) }
+    {
+        let pages = pages_in(image, vault);
+        if pages > settings.frames {
+            return Err(OpenFault::ImageTooLarge {
+                pages,
+                frames: settings.frames,
+            });
         }
-        match Kernel::open_fitting(alloc, image, None, requests, steps, settings) {
+        match Kernel::start(alloc, image, vault, requests, steps, settings) {
             Ok(kernel) => Ok(kernel),
             Err(_) => Err(OpenFault::OutOfMemory),
         }
     }
 
-    /// A kernel at the start of an image, with a vault beside its first context if one is given, where they have
-    /// no more pages than there are frames. It is else opened as by `open`. The only error is out of memory.
-    pub fn open_fitting(
+    /// A kernel at the start of an image, with a vault if one is given, that have no more pages than there are
+    /// frames.
+    fn start(
         alloc: Global,
         image: &Image,
         vault: Option<&Vault>,
@@ -525,6 +592,19 @@ fn work_left(threads: &[Thread], more: u32) -> u32
     ensures { result ≡ sum_by (λ x. steps_left more x.budget x.status) threads.now }
 {
     threads.iter().map(|thread| thread.steps_left(more)).sum()
+}
+
+/// The number of pages of an image, and of a vault if one is given.
+fn pages_in(image: &Image, vault: Option<&Vault>) -> u32
+    requires image { IsImage image.now }
+    requires vault { IfSome vault (λ v. length v.now.pages ≤ MOST_VAULT_PAGES) }
+    ensures { result ≡ spec.pages_in image.now (option_map (λ v. v.now) vault.entry) }
+{
+    let pages = image.pages.len() as u32;
+    match vault {
+        None => pages,
+        Some(vault) => pages + vault.pages.len() as u32,
+    }
 }
 
 /// A snapshot of a vault, if one is given.

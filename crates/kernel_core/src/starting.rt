@@ -341,7 +341,7 @@ fn put_slots<W: World>(world: &mut W, image: &Image)
     }
 }
 
-/// Fills slot n.
+/// Fills a slot.
 fn put_slot<W: World>(world: &mut W, image: &Image, slot: u8)
     requires image { IsImage image.now }
     requires within { slot < SLOTS }
@@ -353,7 +353,7 @@ fn put_slot<W: World>(world: &mut W, image: &Image, slot: u8)
     world.set_slot(FIRST, slot, first_slot(image.slots.as_slice(), slot));
 }
 
-/// What is in slot n at the start.
+/// What is in a slot at the start.
 #[tactic(auto, unfolding(crate::specs::Start::first_slot))]
 fn first_slot(slots: &[SlotImage], slot_number: u8) -> Lent<'_>
     ensures { descriptor_of result ≡ spec.first_slot slots.now slot_number }

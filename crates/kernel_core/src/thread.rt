@@ -65,7 +65,7 @@ impl Turn {
             None if self.finished.is_none() => {}
             None => self.finished = None,
         }
-        // Copied as one they are long enough for a call of the C library.
+        // One by one: the copy of all registers at once is a call of the C library.
         self.regs.r = thread.regs.r;
         self.regs.pc = thread.regs.pc;
         self.status = thread.status;

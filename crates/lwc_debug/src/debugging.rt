@@ -1,14 +1,16 @@
 //! The debugger.
 
-ghost use Rattle.std.specs.Prelude.{◌≡◌, ◌+◌, ◌≤◌, ◌<◌, ◌⊎◌, ℕ, All, IfOk, IfSome, MatchOption, OnOk, []};
+ghost use Rattle.std.specs.Prelude.{◌≡◌, ◌+◌, ◌≤◌, ◌<◌, ◌⊎◌, ℕ, All, Err, IfErr, IfOk, IfSome, MatchOption, OnOk, []};
 ghost use Rattle.std.specs.Prelude.{length};
 ghost use Rattle.std.specs.Prelude.{map, nat_lt, take, true};
 ghost use Rattle.std.specs.List.{flat_map};
 ghost use Rattle.std.specs.Option.{option_map_or};
+ghost use Rattle.guest_image.specs.Limits.{IsImage};
 ghost use Rattle.kernel_core.specs.Histories.{IsLegal};
 ghost use Rattle.kernel_core.specs.Kernel as kernel;
-ghost use Rattle.kernel_core.specs.Kernel.{CanOpen, machine_of};
+ghost use Rattle.kernel_core.specs.Kernel.{machine_of};
 ghost use Rattle.kernel_core.specs.Runs.{kept};
+ghost use Rattle.kernel_core.specs.Settings.{IsSettings};
 ghost use Rattle.kernel_core.specs.Start.{inputs_of, start, thread_count};
 ghost use Rattle.kernel_core.specs.declared.settings.Job.TheVariants as jobs;
 ghost use Rattle.lwc_types.specs.declared.limits.TheConstants.{MOST_STEPS};
@@ -20,7 +22,7 @@ use crate::answering::answer;
 use crate::command::{Command, Script};
 use crate::moving::place_after;
 use guest_image::Image;
-use kernel_core::{Kernel, Settings};
+use kernel_core::{Kernel, OpenFault, Settings};
 use lwc_base::{OutOfMemory, Requests};
 use lwc_text::{Schedule, make_steps};
 use std::alloc::Global;
@@ -39,8 +41,12 @@ pub(crate) struct Answer {
 
 /// The answers to a script's commands in the run of the steps that are kept of a schedule
 /// (`transcript_of_schedule`). It makes the steps twice, whatever the script: once for their number, from which
-/// the place of each command follows, and once to answer each command at its place. The only error is out of
-/// memory.
+/// the place of each command follows, and once to answer each command at its place.
+///
+/// # Errors
+///
+/// `ImageTooLarge` exactly where the image has more pages than there are frames, which is tested before
+/// memory is taken; or `OutOfMemory`.
 #[tactic(auto, unfolding(crate::specs::Transcript::transcript_of_schedule))]
 pub fn debug<W: World>(
     alloc: Global,
@@ -48,12 +54,17 @@ pub fn debug<W: World>(
     schedule: &Schedule,
     script: &Script,
     settings: &Settings,
-) -> Result<Vec<u8>, OutOfMemory>
-    requires can { CanOpen (inputs_of image.now [] settings.now) }
+) -> Result<Vec<u8>, OpenFault>
+    requires image { IsImage image.now }
+    requires settings { IsSettings settings.now }
     requires run { settings.now.job ≡ jobs.Run }
     requires threads { All (λ t. t < length image.now.entries) schedule.now }
-    ensures { IfOk result (λ text. text.items
+    ensures text { IfOk result (λ text. text.items
         ≡ transcript_of_schedule (inputs_of image.now [] settings.now) schedule.now script.now) }
+    ensures too_large { settings.now.frames < length image.now.pages →
+        result ≡ Err (OpenFault.ImageTooLarge (length image.now.pages) settings.now.frames) }
+    ensures fits { length image.now.pages ≤ settings.now.frames →
+        IfErr result (λ fault. fault ≡ OpenFault.OutOfMemory) }
 {
     let steps = steps_of_run::<W>(alloc, image, schedule, settings)?;
     answers_of_run::<W>(alloc, image, steps.as_slice(), script, settings)
@@ -65,22 +76,29 @@ fn steps_of_run<W: World>(
     image: &Image,
     schedule: &Schedule,
     settings: &Settings,
-) -> Result<Vec<u8>, OutOfMemory>
-    requires can { CanOpen (inputs_of image.now [] settings.now) }
+) -> Result<Vec<u8>, OpenFault>
+    requires image { IsImage image.now }
+    requires settings { IsSettings settings.now }
     requires run { settings.now.job ≡ jobs.Run }
     requires threads { All (λ t. t < length image.now.entries) schedule.now }
     ensures kept { IfOk result (λ steps. steps.items
         ≡ kept (start (inputs_of image.now [] settings.now)) schedule.now) }
-    ensures legal { IfOk result
-        (λ steps. IsLegal (start (inputs_of image.now [] settings.now)) steps.items) }
+    ensures legal { IfOk result (λ steps. IsLegal (start (inputs_of image.now [] settings.now)) steps.items) }
     ensures threads { IfOk result (λ steps. All (λ t. t < length image.now.entries) steps.items) }
     ensures few { IfOk result (λ steps. length steps.items ≤ MOST_STEPS) }
+    ensures too_large { settings.now.frames < length image.now.pages →
+        result ≡ Err (OpenFault.ImageTooLarge (length image.now.pages) settings.now.frames) }
+    ensures fits { length image.now.pages ≤ settings.now.frames →
+        IfErr result (λ fault. fault ≡ OpenFault.OutOfMemory) }
 {
     let mut kernel = opened::<W>(alloc, image, schedule.len(), settings)?;
     let steps = kept_steps(alloc, &mut kernel, schedule);
     // Let go here, once for both ways out.
     drop(kernel);
-    steps
+    match steps {
+        Ok(steps) => Ok(steps),
+        Err(_) => Err(OpenFault::OutOfMemory),
+    }
 }
 
 /// The answers to a script's commands in the run of the image that these steps make.
@@ -90,39 +108,51 @@ fn answers_of_run<W: World>(
     steps: &[u8],
     script: &Script,
     settings: &Settings,
-) -> Result<Vec<u8>, OutOfMemory>
-    requires can { CanOpen (inputs_of image.now [] settings.now) }
+) -> Result<Vec<u8>, OpenFault>
+    requires image { IsImage image.now }
+    requires settings { IsSettings settings.now }
     requires run { settings.now.job ≡ jobs.Run }
     requires few { length steps.now ≤ MOST_STEPS }
     requires threads { All (λ t. t < length image.now.entries) steps.now }
     requires legal { IsLegal (start (inputs_of image.now [] settings.now)) steps.now }
-    ensures { IfOk result (λ text. text.items
+    ensures text { IfOk result (λ text. text.items
         ≡ transcript (start (inputs_of image.now [] settings.now)) steps.now 0 script.now) }
+    ensures too_large { settings.now.frames < length image.now.pages →
+        result ≡ Err (OpenFault.ImageTooLarge (length image.now.pages) settings.now.frames) }
+    ensures fits { length image.now.pages ≤ settings.now.frames →
+        IfErr result (λ fault. fault ≡ OpenFault.OutOfMemory) }
 {
     let mut kernel = opened::<W>(alloc, image, steps.len(), settings)?;
     let text = answers(alloc, &mut kernel, steps, script);
     // Let go here, once for both ways out.
     drop(kernel);
-    text
+    match text {
+        Ok(text) => Ok(text),
+        Err(_) => Err(OpenFault::OutOfMemory),
+    }
 }
 
-/// A kernel at the start of a run of the image, with room for this number of steps. The only error is out of
-/// memory.
+/// A kernel at the start of a run of the image, with room for this number of steps.
 #[tactic(auto, unfolding(kernel_core::specs::Start::thread_count))]
 fn opened<W: World>(
     alloc: Global,
     image: &Image,
     steps: usize,
     settings: &Settings,
-) -> Result<Kernel<W>, OutOfMemory>
-    requires can { CanOpen (inputs_of image.now [] settings.now) }
+) -> Result<Kernel<W>, OpenFault>
+    requires image { IsImage image.now }
+    requires settings { IsSettings settings.now }
     requires run { settings.now.job ≡ jobs.Run }
     requires few { steps ≤ MOST_STEPS }
     ensures opened { IfOk result (λ k. k ≡ kernel.opened (inputs_of image.now [] settings.now) steps) }
     ensures threads { IfOk result (λ k. thread_count k.inputs ≡ length image.now.entries) }
+    ensures too_large { settings.now.frames < length image.now.pages →
+        result ≡ Err (OpenFault.ImageTooLarge (length image.now.pages) settings.now.frames) }
+    ensures fits { length image.now.pages ≤ settings.now.frames →
+        IfErr result (λ fault. fault ≡ OpenFault.OutOfMemory) }
 {
     let requests = Requests::of(Vec::new(alloc));
-    Kernel::open_fitting(alloc, image, None, requests, steps as u32, settings)
+    Kernel::open(alloc, image, requests, steps as u32, settings)
 }
 
 /// The steps that a kernel keeps of a schedule, which it makes.

@@ -300,6 +300,23 @@ module _ (w : World) (io : Channels) (threads : List Thread) (text : List Instr)
           unfolding stepped_under
           stepped_to = ap (λ b. cond b h (longer h t)) going
 
+fits-by : (pages frames : ℕ) → (frames < pages → ⊥) → pages ≤ frames
+fits-by pages frames never = by (ltb frames pages) refl
+  where
+    by : (b : Bool) → ltb frames pages ≡ b → pages ≤ frames
+    by true is = absurd (never (ltb-true frames pages is))
+    by false is = ltb-false frames pages is
+
+-- what a run of an image that fits is opened with
+pub can-open : (image : Image) (settings : Settings) → IsImage image → IsSettings settings → settings.job ≡ job.Run → (settings.frames < length image.pages → ⊥) → CanOpen (inputs_of image [] settings)
+can-open image settings of_image in_limits run never = record {
+  image = of_image;
+  vault = tt;
+  settings = in_limits;
+  fits = fits-by (length image.pages) settings.frames never;
+  requests = subst (λ (j : Job). MayHave j []) (sym run) refl;
+}
+
 -- the machine of a start's parts
 pub begins-with : (inputs : Inputs) → inputs.settings.job ≡ job.Run → (w : World) (io : Channels) (threads : List Thread) (text : List Instr) → w ≡ (start inputs).environment.world → io ≡ (start inputs).environment.channels →
     threads ≡ (start inputs).threads → text ≡ inputs.image.text → machine w io threads text None ≡ start inputs

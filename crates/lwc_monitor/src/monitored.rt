@@ -1,10 +1,11 @@
-ghost use Rattle.std.specs.Prelude.{◌≡◌, ◌≢◌, ◌<◌, ◌≤◌, ◌++◌, false, true, IfOk, IsOk, None, OnErr, OnOk};
+ghost use Rattle.std.specs.Prelude.{◌≡◌, ◌≢◌, ◌<◌, ◌≤◌, ◌++◌, false, true, IfErr, IfOk, IsOk, None, OnErr, OnOk};
 ghost use Rattle.std.specs.Prelude.{Some, [], length};
 ghost use Rattle.std.specs.FinMap as fm;
+ghost use Rattle.guest_image.specs.Limits.{IsImage};
 ghost use Rattle.kernel_core.specs.declared.acting.Change.TheVariants as changes;
 ghost use Rattle.kernel_core.specs.Kernel as kernels;
-ghost use Rattle.kernel_core.specs.Kernel.{CanOpen};
 ghost use Rattle.kernel_core.specs.Machine.{is_ended};
+ghost use Rattle.kernel_core.specs.Settings.{IsSettings};
 ghost use Rattle.kernel_core.specs.Start.{inputs_of, thread_count};
 ghost use Rattle.lwc_base.specs.World as worlds;
 ghost use Rattle.lwc_types.specs.declared.limits.TheConstants.{MOST_STEPS};
@@ -19,7 +20,8 @@ use crate::traps::Traps;
 use guest_image::Image;
 use guest_isa::Text;
 use kernel_core::{
-    Change, Job, Kernel, Parts, Settings, Thread, ThreadView, Turn, drop_unreached, peak_after,
+    Change, Job, Kernel, OpenFault, Parts, Settings, Thread, ThreadView, Turn, drop_unreached,
+    peak_after,
 };
 use lwc_base::{Channels, OutOfMemory, Requests};
 use lwc_text::{context_lines, groups_line, tail_lines, thread_lines, trap_line};
@@ -63,23 +65,36 @@ impl<W: World> Model for Monitored<W> {
 }
 
 impl<W: World> Monitored<W> {
-    /// A run at the start of an image, in which no context is trapped, with room for this number of steps. The only
-    /// error is out of memory.
+    /// A run at the start of an image, in which no context is trapped, with room for this number of steps.
+    ///
+    /// # Errors
+    ///
+    /// `ImageTooLarge` exactly where the image has more pages than there are frames, which is tested before
+    /// memory is taken; or `OutOfMemory`.
     pub fn open(
         alloc: Global,
         image: &Image,
         steps: u32,
         settings: &Settings,
-    ) -> Result<Monitored<W>, OutOfMemory>
-        requires can { CanOpen (inputs_of image.now [] settings.now) }
+    ) -> Result<Monitored<W>, OpenFault>
+        requires image { IsImage image.now }
+        requires settings { IsSettings settings.now }
         requires run { settings.now.job ≡ Job.Run }
         requires steps { steps ≤ MOST_STEPS }
-        ensures { IfOk result (λ k. k ≡ kernels.opened (inputs_of image.now [] settings.now) steps) }
+        ensures opened { IfOk result (λ k. k ≡ kernels.opened (inputs_of image.now [] settings.now) steps) }
+        ensures too_large { settings.now.frames < length image.now.pages →
+            result ≡ Err (OpenFault.ImageTooLarge (length image.now.pages) settings.now.frames) }
+        ensures fits { length image.now.pages ≤ settings.now.frames →
+            IfErr result (λ fault. fault ≡ OpenFault.OutOfMemory) }
     {
         let requests = Requests::of(Vec::new(alloc));
-        let kernel: Kernel<W> = Kernel::open_fitting(alloc, image, None, requests, 0, settings)?;
-        let schedule = Vec::with_capacity(alloc, steps as usize)?;
-        let traps = Traps::new(alloc)?;
+        let kernel: Kernel<W> = Kernel::open(alloc, image, requests, 0, settings)?;
+        let Ok(schedule) = Vec::with_capacity(alloc, steps as usize) else {
+            return Err(OpenFault::OutOfMemory);
+        };
+        let Ok(traps) = Traps::new(alloc) else {
+            return Err(OpenFault::OutOfMemory);
+        };
         let peak = kernel.peak();
         let Parts {
             world,

@@ -30,9 +30,13 @@ pub fn monitor_replay<W: World>(
         text.items ≡ monitored_text (inputs_of image.now [] settings.now) schedule.now) }
 {
     let steps = schedule.len() as u32;
-    let mut run: Monitored<W> = Monitored::open(alloc, image, steps, settings)?;
-    make_steps(&mut run, schedule)?;
-    run.report(alloc)
+    match Monitored::<W>::open(alloc, image, steps, settings) {
+        Ok(mut run) => {
+            make_steps(&mut run, schedule)?;
+            run.report(alloc)
+        }
+        Err(_) => Err(OutOfMemory),
+    }
 }
 
 /// Makes the steps of the schedule, one after another.

@@ -58,7 +58,7 @@ use Rattle.lwc_vault.proofs.Hiding.{after-hide, cover-inside, hide, hide_threads
 use Rattle.lwc_vault.proofs.Stores.{parted, store-hide, stored_as}
 use Rattle.lwc_vault.proofs.Stepping.{blank_env, blank_out, cover}
 use Rattle.lwc_vault.specs.Blanks.{ActsOutside}
-use Rattle.lwc_vault.specs.Told.{Parts, Writes, Told, Outside, Nothing, Makes, Leaves, IsPlain, stands_inside, told, told_by, told_by_call, told_by_cell, told_by_pages, told_by_next, told_by_op, told_by_plain}
+use Rattle.lwc_vault.specs.Told.{Parts, Writes, Told, Outside, Nothing, Makes, Leaves, Other, IsPlain, stands_inside, told, told_by, told_by_call, told_by_cell, told_by_pages, told_by_next, told_by_op, told_by_plain}
 use Rattle.world_views.proofs.BlankChanges.{blanks-alike}
 use Rattle.world_views.proofs.BlankPlainly.{becoming-blank, closing-blank, copying-blank, mapping-blank, opening-blank}
 use Rattle.world_views.specs.Outside.{blank_outcome}

@@ -1,13 +1,19 @@
 -- A schedule beside a vault prints the same beside another one of its shape.
-use Rattle.std.proofs.Common.{◌≡◌, ℕ, Bool, true, false, cond, Option, None, List, [], ◌∷◌, refl, sym, ap, subst, ◌∙◌}
+use Rattle.std.proofs.Common.{◌≡◌, ◌+◌, ◌<◌, ◌≤◌, ℕ, Bool, true, false, cond, ltb, Option, None, List, [], ◌∷◌, length, refl, sym, ap, subst, ◌∙◌, arith}
+use Rattle.std.proofs.lemmas.Bool.Decides.{nat_tests}
 use Rattle.std.specs.Option.{option_map_or}
+use Rattle.guest_image.specs.Limits.{IsImage}
+use Rattle.guest_image.specs.declared.image.Image.{Image}
 use Rattle.guest_image.specs.declared.image.Vault.{Vault}
 use Rattle.kernel_core.proofs.Runs.{step_of_ended}
-use Rattle.kernel_core.specs.Kernel.{CanOpen}
+use Rattle.kernel_core.specs.Kernel.{CanKeep, CanOpen, MayHave}
 use Rattle.kernel_core.specs.Machine.{Machine, has_ended, is_ended}
 use Rattle.kernel_core.specs.Runs.{kept}
 use Rattle.kernel_core.specs.Start.{Inputs, start}
+use Rattle.kernel_core.specs.Settings.{IsSettings}
 use Rattle.kernel_core.specs.Step.{step}
+use Rattle.kernel_core.specs.declared.settings.Job.{Job}
+use Rattle.kernel_core.specs.declared.settings.Settings.{Settings}
 use Rattle.kernel_core.specs.declared.thread.Thread.{Thread}
 use Rattle.lwc_text.specs.Report.{report_of_schedule, text_of}
 use Rattle.lwc_vault.proofs.Handing.{kept-told, schedule-handed}
@@ -77,3 +83,19 @@ keeps_secret inputs v schedule can = record {
     text = schedule-handed inputs v other schedule can shape hand;
   };
 }
+
+-- and where the pages of a run's image and of a vault fit the frames
+pub keeps_secret_of : (image : Image) (v : Vault) (settings : Settings) (schedule : List ℕ) → IsImage image → CanKeep image settings.job v → IsSettings settings → (settings.frames < length image.pages + length v.pages → ⊥) →
+    KeepsSecret (record { image = image; vault = None; requests = []; settings = settings }) v schedule
+keeps_secret_of image v settings schedule is keep limits never =
+    keeps_secret (record { image = image; vault = None; requests = []; settings = settings }) v schedule (record {
+      image = is;
+      vault = keep;
+      settings = limits;
+      fits = fits_by (ltb settings.frames (length image.pages + length v.pages)) refl;
+      requests = subst (λ (job : Job). MayHave job []) (sym keep.run) refl;
+    })
+  where
+    fits_by : (b : Bool) → ltb settings.frames (length image.pages + length v.pages) ≡ b → length image.pages + length v.pages ≤ settings.frames
+    fits_by true less = absurd (never (grind (arith, nat_tests)))
+    fits_by false low = grind (arith, nat_tests)

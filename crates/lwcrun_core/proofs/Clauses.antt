@@ -157,7 +157,7 @@ reads_by : {A : Type 0} (files : FileContents) (grammar : List ℕ → Result A 
 reads_by files grammar limit name next q P here there (inl is) = here is
 reads_by files grammar limit name next q P here there (inr h) = reads_accepted files (grammar h.0) next q P there h.2
 
-reads_file : (files : FileContents) (kind : FileKind) (name : List ℕ) (settings : Settings) (parts : Gathered) (next : Gathered → Plan Rejection Work) (q : List ℕ) (P : Type 0) → (q ≡ name → P) → ((read : Parts) → Reads files (next read) q → P) → Reads files (read_file kind name settings parts next) q → P
+reads_file : (files : FileContents) (kind : FileKind) (name : List ℕ) (settings : Settings) (parts : Gathered) (next : Gathered → Plan Rejection Work) (q : List ℕ) (P : Type 0) → (q ≡ name → P) → ((read : Gathered) → Reads files (next read) q → P) → Reads files (read_file kind name settings parts next) q → P
 reads_file files FittingImage name settings parts next q P here there h = reads_by files (fitting_image_of settings.frames) MOST_IMAGE_BYTES name (λ x. next (record parts { image = x })) q P here (λ x after. there (record parts { image = x }) after) h
 reads_file files AnyImage name settings parts next q P here there h = reads_by files image_of MOST_IMAGE_BYTES name (λ x. next (record parts { image = x })) q P here (λ x after. there (record parts { image = x }) after) h
 reads_file files Source name settings parts next q P here there h = reads_by files source_of MOST_SOURCE_BYTES name (λ x. next (record parts { image = x })) q P here (λ x after. there (record parts { image = x }) after) h

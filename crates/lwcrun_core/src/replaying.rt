@@ -1,7 +1,7 @@
 ghost use Rattle.std.specs.Prelude.{◌≡◌, ◌<◌, ◌≤◌, All, IfOk, length, option_map};
 ghost use Rattle.guest_image.specs.Limits.{IsImage};
 ghost use Rattle.lwc_types.specs.declared.limits.TheConstants.{MOST_STEPS};
-ghost use Rattle.kernel_core.specs.Kernel.{CanOpen};
+ghost use Rattle.kernel_core.specs.Kernel.{CanOpen, opened};
 ghost use Rattle.kernel_core.specs.Start.{inputs_of, thread_count, threads_for};
 ghost use Rattle.lwcrun_inputs.specs.Ends.{Ended};
 ghost use Rattle.lwcrun_core.specs.Works.{IsText, plan_by, replay_task};
@@ -67,9 +67,26 @@ fn replay_text(
     ensures { IfOk result (λ text.
         text.items ≡ report_of_schedule (inputs_of image.now requests settings.now) schedule.now) }
 {
-    let steps = schedule.len() as u32;
-    let kernel: Kernel<LazyWorld> = Kernel::open_fitting(
-        alloc, image, None, requests, steps, settings,
-    )?;
+    let kernel = kernel_for(alloc, image, requests, schedule, settings)?;
     report_of_schedule(alloc, kernel, schedule)
+}
+
+/// A kernel at the start, with room for just the steps of a schedule. The only error is out of memory.
+fn kernel_for(
+    alloc: Global,
+    image: &Image,
+    requests: Requests,
+    schedule: &Schedule,
+    settings: &Settings,
+) -> Result<Kernel<LazyWorld>, OutOfMemory>
+    requires can { CanOpen (inputs_of image.now requests settings.now) }
+    requires short { length schedule.now ≤ MOST_STEPS }
+    ensures { IfOk result (λ kernel.
+        kernel ≡ opened (inputs_of image.now requests settings.now) (length schedule.now)) }
+{
+    let steps = schedule.len() as u32;
+    match Kernel::open(alloc, image, requests, steps, settings) {
+        Ok(kernel) => Ok(kernel),
+        Err(_) => Err(OutOfMemory),
+    }
 }

@@ -129,8 +129,7 @@ fn vaulted_over_copies(
     let Ok(vault) = read_vault(alloc, vault, instructions, image.form.pages()) else {
         return Ok(Vec::new(alloc));
     };
-    let pages = image.pages.len() as u32 + vault.pages.len() as u32;
-    if takes_vault_slot(image) || pages > settings.frames {
+    if takes_vault_slot(image) {
         return Ok(Vec::new(alloc));
     }
     match read_schedule(alloc, schedule, image.entries.len() as u32) {
@@ -155,13 +154,10 @@ fn debugged_over_copies(
     let Ok(script) = read_script(alloc, script) else {
         return Ok(Vec::new(alloc));
     };
-    let fits = image.pages.len() as u32 <= settings.frames;
     match read_schedule(alloc, schedule, image.entries.len() as u32) {
-        Ok(steps) if fits => {
-            debug::<WholeWorld>(alloc, image, &steps, &script, settings).or_else(|_| Ok(Vec::new(
-                alloc,
-            )))
-        }
-        _ => Ok(Vec::new(alloc)),
+        Ok(steps) => debug::<WholeWorld>(alloc, image, &steps, &script, settings).or_else(|_| Ok(
+            Vec::new(alloc),
+        )),
+        Err(_) => Ok(Vec::new(alloc)),
     }
 }

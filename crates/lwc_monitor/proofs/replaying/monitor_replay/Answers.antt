@@ -6,5 +6,5 @@ use Rattle.lwc_monitor.proofs.replaying.monitor_replay.Goals as goal
 
 pub make_steps-requires-clause-threads : goal.make_steps-requires-clause-threads
 make_steps-requires-clause-threads g c κs within = λ k d below.
-    let count = ap (λ (h : History). thread_count h.inputs) c.in_ok-run.ensures ∙ count-is c.args.image.now c.args.settings.now c.requires.run in
+    let count = ap (λ (h : History). thread_count h.inputs) c.in-Ok.ensures.opened ∙ count-is c.args.image.now c.args.settings.now c.requires.run in
     omega (arith, count, c.requires.threads k d below)

@@ -1,7 +1,7 @@
 use Rattle.std.proofs.Common.{◌∙◌, ap, arith, rules, ℕ}
 use Rattle.kernel_core.proofs.Steps.{steady_start}
 use Rattle.kernel_core.specs.Start.{serve_at}
-use Rattle.kernel_core.proofs.kernel.Kernel.open_fitting.Goals as goal
+use Rattle.kernel_core.proofs.kernel.Kernel.start.Goals as goal
 
 pub invariant_of-result : goal.invariant_of-result
 invariant_of-result g c =
