@@ -1,4 +1,4 @@
-use Rattle.std.proofs.Common.{◌∙◌, List, None, ap, arith, rules, ℕ}
+use Rattle.std.proofs.Common.{[], ◌∙◌, List, None, ap, arith, rules, ℕ}
 use Rattle.kernel_core.specs.Kernel.{History}
 use Rattle.kernel_core.specs.Start.{Inputs, inputs_of, start}
 use Rattle.lwc_monitor.proofs.Steadying.{begins-with, can-open, opens-so, steady_start}
