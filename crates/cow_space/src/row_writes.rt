@@ -9,7 +9,7 @@ use frame_pool::{FrameNo, Pool};
 use lwc_base::{PAGE_BYTES, PageNumber, Tag};
 use page_tree::{PAGES, PageCell};
 
-/// Puts what a piece at an address has of page p into the page's bytes.
+/// Puts what a piece at an address has of a page into the page's bytes.
 fn put_piece(page: &mut [u8; PAGE_BYTES], page_number: PageNumber, at: u32, piece: &[u8])
     ensures { page.new ≡ bytes_after (record { at = at; bytes = piece.now }) page_number page.old }
 {
@@ -54,7 +54,7 @@ fn copy_cell(frames: &mut Pool, cell: PageCell, tag: Tag) -> FrameNo
     taken.unwrap()
 }
 
-/// Puts what a piece has of page p into a frame that is held once.
+/// Puts what a piece has of a page into a frame that is held once.
 fn write_frame(frames: &mut Pool, frame: FrameNo, page: PageNumber, at: u32, piece: &[u8])
     requires once { frame_count frames.old frame.n ≡ 1 }
     ensures { frames.new ≡ refill_frame frames.old frame.n
@@ -92,7 +92,7 @@ impl Rows {
         self.store.frames.drop_hold(frame);
     }
 
-    /// Writes what a piece at an address has of page p of a row if the page does not part, and tells whether
+    /// Writes what a piece at an address has of a page of a row if the page does not part, and tells whether
     /// it did. If the page parts, nothing changes.
     #[inline(always)]
     pub(crate) fn write_in_place(

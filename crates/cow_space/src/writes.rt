@@ -17,7 +17,7 @@ impl PageCells {
     ghost use Rattle.cow_space.specs.Tags.{IsNewTag, is_parting, taken_by, used};
     ghost use Rattle.cow_space.specs.Writes.{write_page};
 
-    /// Writes what a piece at an address has of page p of a place, whose own it is, under a new tag if
+    /// Writes what a piece at an address has of a page of a place, whose own it is, under a new tag if
     /// the page parts, and tells whether it did. No other page of any place changes, and no right does.
     ///
     /// # Errors
@@ -59,7 +59,7 @@ impl PageCells {
         Ok(parting)
     }
 
-    /// Writes what a piece at an address has of page p of a place, if the page is the place's own, may be
+    /// Writes what a piece at an address has of a page of a place, if the page is the place's own, may be
     /// written and does not part, and tells whether it did. No other page of any place changes, and no right
     /// does. If it did not, nothing changes.
     #[inline(always)]

@@ -2,12 +2,12 @@ ghost use Rattle.std.specs.Prelude.{◌≡◌, ℕ, ◌<◌, ◌≤◌, ◌==◌
 ghost use Rattle.lwc_base.specs.Capabilities.{has_bit};
 ghost use Rattle.fd_table.specs.Bits.{IsLowestBit};
 
-/// A word with bit n on or off.
-pub(crate) fn with_bit(word: u64, slot: u8, on: bool) -> u64
-    requires { slot < 64 }
-    ensures { (m : ℕ) → m < 64 → has_bit result m ≡ (if m == slot then on else has_bit word m) }
+/// A word with the bit of a number on or off.
+pub(crate) fn with_bit(word: u64, number: u8, on: bool) -> u64
+    requires { number < 64 }
+    ensures { (m : ℕ) → m < 64 → has_bit result m ≡ (if m == number then on else has_bit word m) }
 {
-    let bit = 1u64 << slot;
+    let bit = 1u64 << number;
     if on { word | bit } else { word & !bit }
 }
 

@@ -181,7 +181,8 @@ impl Slots {
         self.tables[place].set(slot, o + 1, filling.is_common());
     }
 
-    /// Makes slot n of a place what slot m of a place is. Both slots share its object from then on.
+    /// Makes a slot of a place what another slot, of the same or another place, is. Both slots share its
+    /// object from then on.
     pub fn copy_slot(&mut self, to: usize, slot: SlotNumber, from: usize, other_slot: SlotNumber)
         requires to { to < length (slots self.old) }
         requires slot { slot < SLOTS }

@@ -40,7 +40,7 @@ impl CopyFrom for Table {
 }
 
 impl Table {
-    /// Puts another entry into slot n, common or not.
+    /// Puts another entry into a slot, common or not.
     pub(crate) fn set(&mut self, slot: SlotNumber, entry: u32, common: bool)
         requires { slot < SLOTS }
         ensures entries { self.new.entries ≡ slice_set self.old.entries slot entry }
@@ -54,7 +54,7 @@ impl Table {
         self.common = with_bit(self.common, slot, common);
     }
 
-    /// Whether slot n is common.
+    /// Whether a slot is common.
     pub(crate) fn is_common(&self, slot: SlotNumber) -> bool
         requires { slot < SLOTS }
         ensures { result ≡ has_bit self.now.common slot }

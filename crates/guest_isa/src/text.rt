@@ -67,7 +67,7 @@ impl Text {
         self.list.as_slice()
     }
 
-    /// The instruction at place i.
+    /// The instruction at an index.
     pub fn get(&self, index: usize) -> &Instr
         requires { index < length self.now }
         ensures value { slice_get self.now index ≡ Some result.now }

@@ -83,20 +83,20 @@ impl PlacedWorld {
     }
 
     /// Drops the group at a place, if there is one and it does not stay.
-    fn keep_group(&mut self, other: usize, stays: bool)
-        requires { stays ≡ false → (g : Name) → slice_index_or self.old.groups.places other None ≡ Some g
+    fn keep_group(&mut self, place: usize, stays: bool)
+        requires { stays ≡ false → (g : Name) → slice_index_or self.old.groups.places place None ≡ Some g
             → NamesNone (parts self.old) g }
         ensures names { (g : Name) → NamesNone (parts self.old) g → NamesNone (parts self.new) g }
         ensures map { self.new.groups.map
-            ≡ left_by self.old.groups.map (passes stays other) self.old.groups.map }
+            ≡ left_by self.old.groups.map (passes stays place) self.old.groups.map }
         ensures world { seen self.new ≡ record (seen self.old) {
-          groups = left_by self.old.groups.map (passes stays other) (seen self.old).groups;
+          groups = left_by self.old.groups.map (passes stays place) (seen self.old).groups;
         } }
     {
         if stays {
             return;
         }
-        if let Some(g) = self.groups.at(other) {
+        if let Some(g) = self.groups.at(place) {
             self.drop_group(g);
         }
     }

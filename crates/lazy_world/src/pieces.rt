@@ -145,7 +145,7 @@ impl Places {
         }
     }
 
-    /// Makes slot n of a place what slot m of a place is.
+    /// Makes a slot of a place what another slot, of the same or another place, is.
     pub(crate) fn copy_slot(
         &mut self,
         place: usize,

@@ -176,7 +176,7 @@ impl Stretch {
     ghost use Rattle.lazy_world.specs.Origins.{gift_of, gift_right, origin_right};
     ghost use Rattle.lazy_world.specs.Transfers.{CanGet, given, given_or};
 
-    /// The page run that gives them all at the place i, from a page on: those that stay are copied from there.
+    /// The page run that gives them all at a place, from a page on: those that stay are copied from there.
     pub(crate) fn whole(self, place: usize, from: PageNumber) -> PageRun
         ensures begin { result.range.from ≡ from }
         ensures end { result.range.to ≡ self.to }

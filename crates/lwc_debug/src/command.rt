@@ -1,6 +1,6 @@
 //! The commands of a debugger.
 
-ghost use Rattle.std.specs.Prelude.{◌≡◌, ◌≤◌, ◌<◌, [], length, slice_get, Some};
+ghost use Rattle.std.specs.Prelude.{◌≡◌, ◌≤◌, ◌<◌, length, slice_get, Some};
 
 use lwc_base::Name;
 use std::marker::Model;

@@ -17,20 +17,20 @@ use world_face::World;
 /// Takes a thread from a context to the context that the slot in r1 has a descriptor of, with r2 as the
 /// argument. The registers are those at the call (`switch`). A refusal changes nothing.
 #[tactic(auto, unfolding(crate::specs::Switch::switch))]
-pub fn switch<W: World>(world: &mut W, of_context: Name, thread: u32, regs: &Regs) -> Moved
-    requires live { IsLive (W.seen world.old) of_context }
+pub fn switch<W: World>(world: &mut W, from: Name, thread: u32, regs: &Regs) -> Moved
+    requires live { IsLive (W.seen world.old) from }
     requires thread { thread < MOST_THREADS }
     requires named { HasItsContexts (W.seen world.old) }
-    ensures done { spec.switch (W.seen world.old) of_context thread regs.now ≡ (result, W.seen world.new) }
+    ensures done { spec.switch (W.seen world.old) from thread regs.now ≡ (result, W.seen world.new) }
     ensures refused { IfRefused result (W.seen world.new ≡ W.seen world.old) }
 {
-    let (target, slot) = match allowed(world, of_context, regs) {
+    let (target, slot) = match allowed(world, from, regs) {
         Ok(found) => found,
         Err(refusal) => return Moved::Refused(refusal),
     };
     Moved::To {
         context: target,
-        regs: enter(world, of_context, thread, regs, target, slot, regs.r[2]),
+        regs: enter(world, from, thread, regs, target, slot, regs.r[2]),
     }
 }
 
@@ -86,14 +86,14 @@ fn allowed<W: World>(world: &W, context: Name, regs: &Regs) -> Result<(Name, u8)
 
 /// The registers that a thread enters a context with: those that the context keeps for it, else those that
 /// it begins with.
-fn entered<W: World>(world: &W, of_context: Name, thread: u32) -> Regs
-    requires live { IsLive (W.seen world.now) of_context }
+fn entered<W: World>(world: &W, target: Name, thread: u32) -> Regs
+    requires live { IsLive (W.seen world.now) target }
     requires thread { thread < MOST_THREADS }
-    ensures { result ≡ entered (context (W.seen world.now) of_context) thread }
+    ensures { result ≡ entered (context (W.seen world.now) target) thread }
 {
-    match world.saved(of_context, thread) {
+    match world.saved(target, thread) {
         Some(saved) => saved,
-        None => world.entry(of_context),
+        None => world.entry(target),
     }
 }
 

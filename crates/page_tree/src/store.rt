@@ -166,24 +166,24 @@ impl Store {
     }
 
     /// Writes a cell of an owned leaf: its frame is held once more, and that of the old cell once less.
-    pub(crate) fn write(&mut self, leaf: NodeNo, other: usize, cell: PageCell)
+    pub(crate) fn write(&mut self, leaf: NodeNo, index: usize, cell: PageCell)
         requires sound { IsSoundTo LEAF_LEVEL self.old.nodes.all self.old.frames }
         requires own { IsOwned self.old.nodes.all LEAF_LEVEL leaf.n }
-        requires place { other < NODE_ENTRIES }
+        requires place { index < NODE_ENTRIES }
         requires held { (f : ℕ) → entry_for cell ≡ f + 2 → 0 < frame_count self.old.frames f }
         ensures sound { IsSoundTo LEAF_LEVEL self.new.nodes.all self.new.frames }
         ensures own { IsOwned self.new.nodes.all LEAF_LEVEL leaf.n }
         ensures moves { Moves LEAF_LEVEL self.old.nodes.all self.new.nodes.all self.old.frames self.new.frames
             (is_root (leaf.n + 1)) (is_root (leaf.n + 1)) }
-        ensures nodes { self.new.nodes.all ≡ enter self.old.nodes.all leaf.n other (entry_for cell) }
+        ensures nodes { self.new.nodes.all ≡ enter self.old.nodes.all leaf.n index (entry_for cell) }
         ensures no_step { self.new.nodes.steps ≡ self.old.nodes.steps }
         ensures holds { (f : ℕ)
-            → frame_count self.new.frames f + one_if (entry_of self.old.nodes.all leaf.n other == f + 2)
+            → frame_count self.new.frames f + one_if (entry_of self.old.nodes.all leaf.n index == f + 2)
             ≡ frame_count self.old.frames f + one_if (entry_for cell == f + 2) }
     {
-        let old = cell_from(self.nodes.entry(leaf, other));
+        let old = cell_from(self.nodes.entry(leaf, index));
         hold_cell(&mut self.frames, cell);
-        self.nodes.set_entry(leaf, other, entry_from(cell));
+        self.nodes.set_entry(leaf, index, entry_from(cell));
         drop_cell(&mut self.frames, old);
     }
 }

@@ -10,7 +10,7 @@ entry_from-requires c = entry-small _ _ _ _ c.requires.sound c.requires.held
 
 pub drop_cell-requires : goal.drop_cell-requires
 drop_cell-requires c = λ f is.
-    let held = named-held _ _ _ c.args.leaf.n c.args.other f c.requires.sound c.requires.own.level_is (sym c.entry.ensures ∙ sym c.cell_from-old.ensures.entry ∙ is) in
+    let held = named-held _ _ _ c.args.leaf.n c.args.index f c.requires.sound c.requires.own.level_is (sym c.entry.ensures ∙ sym c.cell_from-old.ensures.entry ∙ is) in
     omega (arith, held, c.hold_cell.ensures.counts f)
 
 pub returns-clause-sound : goal.returns-clause-sound
