@@ -30,20 +30,12 @@ pub const MOST_SCRIPT_BYTES: usize = 65536;
 /// Out of memory, or the first refusal (`script_at`): `TooLong` at `MOST_SCRIPT_BYTES` if there are more
 /// bytes; else, at the first byte of the first line that breaks a rule, `BadCommand` if it is neither empty
 /// nor a command, and `TooManyCommands` if it is one after `MOST_COMMANDS` others.
-#[tactic(auto, using(crate::proofs::ScriptLines::script_reading))]
+#[tactic(auto, using(crate::proofs::ScriptLines::script_reading), unfolding(crate::specs::Scripts::script_at))]
 pub fn read_script(alloc: Global, bytes: &[u8]) -> Result<Script, InputFault>
     ensures exact { Answers (λ script. script) result (spec.script_at bytes.now) }
     ensures found { IfOk result (λ script. spec.IsScript bytes.now script) }
     ensures only { (script : List commands.Command) → spec.IsScript bytes.now script
         → IfErr result (λ e. e ≡ OutOfMemory) }
-{
-    read_limited(alloc, bytes)
-}
-
-/// Reads a script that may be too long.
-#[tactic(auto, unfolding(crate::specs::Scripts::script_at))]
-fn read_limited(alloc: Global, bytes: &[u8]) -> Result<Script, InputFault>
-    ensures { Answers (λ script. script) result (spec.script_at bytes.now) }
 {
     if bytes.len() > MOST_SCRIPT_BYTES {
         return Err(ReadError::Refused {

@@ -225,7 +225,7 @@ threads_are_there threads most bytes steps h =
     let is : IsSchedule threads most bytes steps = is_schedule threads most bytes steps h in
     subst (λ (xs : List ℕ). All (λ t. t < threads) xs) (sym is.named) (are_there threads bytes is.each)
 
-short_reads : (threads most : ℕ) (bytes : List ℕ) → length bytes ≤ MOST_SCHEDULE_BYTES → schedule_at threads most bytes ≡ unless_refused (numbers bytes) (refusals threads most bytes)
+pub short_reads : (threads most : ℕ) (bytes : List ℕ) → length bytes ≤ MOST_SCHEDULE_BYTES → schedule_at threads most bytes ≡ unless_refused (numbers bytes) (refusals threads most bytes)
 unfolding schedule_at
 short_reads threads most bytes h = grind arith
 
@@ -255,5 +255,3 @@ is_read threads most bytes steps is =
 pub is_answered : (threads most : ℕ) (bytes steps : List ℕ) (e : ReadError InputRule) → IsSchedule threads most bytes steps → Fails e (schedule_at threads most bytes) → e ≡ errors.OutOfMemory
 is_answered threads most bytes steps errors.OutOfMemory is fails = refl
 is_answered threads most bytes steps (errors.Refused rule offset) is fails = let read : schedule_at threads most bytes ≡ Ok steps = is_read threads most bytes steps is in absurd (cc)
-
-pub ruleset schedule_reading = (is_schedule, is_answered, threads_are_there)

@@ -25,20 +25,12 @@ use std::alloc::Global;
 /// more bytes; else, in the first line that breaks a rule, `TooManyRequests` at its first byte if it comes
 /// after `MOST_REQUESTS` others, `BadHex` at a byte that is no digit, `RequestTooLong` at the digit after
 /// `2 * MOST_REQUEST_BYTES` others, or `OddLength` at the end of an odd number of digits.
-#[tactic(auto, using(crate::proofs::RequestLines::request_reading))]
+#[tactic(auto, using(crate::proofs::RequestLines::request_reading), unfolding(crate::specs::Requests::requests_at))]
 pub fn read_requests(alloc: Global, bytes: &[u8]) -> Result<Requests, InputFault>
     ensures exact { Answers (λ requests. requests) result (spec.requests_at bytes.now) }
     ensures found { IfOk result (λ requests. spec.IsRequestFile bytes.now requests) }
     ensures only { (requests : List (List ℕ)) → spec.IsRequestFile bytes.now requests
         → IfErr result (λ e. e ≡ OutOfMemory) }
-{
-    read_limited(alloc, bytes)
-}
-
-/// Reads requests that may be too long.
-#[tactic(auto, unfolding(crate::specs::Requests::requests_at))]
-fn read_limited(alloc: Global, bytes: &[u8]) -> Result<Requests, InputFault>
-    ensures { Answers (λ requests. requests) result (spec.requests_at bytes.now) }
 {
     if bytes.len() > MOST_REQUEST_FILE_BYTES {
         return Err(ReadError::Refused {

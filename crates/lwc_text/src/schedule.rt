@@ -87,7 +87,7 @@ pub fn read_schedule(alloc: Global, bytes: &[u8], threads: u32) -> Result<Schedu
 /// # Errors
 ///
 /// Those of `read_schedule`, but `TooManySteps` comes at a digit after `most` others.
-#[tactic(auto, using(crate::proofs::Steps::schedule_reading))]
+#[tactic(auto, using(crate::proofs::Steps::digits_are_read), unfolding(crate::specs::Schedules::schedule_at))]
 pub fn read_schedule_within(
     alloc: Global,
     bytes: &[u8],
@@ -100,20 +100,6 @@ pub fn read_schedule_within(
     ensures there { IfOk result (λ schedule. All (λ t. t < threads) schedule) }
     ensures only { (steps : List ℕ) → IsSchedule threads most bytes.now steps
         → IfErr result (λ e. e ≡ OutOfMemory) }
-{
-    read_limited(alloc, bytes, threads, most)
-}
-
-/// Reads a schedule that may be too long.
-#[tactic(auto, using(crate::proofs::Steps::digits_are_read), unfolding(crate::specs::Schedules::schedule_at))]
-fn read_limited(
-    alloc: Global,
-    bytes: &[u8],
-    threads: u32,
-    most: u32,
-) -> Result<Schedule, InputFault>
-    requires { most ≤ MOST_STEPS }
-    ensures { Answers (λ schedule. schedule) result (schedule_at threads most bytes.now) }
 {
     if bytes.len() > MOST_SCHEDULE_BYTES {
         return Err(ReadError::Refused {
