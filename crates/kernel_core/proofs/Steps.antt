@@ -45,7 +45,6 @@ use Rattle.lwc_types.specs.declared.name.Name.{Name}
 use Rattle.snapshot_host.specs.Finish.{StillHas}
 use Rattle.snapshot_host.specs.declared.finishing.Finished.{Finished}
 use Rattle.kernel_core.proofs.ReadyMachines.{ready_machine}
-use Rattle.lwc_base.proofs.Reaped.{reap-reaped}
 
 -- a history with one more step
 abbrev pub longer : History → ℕ → History
@@ -117,10 +116,13 @@ numbered_here effect serve numbered f is = subst (λ (o : Option Effect). IfSome
 pub as_seen : (m : Machine) (most : ℕ) (h value : History) → h ≡ value → IsSteady m most h → IsSteady m most value
 as_seen m most h value is steady = subst (IsSteady m most) is steady
 
--- a steady kernel, its peak and history under other names
-pub steady_as : (m : Machine) (most now : ℕ) (h after : History) → now ≡ most → after ≡ h → IsSteady m most h → IsSteady m now after
-steady_as m most now h after peak_is is steady =
-    subst (λ (n : ℕ). IsSteady m n after) (sym peak_is) (subst (IsSteady m most) (sym is) steady)
+-- a steady kernel, its parts, peak and history under other names
+pub steady_as : (w : World) (io other_io : Channels) (threads other_threads : List Thread) (text other_text : List Instr) (serve : Option Serve) (most now : ℕ) (h after : History) →
+    other_io ≡ io → other_threads ≡ threads → other_text ≡ text → now ≡ most → after ≡ h → IsSteady (machine w io threads text serve) most h → IsSteady (machine w other_io other_threads other_text serve) now after
+steady_as w io other_io threads other_threads text other_text serve most now h after io_is threads_are text_is peak_is is steady =
+    let same : machine w other_io other_threads other_text serve ≡ machine w io threads text serve = λ i. machine w (io_is i) (threads_are i) (text_is i) serve in
+    subst (λ (k : Machine). IsSteady k now after) (sym same)
+    (subst (λ (n : ℕ). IsSteady (machine w io threads text serve) n after) (sym peak_is) (subst (IsSteady (machine w io threads text serve) most) (sym is) steady))
 
 -- a kernel whose parts are those of a start
 pub steady_start : (inputs : Inputs) (steps : List ℕ) (room : ℕ) (threads : List Thread) (w : World) (io : Channels) (text : List Instr) (serve : Option Serve) (most : ℕ) → CanOpen inputs →
@@ -134,10 +136,10 @@ steady_start inputs steps room threads w io text serve most can short none threa
     (record { inputs = can; machine = begun; peak = used_is ∙ ap used world_is; room = omega (arith, short) })
 
 -- the history of a kernel's parts after one more step
-pub one_longer : (image : Image) (vault : Option Vault) (requests : List (List ℕ)) (settings : Settings) (steps after : List ℕ) (room t : ℕ) (value : History) →
-    history image vault requests settings steps room ≡ value → after ≡ steps ++ t ∷ [] → history image vault requests settings after (room - 1) ≡ longer value t
-one_longer image vault requests settings steps after room t value is appended =
-    ap (λ (l : List ℕ). history image vault requests settings l (room - 1)) appended ∙ ap (λ h. longer h t) is
+pub one_longer : (image : Image) (vault : Option Vault) (requests : List (List ℕ)) (settings : Settings) (steps after : List ℕ) (room left t : ℕ) (value : History) →
+    history image vault requests settings steps room ≡ value → after ≡ steps ++ t ∷ [] → left ≡ room - 1 → history image vault requests settings after left ≡ longer value t
+one_longer image vault requests settings steps after room left t value is appended fewer =
+    (λ i. history image vault requests settings (appended i) (fewer i)) ∙ ap (λ h. longer h t) is
 
 -- what a step makes of a kernel
 pub record IsMade (m : Machine) (most t : ℕ) (after : AfterStep) (h : History) : Type 0 where
@@ -190,6 +192,10 @@ module _ (m : Machine) (most : ℕ) (h : History) (steady : IsSteady m most h) w
   pub begun : h.steps ≡ [] → m ≡ start h.inputs
   unfolding machine_of
   begun none = steady.machine ∙ ap (run (start h.inputs)) none
+
+  -- and the peak is what its world uses
+  pub first_peak : h.steps ≡ [] → most ≡ used m.environment.world
+  first_peak none = steady.peak ∙ ap (peak (start h.inputs)) none ∙ ap frames_of (sym (begun none))
 
   local : IfSome m.serve (λ s. AllLocal guest_calls)
   local = whatever m.serve (AllLocal guest_calls) guest_calls_are_local
@@ -406,9 +412,8 @@ module _ (m : Machine) (most : ℕ) (h : History) (steady : IsSteady m most h) w
           (uncut f.change m.environment.world v m.threads m.serve t x y (subst (λ (k : Option Effect). KeepsAll k m.environment.world m.environment.channels m.serve x v after serve y) is keeps) other (found t x few index) is_ready.reaped)
 
       -- a change of the thread alone does not raise the peak
-      pub used_kept : (f : Effect) (u : World) → effect ≡ Some f → u ≡ reap v (roots (slice_set m.threads t y) serve) → f.change ≡ changes.Thread → used u ≤ most
-      used_kept f u is reaped thread =
+      pub used_kept : (f : Effect) → effect ≡ Some f → f.change ≡ changes.Thread → used v ≤ most
+      used_kept f is thread =
           let kept : Keeps f.change m.environment.world x v y = subst (λ (k : Option Effect). KeepsAll k m.environment.world m.environment.channels m.serve x v after serve y) is keeps in
           let alone : Keeps changes.Thread m.environment.world x v y = subst (λ (c : Change). Keeps c m.environment.world x v y) thread kept in
-          let left = nothing_left f is (λ same. let both : changes.Thread ≡ changes.Links = sym thread ∙ same in cc) in
-          omega (arith, ap used (reaped ∙ reap-reaped v (roots (slice_set m.threads t y) serve) left ∙ alone.0), used_below)
+          omega (arith, ap used alone.0, used_below)

@@ -1,39 +1,32 @@
-ghost use Rattle.std.specs.Prelude.{◌≡◌, ◌≢◌, ◌<◌, All, ◌≤◌, ◌+◌, ◌*◌, ◌-◌, ◌^◌, ◌++◌, ◌∷◌, [], false, max};
-ghost use Rattle.std.specs.Prelude.{true, None, IfErr, IfOk, IfSome, IsOk, OnErr, OnOk, Some, length};
-ghost use Rattle.std.specs.Prelude.{vec_capacity, vec_len};
+ghost use Rattle.std.specs.Prelude.{◌≡◌, ◌<◌, All, ◌≤◌, ◌+◌, ◌*◌, ◌-◌, ◌^◌, [], false, true, None, IfErr, IfOk, IfSome};
+ghost use Rattle.std.specs.Prelude.{IsOk, OnErr, OnOk, Some, length, vec_capacity, vec_len};
 ghost use Rattle.guest_image.specs.Limits.{IsImage};
 ghost use Rattle.guest_image.specs.declared.image.TheConstants.{MOST_VAULT_PAGES};
 ghost use Rattle.guest_machine.specs.Advances.{advanced};
 ghost use Rattle.kernel_core.specs.Kernel as spec;
 ghost use Rattle.kernel_core.specs.Kernel.{CanKeep, CanOpen, MayHave, machine_of};
-ghost use Rattle.kernel_core.specs.Machine.{homes_of, is_ended, reply_of, steps_after, steps_for_requests};
+ghost use Rattle.kernel_core.specs.Machine.{is_ended, reply_of, steps_after, steps_for_requests};
 ghost use Rattle.kernel_core.specs.Machine.{steps_left, work};
 ghost use Rattle.kernel_core.specs.Machine as machines;
 ghost use Rattle.kernel_core.specs.Runs as runs;
 ghost use Rattle.kernel_core.specs.Settings.{IsSettings};
-ghost use Rattle.kernel_core.specs.Start.{start, thread_count, threads_at, with_its_vault, world_for};
-ghost use Rattle.kernel_core.specs.declared.acting.Change.TheVariants as changes;
-ghost use Rattle.kernel_core.specs.Step.{contexts_of};
-ghost use Rattle.lwc_base.specs.Channels.{opened};
+ghost use Rattle.kernel_core.specs.Start.{start, thread_count};
 ghost use Rattle.lwc_base.specs.Frames.{used};
-ghost use Rattle.lwc_base.specs.Life as life;
-ghost use Rattle.lwc_base.specs.Life.{IsReaped};
 ghost use Rattle.lwc_types.specs.declared.limits.TheConstants.{MOST_BUDGET, MOST_REQUESTS, MOST_STEPS};
 ghost use Rattle.lwc_types.specs.declared.limits.TheConstants.{MOST_THREADS};
 ghost use Rattle.std.specs.List.{sum_by};
 ghost use Rattle.std.specs.Option.{option_map};
-ghost use Rattle.world_face.specs.Calls.{IsLive};
 
-use crate::acting::{Change, step_thread};
-use crate::serve::{Serve, home_of, recorded, status_of, worker_count};
-use crate::settings::{Job, OpenFault, Settings};
-use crate::starting::{first_serve, open_channels, threads_at, world_with_vault};
+use crate::acting::step_thread;
+use crate::parts::Parts;
+use crate::serve::{Serve, recorded, status_of, worker_count};
+use crate::settings::{OpenFault, Settings};
+use crate::starting::first_serve;
 use crate::thread::{Thread, ThreadView, Turn};
-use arrayvec::ArrayVec;
 use guest_image::{Image, Vault};
 use guest_isa::Text;
 use guest_machine::Advance;
-use lwc_base::{Channels, Name, OutOfMemory, Requests, ThreadStatus};
+use lwc_base::{Channels, OutOfMemory, Requests, ThreadStatus};
 use snapshot_host::FinishedView;
 use std::alloc::Global;
 use std::marker::Model;
@@ -49,24 +42,8 @@ pub struct Kernel<W: World> {
     vault: Option<Snapshot<Vault>>,
     requests: Snapshot<Requests>,
     settings: Settings,
-    text: Text,
-    world: W,
-    channels: Channels,
-    threads: Vec<Thread>,
     serve: Option<Serve>,
-    schedule: Vec<u8>,
-    room: u32,
-    peak: u32,
-}
-
-/// What a kernel is made of at its start: the world, what calls read and write beside it, the instructions,
-/// and the threads.
-#[derive(Drop)]
-pub struct Parts<W: World> {
-    pub world: W,
-    pub channels: Channels,
-    pub text: Text,
-    pub threads: Vec<Thread>,
+    parts: Parts<W>,
 }
 
 impl<W: World> Model for Kernel<W> {
@@ -79,13 +56,14 @@ impl<W: World> Model for Kernel<W> {
     ghost use Rattle.kernel_core.specs.Steady.{IsSteady, history, machine};
 
     ghost view = { λ k. history k.image.value (option_map (λ v. v.value) k.vault) k.requests.value k.settings
-        k.schedule.items k.room };
+        k.parts.schedule.items k.parts.room };
 
-    ghost invariant = { λ k. (vec_len k.schedule + k.room ≤ vec_capacity k.schedule)
-        × IsSteady (machine (W.seen k.world) k.channels k.threads.items k.text k.serve) k.peak
-        (history k.image.value
-        (option_map (λ v. v.value) k.vault) k.requests.value k.settings k.schedule.items
-        k.room) };
+    ghost invariant = { λ k. (vec_len k.parts.schedule + k.parts.room ≤ vec_capacity k.parts.schedule)
+        × IsSteady
+        (machine (W.seen k.parts.world) k.parts.channels k.parts.threads.items k.parts.text k.serve)
+        k.parts.peak
+        (history k.image.value (option_map (λ v. v.value) k.vault) k.requests.value k.settings
+        k.parts.schedule.items k.parts.room) };
 }
 
 impl<W: World> Kernel<W> {
@@ -222,22 +200,14 @@ impl<W: World> Kernel<W> {
     {
         let asked = Snapshot::of(&requests);
         let serve = first_serve(alloc, settings, requests.len())?;
-        let schedule = Vec::with_capacity(alloc, steps as usize)?;
-        let parts: Parts<W> = first_parts(alloc, image, vault, requests, settings)?;
-        let peak = parts.world.used();
+        let parts = Parts::start(alloc, image, vault, requests, steps, settings)?;
         Ok(Kernel {
             image: Snapshot::of(image),
             vault: snapshot_of(vault),
             requests: asked,
             settings: *settings,
-            text: parts.text,
-            world: parts.world,
-            channels: parts.channels,
-            threads: parts.threads,
             serve,
-            schedule,
-            room: steps,
-            peak,
+            parts,
         })
     }
 
@@ -284,15 +254,15 @@ impl<W: World> Kernel<W> {
         ensures err { OnErr result (self.new ≡ self.old) }
         ensures ample { W.roomy ≡ true → IsOk result }
     {
-        let world = &mut self.world;
-        let io = &mut self.channels;
+        let world = &mut self.parts.world;
+        let io = &mut self.parts.channels;
         let serve = &mut self.serve;
-        let thread = &mut self.threads[thread_number as usize];
+        let thread = &mut self.parts.threads[thread_number as usize];
         let Some(effect) = step_thread(
             world,
             io,
             serve,
-            &self.text,
+            &self.parts.text,
             thread_number,
             thread,
             proposal,
@@ -301,15 +271,7 @@ impl<W: World> Kernel<W> {
             return Ok(None);
         };
         let workers = worker_count(&self.serve);
-        drop_unreached(
-            &mut self.world,
-            self.threads.as_slice(),
-            workers,
-            effect.change,
-        );
-        self.peak = peak_after(self.peak, &self.world, effect.change);
-        append(&mut self.schedule, thread_number as u8);
-        self.room -= 1;
+        self.parts.keep_step(thread_number, workers, effect.change);
         Ok(effect.finished)
     }
 
@@ -319,7 +281,10 @@ impl<W: World> Kernel<W> {
         requires { thread < thread_count self.now.inputs }
         ensures { spec.turn_at (machine_of self.now) thread finished ≡ Some last.new }
     {
-        last.note(&self.threads[thread as usize], self.recorded(finished));
+        last.note(
+            &self.parts.threads[thread as usize],
+            self.recorded(finished),
+        );
     }
 
     /// What the last step of a thread left, which finished the request of this number, or none.
@@ -327,7 +292,7 @@ impl<W: World> Kernel<W> {
         requires { thread < thread_count self.now.inputs }
         ensures { spec.turn_at (machine_of self.now) thread finished ≡ Some result }
     {
-        self.threads[thread as usize].turn(self.recorded(finished))
+        self.parts.threads[thread as usize].turn(self.recorded(finished))
     }
 
     /// What is recorded of the request of this number, where one is given.
@@ -345,14 +310,14 @@ impl<W: World> Kernel<W> {
     pub fn room(&self) -> u32
         ensures { result ≡ self.now.room }
     {
-        self.room
+        self.parts.room
     }
 
     /// The instructions.
     pub fn text(&self) -> &Text
         ensures { result.now ≡ self.now.inputs.image.text }
     {
-        &self.text
+        &self.parts.text
     }
 
     /// The number of threads, 1 to 16.
@@ -362,7 +327,7 @@ impl<W: World> Kernel<W> {
         ensures some { 1 ≤ result }
         ensures few { result ≤ MOST_THREADS }
     {
-        self.threads.len() as u32
+        self.parts.threads.len() as u32
     }
 
     /// The steps that were kept, each the number of the thread that made it.
@@ -370,28 +335,21 @@ impl<W: World> Kernel<W> {
         ensures steps { result.now ≡ self.now.steps }
         ensures few { length self.now.steps + self.now.room ≤ MOST_STEPS }
     {
-        self.schedule.as_slice()
+        self.parts.schedule.as_slice()
     }
 
     /// The most frames that were in use, at the start and after each step that was kept.
     pub fn peak(&self) -> u32
         ensures { result ≡ runs.peak (start self.now.inputs) self.now.steps }
     {
-        self.peak
-    }
-
-    /// What has been written to the console.
-    pub fn console(&self) -> &[u8]
-        ensures { result.now ≡ (machine_of self.now).environment.channels.console }
-    {
-        self.channels.console()
+        self.parts.peak
     }
 
     /// The world of the threads.
     pub fn world(&self) -> &W
         ensures { W.seen result.now ≡ (machine_of self.now).environment.world }
     {
-        &self.world
+        &self.parts.world
     }
 
     /// The status, the context and the registers of a thread.
@@ -399,7 +357,7 @@ impl<W: World> Kernel<W> {
         requires { thread_number < thread_count self.now.inputs }
         ensures { spec.view_of (machine_of self.now) thread_number ≡ Some result }
     {
-        self.threads[thread_number as usize].view()
+        self.parts.threads[thread_number as usize].view()
     }
 
     /// The number of steps that the threads may still make (`work`): in a run the budgets of those that
@@ -408,8 +366,8 @@ impl<W: World> Kernel<W> {
     pub fn work(&self) -> u32
         ensures { result ≡ work (machine_of self.now) }
     {
-        let requests = self.channels.requests().len();
-        work_of(self.threads.as_slice(), &self.serve, requests)
+        let requests = self.parts.channels.requests().len();
+        work_of(self.parts.threads.as_slice(), &self.serve, requests)
     }
 
     /// How a thread is at the start, before any step.
@@ -418,7 +376,7 @@ impl<W: World> Kernel<W> {
         requires fresh { self.now.steps ≡ [] }
         ensures { spec.turn self.now thread ≡ Some result }
     {
-        self.threads[thread as usize].turn(None)
+        self.parts.threads[thread as usize].turn(None)
     }
 
     /// The number of requests.
@@ -427,7 +385,7 @@ impl<W: World> Kernel<W> {
         ensures requests { result ≡ length (machine_of self.now).environment.channels.requests }
         ensures few { result ≤ MOST_REQUESTS }
     {
-        self.channels.requests().len() as u32
+        self.parts.channels.requests().len() as u32
     }
 
     /// What is recorded of a request; `None` if it is not finished, or if there is none of this number. The
@@ -435,7 +393,7 @@ impl<W: World> Kernel<W> {
     pub fn reply(&self, request: u16) -> Option<FinishedView<'_>>
         ensures { result ≡ reply_of (machine_of self.now) request }
     {
-        recorded(&self.serve, &self.channels, request)
+        recorded(&self.serve, &self.parts.channels, request)
     }
 
     /// How a request ended; `None` if it is not finished, or if there is none of this number.
@@ -449,7 +407,7 @@ impl<W: World> Kernel<W> {
     pub fn channels(&self) -> &Channels
         ensures { result.now ≡ (machine_of self.now).environment.channels }
     {
-        &self.channels
+        &self.parts.channels
     }
 
     /// The parts of a kernel that has kept no step: those of its start.
@@ -459,101 +417,20 @@ impl<W: World> Kernel<W> {
         ensures channels { result.channels ≡ (start self.inputs).environment.channels }
         ensures text { result.text ≡ self.inputs.image.text }
         ensures threads { result.threads.items ≡ (start self.inputs).threads }
+        ensures schedule { result.schedule.items ≡ [] }
+        ensures room { result.room ≡ self.room }
+        ensures fits { vec_len result.schedule + result.room ≤ vec_capacity result.schedule }
+        ensures peak { result.peak ≡ used (W.seen result.world) }
     {
-        Parts {
-            world: self.world,
-            channels: self.channels,
-            text: self.text,
-            threads: self.threads,
-        }
+        self.parts
     }
 
     /// A law of each kernel: a kernel can be opened with its inputs.
     pub fn was_opened(&self)
         ensures { CanOpen self.now.inputs }
     {
-        let _room = self.room;
+        let _room = self.parts.room;
     }
-}
-
-/// What a kernel is made of at the start of an image, with a vault if one is given. The only error is out of
-/// memory.
-fn first_parts<W: World>(
-    alloc: Global,
-    image: &Image,
-    vault: Option<&Vault>,
-    requests: Requests,
-    settings: &Settings,
-) -> Result<Parts<W>, OutOfMemory>
-    requires { CanOpen (record {
-      image = image.now;
-      vault = option_map (λ v. v.now) vault;
-      requests = requests;
-      settings = settings.now;
-    }) }
-    ensures world { IfOk result (λ parts. W.seen parts.world ≡ with_its_vault
-        (world_for image.now settings.now.frames settings.now.job) (option_map (λ v. v.now) vault.entry)) }
-    ensures channels { IfOk result (λ parts. parts.channels ≡ opened image.now.files requests) }
-    ensures text { IfOk result (λ parts. parts.text ≡ image.now.text) }
-    ensures threads { IfOk result (λ parts. parts.threads.items
-        ≡ threads_at image.now settings.now.budget settings.now.job) }
-{
-    let text = image.text.copy(alloc)?;
-    let threads = threads_at(alloc, image, settings.budget, settings.job)?;
-    let world = world_with_vault(alloc, image, vault, settings)?;
-    let channels = open_channels(alloc, image, requests)?;
-    Ok(Parts {
-        world,
-        channels,
-        text,
-        threads,
-    })
-}
-
-/// Drops the contexts that are reached neither from a thread's context nor from the homes of this number
-/// of workers, and then the groups that no cell names. There are none if the step has cut no link, and
-/// then no work is done.
-pub fn drop_unreached<W: World>(world: &mut W, threads: &[Thread], workers: u32, change: Change)
-    requires few { length threads.now ≤ MOST_THREADS }
-    requires few_homes { workers ≤ MOST_THREADS }
-    requires live { All (λ x. IsLive (W.seen world.old) x.context) threads.now }
-    requires homes { All (λ home. IsLive (W.seen world.old) home) (homes_of workers) }
-    requires uncut { change ≢ changes.Links →
-        IsReaped (W.seen world.old) (contexts_of threads.now ++ homes_of workers) }
-    ensures { W.seen world.new
-        ≡ life.reap (W.seen world.old) (contexts_of threads.now ++ homes_of workers) }
-{
-    if change == Change::Links {
-        let mut contexts: ArrayVec<Name, 32> = ArrayVec::new();
-        'threads: for i in 0..threads.len() {
-            contexts.push(threads[i].context);
-        }
-        'homes: for t in 0..workers {
-            contexts.push(home_of(t));
-        }
-        world.reap(contexts.as_slice());
-    }
-}
-
-/// The peak after a step, which a step that leaves the world does not raise.
-pub fn peak_after<W: World>(peak: u32, world: &W, change: Change) -> u32
-    requires { change ≡ changes.Thread → used (W.seen world.now) ≤ peak }
-    ensures { result ≡ max peak (used (W.seen world.now)) }
-{
-    match change {
-        Change::Thread => peak,
-        Change::World | Change::Links => peak.max(world.used()),
-    }
-}
-
-/// Appends a step to a schedule that has room for it.
-fn append(schedule: &mut Vec<u8>, thread: u8)
-    requires { vec_len schedule.old < vec_capacity schedule.old }
-    ensures steps { schedule.new.items ≡ schedule.old.items ++ thread ∷ [] }
-    ensures length { vec_len schedule.new ≡ vec_len schedule.old + 1 }
-    ensures capacity { vec_capacity schedule.old ≤ vec_capacity schedule.new }
-{
-    let _ = schedule.push(thread);
 }
 
 /// The number of steps that the threads may still make, those for this number of requests among them.

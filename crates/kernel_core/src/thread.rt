@@ -94,7 +94,7 @@ impl Thread {
     }
 
     /// The registers and the status, and the request that a step of it has finished.
-    pub(crate) fn turn(&self, finished: Option<FinishedView<'_>>) -> Turn
+    pub fn turn(&self, finished: Option<FinishedView<'_>>) -> Turn
         ensures { result ≡ turn_of self.now finished.entry }
     {
         Turn {
@@ -105,7 +105,7 @@ impl Thread {
     }
 
     /// What can be seen of the thread.
-    pub(crate) fn view(&self) -> ThreadView
+    pub fn view(&self) -> ThreadView
         ensures { result
             ≡ record { status = self.now.status; context = self.now.context; regs = self.now.regs } }
     {

@@ -81,15 +81,21 @@ used-last s (t ∷ ts) = omega (arith, used-last (monitored_step s t) ts)
 pub as_seen : (s : Monitored) (most : ℕ) (h value : History) → h ≡ value → IsSteady s most h → IsSteady s most value
 as_seen s most h value is steady = subst (IsSteady s most) is steady
 
--- a steady run, its traps, peak and history under other names
-pub steady_as : (s : Monitored) (most now : ℕ) (h after : History) → now ≡ most → after ≡ h → IsSteady s most h → IsSteady s now after
-steady_as s most now h after peak_is is steady = subst (λ (n : ℕ). IsSteady s n after) (sym peak_is) (subst (IsSteady s most) (sym is) steady)
+-- a steady run, its parts, peak and history under other names
+pub steady_as : (w : World) (io other_io : Channels) (threads other_threads : List Thread) (text other_text : List Instr) (traps : Traps) (most now : ℕ) (h after : History) →
+    other_io ≡ io → other_threads ≡ threads → other_text ≡ text → now ≡ most → after ≡ h →
+    IsSteady (record { machine = machine w io threads text None; traps = traps }) most h → IsSteady (record { machine = machine w other_io other_threads other_text None; traps = traps }) now after
+steady_as w io other_io threads other_threads text other_text traps most now h after io_is threads_are text_is peak_is is steady =
+    let same : machine w other_io other_threads other_text None ≡ machine w io threads text None = λ i. machine w (io_is i) (threads_are i) (text_is i) None in
+    let other : Machine → Monitored = λ (k : Machine). record { machine = k; traps = traps } in
+    subst (λ (k : Machine). IsSteady (other k) now after) (sym same)
+    (subst (λ (n : ℕ). IsSteady (other (machine w io threads text None)) n after) (sym peak_is) (subst (IsSteady (other (machine w io threads text None)) most) (sym is) steady))
 
 -- the history of a run's parts after one more step
-pub one_longer : (image : Image) (settings : Settings) (steps after : List ℕ) (room t : ℕ) (value : History) →
-    history image None [] settings steps room ≡ value → after ≡ steps ++ t ∷ [] → history image None [] settings after (room - 1) ≡ longer value t
-one_longer image settings steps after room t value is appended =
-    ap (λ (l : List ℕ). history image None [] settings l (room - 1)) appended ∙ ap (λ h. longer h t) is
+pub one_longer : (image : Image) (settings : Settings) (steps after : List ℕ) (room left t : ℕ) (value : History) →
+    history image None [] settings steps room ≡ value → after ≡ steps ++ t ∷ [] → left ≡ room - 1 → history image None [] settings after left ≡ longer value t
+one_longer image settings steps after room left t value is appended fewer =
+    (λ i. history image None [] settings (appended i) (fewer i)) ∙ ap (λ h. longer h t) is
 
 had_ended : (traps : Traps) (t : ℕ) (e : Environment) (text : List Instr) (x : Thread) (st : ThreadStatus) → thread_outcome (calls_under traps) t e None text x st ≡ None → (has_ended st ≡ true) × (call_by text x st ≡ None)
 had_ended traps t e text x status.Idle none = cc
@@ -238,22 +244,16 @@ module _ (w : World) (io : Channels) (threads : List Thread) (text : List Instr)
           stays : (c : Name) → is_live w c ≡ true → is_live v c ≡ true
           stays = (step_made (calls_under traps) (acts_under traps) h.inputs (length h.steps) t m x kept.ready tt found left made_as).0.stay
 
-          pub reaped-as : (u : World) (l : List Thread) → u ≡ reap v (contexts_of l ++ []) → l ≡ slice_set threads t y → u ≡ reap v names
-          reaped-as u l is same = is ∙ ap (λ (k : List Thread). reap v (contexts_of k ++ [])) same
+          pub live_there : All (λ (a : Thread). is_live v a.context ≡ true) (slice_set threads t y)
+          live_there = contexts_part (λ c. is_live v c ≡ true) (slice_set threads t y) [] live
 
-          pub uncut-as : (l : List Thread) → l ≡ slice_set threads t y → f.change ≢ changes.Links → IsReaped v (contexts_of l ++ [])
-          uncut-as l same other = subst (λ (k : List Thread). IsReaped v (contexts_of k ++ [])) (sym same) (nothing_left other)
-
-          pub live-as : (l : List Thread) → l ≡ slice_set threads t y → All (λ (a : Thread). is_live v a.context ≡ true) l
-          live-as l same = subst (All (λ (a : Thread). is_live v a.context ≡ true)) (sym same) (contexts_part (λ c. is_live v c ≡ true) (slice_set threads t y) [] live)
+          -- a change of the thread alone does not raise the peak
+          pub used_kept : f.change ≡ changes.Thread → used v ≤ most
+          used_kept thread =
+              let alone : Keeps changes.Thread w x v y = subst (λ (c : Change). Keeps c w x v y) thread keeps_here in
+              omega (arith, ap used alone.0, used_below)
 
           module _ (u : World) (reaped : u ≡ reap v names) where
-            pub used_kept : f.change ≡ changes.Thread → used u ≤ most
-            used_kept thread =
-                let alone : Keeps changes.Thread w x v y = subst (λ (c : Change). Keeps c w x v y) thread keeps_here in
-                let none = nothing_left (λ same. let both : changes.Thread ≡ changes.Links = sym thread ∙ same in cc) in
-                omega (arith, ap used (reaped ∙ reap-reaped v names none ∙ alone.0), used_below)
-
             -- where no link is cut all traps stay
             pub traps_stay : f.change ≢ changes.Links → later ≡ fm.retain_keys later (is_live u)
             traps_stay other =
@@ -327,11 +327,6 @@ begins-with inputs run w io threads text world_is io_is threads_are text_is = λ
   text = text_is i;
   serve = sym (ap (λ (j : Job). serve_at j inputs.settings.budget (length inputs.requests)) run) i;
 }
-
--- a kernel that was just opened has used what its world uses
-pub opens-so : (k : History) (inputs : Inputs) (room most : ℕ) (w : World) → k ≡ opened inputs room → most ≡ peak (start k.inputs) k.steps → w ≡ (start k.inputs).environment.world → most ≡ used w
-opens-so k inputs room most w is most_is world_is =
-    most_is ∙ ap (λ (l : List ℕ). peak (start k.inputs) l) (ap (λ (h : History). h.steps) is) ∙ ap used (sym world_is)
 
 -- a run whose parts are those of a start
 pub steady_start : (inputs : Inputs) (steps : List ℕ) (room : ℕ) (w : World) (io : Channels) (threads : List Thread) (text : List Instr) (traps : Traps) (most : ℕ) → CanOpen inputs → inputs.settings.job ≡ job.Run →

@@ -18,12 +18,8 @@ ghost use Rattle.lwc_text.specs.Report.{threads_text};
 use crate::stepping::step_under;
 use crate::traps::Traps;
 use guest_image::Image;
-use guest_isa::Text;
-use kernel_core::{
-    Change, Job, Kernel, OpenFault, Parts, Settings, Thread, ThreadView, Turn, drop_unreached,
-    peak_after,
-};
-use lwc_base::{Channels, OutOfMemory, Requests};
+use kernel_core::{Change, Job, Kernel, OpenFault, Parts, Settings, Turn};
+use lwc_base::{OutOfMemory, Requests};
 use lwc_text::{context_lines, groups_line, tail_lines, thread_lines, trap_line};
 use std::alloc::Global;
 use std::marker::Model;
@@ -36,14 +32,8 @@ use world_face::World;
 pub struct Monitored<W: World> {
     image: Snapshot<Image>,
     settings: Settings,
-    text: Text,
-    world: W,
-    channels: Channels,
-    threads: Vec<Thread>,
+    parts: Parts<W>,
     traps: Traps,
-    schedule: Vec<u8>,
-    room: u32,
-    peak: u32,
 }
 
 impl<W: World> Model for Monitored<W> {
@@ -54,14 +44,16 @@ impl<W: World> Model for Monitored<W> {
 
     ghost Value = { History };
 
-    ghost view = { λ k. history k.image.value None [] k.settings k.schedule.items k.room };
+    ghost view = { λ k. history k.image.value None [] k.settings k.parts.schedule.items
+        k.parts.room };
 
-    ghost invariant = { λ k. (vec_len k.schedule + k.room ≤ vec_capacity k.schedule)
+    ghost invariant = { λ k. (vec_len k.parts.schedule + k.parts.room ≤ vec_capacity k.parts.schedule)
         × IsSteady (record {
-          machine = machine (W.seen k.world) k.channels k.threads.items k.text None;
+          machine = machine (W.seen k.parts.world) k.parts.channels k.parts.threads.items k.parts.text None;
           traps = k.traps;
         })
-        k.peak (history k.image.value None [] k.settings k.schedule.items k.room) };
+        k.parts.peak
+        (history k.image.value None [] k.settings k.parts.schedule.items k.parts.room) };
 }
 
 impl<W: World> Monitored<W> {
@@ -88,31 +80,15 @@ impl<W: World> Monitored<W> {
             IfErr result (λ fault. fault ≡ OpenFault.OutOfMemory) }
     {
         let requests = Requests::of(Vec::new(alloc));
-        let kernel: Kernel<W> = Kernel::open(alloc, image, requests, 0, settings)?;
-        let Ok(schedule) = Vec::with_capacity(alloc, steps as usize) else {
-            return Err(OpenFault::OutOfMemory);
-        };
+        let kernel: Kernel<W> = Kernel::open(alloc, image, requests, steps, settings)?;
         let Ok(traps) = Traps::new(alloc) else {
             return Err(OpenFault::OutOfMemory);
         };
-        let peak = kernel.peak();
-        let Parts {
-            world,
-            channels,
-            text,
-            threads,
-        } = kernel.into_parts();
         Ok(Monitored {
             image: Snapshot::of(image),
             settings: *settings,
-            text,
-            world,
-            channels,
-            threads,
+            parts: kernel.into_parts(),
             traps,
-            schedule,
-            room: steps,
-            peak,
         })
     }
 
@@ -129,32 +105,29 @@ impl<W: World> Monitored<W> {
         ensures err { OnErr result (self.new ≡ self.old) }
         ensures ample { W.roomy ≡ true → IsOk result }
     {
-        let mut thread = self.threads[thread_number as usize];
+        let mut thread = self.parts.threads[thread_number as usize];
         let Some(effect) = step_under(
             &mut self.traps,
-            &mut self.world,
-            &mut self.channels,
-            &self.text,
+            &mut self.parts.world,
+            &mut self.parts.channels,
+            &self.parts.text,
             thread_number,
             &mut thread,
         )?
         else {
-            return Ok(turn_of(&thread));
+            return Ok(thread.turn(None));
         };
-        self.threads[thread_number as usize] = thread;
-        drop_unreached(&mut self.world, self.threads.as_slice(), 0, effect.change);
-        keep_reached(&mut self.traps, &self.world, effect.change);
-        self.peak = peak_after(self.peak, &self.world, effect.change);
-        self.schedule.push_reserved(thread_number as u8);
-        self.room -= 1;
-        Ok(turn_of(&thread))
+        self.parts.threads[thread_number as usize] = thread;
+        self.parts.keep_step(thread_number, 0, effect.change);
+        keep_reached(&mut self.traps, &self.parts.world, effect.change);
+        Ok(thread.turn(None))
     }
 
     /// The number of steps that there is room for.
     pub fn room(&self) -> u32
         ensures { result ≡ self.now.room }
     {
-        self.room
+        self.parts.room
     }
 
     /// The report of the run: that of a kernel, with a line for each trapped context after the contexts. The
@@ -164,15 +137,15 @@ impl<W: World> Monitored<W> {
         ensures { IfOk result (λ text. text.items ≡ report_after_under self.now.inputs self.now.steps) }
     {
         let mut text = self.threads_text(alloc)?;
-        context_lines(&mut text, &self.world)?;
+        context_lines(&mut text, &self.parts.world)?;
         trap_lines(&mut text, &self.traps)?;
-        groups_line(&mut text, self.world.group_count())?;
+        groups_line(&mut text, self.parts.world.group_count())?;
         tail_lines(
             &mut text,
-            self.channels.console(),
-            self.world.used(),
-            self.peak,
-            self.schedule.as_slice(),
+            self.parts.channels.console(),
+            self.parts.world.used(),
+            self.parts.peak,
+            self.parts.schedule.as_slice(),
         )?;
         Ok(text)
     }
@@ -183,19 +156,8 @@ impl<W: World> Monitored<W> {
         ensures { IfOk result (λ text. text.items ≡ threads_text (state_of self.now).machine) }
     {
         let mut text = Vec::new(alloc);
-        'threads: for t in 0..self.threads.len() {
-            let Thread {
-                status,
-                context,
-                regs,
-                ..
-            } = self.threads[t];
-            let view = ThreadView {
-                status,
-                context,
-                regs,
-            };
-            thread_lines(&mut text, t as u32, &view)?;
+        'threads: for t in 0..self.parts.threads.len() {
+            thread_lines(&mut text, t as u32, &self.parts.threads[t].view())?;
         }
         Ok(text)
     }
@@ -221,15 +183,4 @@ fn trap_lines(out: &mut Vec<u8>, traps: &Traps) -> Result<(), OutOfMemory>
         trap_line(out, pair.0, pair.1)?;
     }
     Ok(())
-}
-
-/// The registers and the status of a thread.
-fn turn_of(thread: &Thread) -> Turn
-    ensures { result ≡ kernels.turn_of thread.now None }
-{
-    Turn {
-        regs: thread.regs,
-        status: thread.status,
-        finished: None,
-    }
 }

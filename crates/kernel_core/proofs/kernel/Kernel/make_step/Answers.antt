@@ -1,4 +1,4 @@
-use Rattle.std.proofs.Common.{◌≡◌, ◌<◌, ◌∙◌, All, IfSome, List, None, Option, ap, arith, length, subst, sym}
+use Rattle.std.proofs.Common.{◌≡◌, ◌<◌, ◌∙◌, All, IfSome, List, None, Option, ap, arith, refl, subst, sym}
 use Rattle.std.specs.Option.{option_map}
 use Rattle.std.proofs.lemmas.List.{length-set}
 use Rattle.guest_isa.specs.Instructions.{IsText}
@@ -9,7 +9,6 @@ use Rattle.kernel_core.specs.Kernel.{History, machine_of, turn, turn_at}
 use Rattle.kernel_core.specs.Machine.{work}
 use Rattle.kernel_core.specs.Runs.{last_finished}
 use Rattle.kernel_core.specs.Start.{start}
-use Rattle.kernel_core.specs.declared.thread.Thread.{Thread}
 use Rattle.snapshot_host.specs.declared.finishing.Finished.{Finished}
 use Rattle.world_face.specs.Calls.{IsLive}
 use Rattle.kernel_core.proofs.ReadyRuns.{can_serve}
@@ -72,46 +71,44 @@ returns-in_default-clause-work g c going =
     c.in_ok-effect.ensures.outcome c.in_ok-effect.ensures.kept c.in_default.is in
     absurd (cc (rest.ended, going))
 
-pub peak_after-self-inside-requires-after_bounds : goal.peak_after-self-inside-requires-after_bounds
-peak_after-self-inside-requires-after_bounds g c κs within thread =
+pub keep_step-requires-clause-used : goal.keep_step-requires-clause-used
+keep_step-requires-clause-used g c κs within thread =
     used_kept _ _ _ (as_seen _ _ _ _ c.self.view_is c.self.invariant.1) c.args.thread_number _ _ _ _ _ _ c.requires.within c.index_mut-thread.ensures.value
-    c.in_ok-effect.ensures.outcome c.in_ok-effect.ensures.kept
-    _ _ c.in-Some.is (reaped_as _ _ _ _ _ _ c.drop_unreached.ensures c.as_slice.ensures.value c.worker_count-workers.ensures.homes) thread
+    c.in_ok-effect.ensures.outcome c.in_ok-effect.ensures.kept _ c.in-Some.is thread
 
-pub append-requires : goal.append-requires
-append-requires g c =
-    let made = made_here _ _ _ (as_seen _ _ _ _ c.self.view_is c.self.invariant.1) c.args.thread_number _ _ _ _ _ _ c.requires.within c.index_mut-thread.ensures.value
-    c.in_ok-effect.ensures.outcome c.in-Some.effect c.in-Some.is in
-    omega (arith, c.requires.room made.going, ap (λ (h : History). h.room) c.self.view_is, c.self.invariant.0)
-
-pub overflow_sub-self : goal.overflow_sub-self
-overflow_sub-self g c =
+pub keep_step-requires-clause-room : goal.keep_step-requires-clause-room
+keep_step-requires-clause-room g c κs within =
     let made = made_here _ _ _ (as_seen _ _ _ _ c.self.view_is c.self.invariant.1) c.args.thread_number _ _ _ _ _ _ c.requires.within c.index_mut-thread.ensures.value
     c.in_ok-effect.ensures.outcome c.in-Some.effect c.in-Some.is in
     omega (arith, c.requires.room made.going, ap (λ (h : History). h.room) c.self.view_is)
+
+pub keep_step-requires-clause-number : goal.keep_step-requires-clause-number
+keep_step-requires-clause-number g c κs bounds =
+    let steady = as_seen _ _ _ _ c.self.view_is c.self.invariant.1 in
+    let ready = is_ready _ _ _ steady in
+    omega (arith, within _ _ _ steady c.args.thread_number c.requires.within, ready.few)
 
 pub invariant_of-self-2 : goal.invariant_of-self-2
 invariant_of-self-2 g c =
     let made = made_here _ _ _ (as_seen _ _ _ _ c.self.view_is c.self.invariant.1) c.args.thread_number _ _ _ _ _ _ c.requires.within c.index_mut-thread.ensures.value
     c.in_ok-effect.ensures.outcome c.in-Some.effect c.in-Some.is in
     let some = c.requires.room made.going in
-    let is = one_longer _ _ _ _ _ _ _ _ _ c.self.view_is c.append.ensures.steps in (
-      omega (arith, some, ap (λ (h : History). h.room) c.self.view_is, c.self.invariant.0, c.append.ensures.length, c.append.ensures.capacity),
-      steady_as _ _ _ _ _ c.peak_after-self-inside.ensures is (made.steady some _ (reaped_as _ _ _ _ _ _ c.drop_unreached.ensures c.as_slice.ensures.value c.worker_count-workers.ensures.homes)),
-    )
+    let kept = c.keep_step.ensures in
+    let is = one_longer _ _ _ _ _ _ _ _ _ _ c.self.view_is kept.steps kept.room in
+    (kept.fits, steady_as _ _ _ _ _ _ _ _ _ _ _ _ kept.channels kept.threads kept.text kept.peak is (made.steady some _ (reaped_as _ _ _ _ _ _ kept.world refl c.worker_count-workers.ensures.homes)))
 
 pub returns-clause-step : goal.returns-clause-step
 returns-clause-step g c =
     let made = made_here _ _ _ (as_seen _ _ _ _ c.self.view_is c.self.invariant.1) c.args.thread_number _ _ _ _ _ _ c.requires.within c.index_mut-thread.ensures.value
     c.in_ok-effect.ensures.outcome c.in-Some.effect c.in-Some.is in
-    one_longer _ _ _ _ _ _ _ _ _ c.self.view_is c.append.ensures.steps ∙ sym made.kept
+    one_longer _ _ _ _ _ _ _ _ _ _ c.self.view_is c.keep_step.ensures.steps c.keep_step.ensures.room ∙ sym made.kept
 
 pub returns-clause-turn : goal.returns-clause-turn
 returns-clause-turn g c =
     let made = made_here _ _ _ (as_seen _ _ _ _ c.self.view_is c.self.invariant.1) c.args.thread_number _ _ _ _ _ _ c.requires.within c.index_mut-thread.ensures.value
     c.in_ok-effect.ensures.outcome c.in-Some.effect c.in-Some.is in
     subst (λ (h : History). turn h c.args.thread_number ≡ turn_at (machine_of h) c.args.thread_number c.in-Some.effect.finished)
-    (sym (one_longer _ _ _ _ _ _ _ _ _ c.self.view_is c.append.ensures.steps)) (made.turn ∙ sym (made.turn_in c.in-Some.effect.finished))
+    (sym (one_longer _ _ _ _ _ _ _ _ _ _ c.self.view_is c.keep_step.ensures.steps c.keep_step.ensures.room)) (made.turn ∙ sym (made.turn_in c.in-Some.effect.finished))
 
 pub returns-clause-number : goal.returns-clause-number
 returns-clause-number g c =
@@ -119,44 +116,38 @@ returns-clause-number g c =
     c.in_ok-effect.ensures.outcome c.in-Some.effect c.in-Some.is in
     let numbered = numbered_here _ _ c.in_ok-effect.ensures.number c.in-Some.effect c.in-Some.is in
     subst (λ (h : History). c.in-Some.effect.finished ≡ option_map (λ f. f.request) (last_finished (start h.inputs) h.steps c.args.thread_number None))
-    (sym (one_longer _ _ _ _ _ _ _ _ _ c.self.view_is c.append.ensures.steps))
+    (sym (one_longer _ _ _ _ _ _ _ _ _ _ c.self.view_is c.keep_step.ensures.steps c.keep_step.ensures.room))
     (numbered ∙ ap (λ (o : Option Finished). option_map (λ f. f.request) o) (sym made.finished))
 
 pub returns-clause-work : goal.returns-clause-work
 returns-clause-work g c going =
     let made = made_here _ _ _ (as_seen _ _ _ _ c.self.view_is c.self.invariant.1) c.args.thread_number _ _ _ _ _ _ c.requires.within c.index_mut-thread.ensures.value
     c.in_ok-effect.ensures.outcome c.in-Some.effect c.in-Some.is in
-    subst (λ (h : History). work (machine_of h) < work (machine_of c.args.self.now)) (sym (one_longer _ _ _ _ _ _ _ _ _ c.self.view_is c.append.ensures.steps)) made.less
+    subst (λ (h : History). work (machine_of h) < work (machine_of c.args.self.now)) (sym (one_longer _ _ _ _ _ _ _ _ _ _ c.self.view_is c.keep_step.ensures.steps c.keep_step.ensures.room)) made.less
 
-pub drop_unreached-requires-clause-few : goal.drop_unreached-requires-clause-few
-drop_unreached-requires-clause-few g c =
+pub keep_step-requires-clause-few : goal.keep_step-requires-clause-few
+keep_step-requires-clause-few g c =
     let ready = is_ready _ _ _ (as_seen _ _ _ _ c.self.view_is c.self.invariant.1) in
-    omega (arith, ap (λ (l : List Thread). length l) c.as_slice.ensures.value, length-set c.self.inside.threads.items c.args.thread_number c.step_thread.new.thread, ready.few)
+    omega (arith, length-set c.self.inside.parts.threads.items c.args.thread_number c.step_thread.new.thread, ready.few)
 
-pub drop_unreached-requires-clause-live : goal.drop_unreached-requires-clause-live
-drop_unreached-requires-clause-live g c κs inside =
+pub keep_step-requires-clause-live : goal.keep_step-requires-clause-live
+keep_step-requires-clause-live g c κs inside =
     let made = made_here _ _ _ (as_seen _ _ _ _ c.self.view_is c.self.invariant.1) c.args.thread_number _ _ _ _ _ _ c.requires.within c.index_mut-thread.ensures.value
     c.in_ok-effect.ensures.outcome c.in-Some.effect c.in-Some.is in
-    subst (All (λ (x : Thread). IsLive (g.W.World.seen c.step_thread.new.world) x.context)) (sym c.as_slice.ensures.value)
-    (contexts_part (IsLive (g.W.World.seen c.step_thread.new.world)) _ _ made.live)
+    contexts_part (IsLive (g.W.World.seen c.step_thread.new.world)) _ _ made.live
 
-pub drop_unreached-requires-clause-homes : goal.drop_unreached-requires-clause-homes
-drop_unreached-requires-clause-homes g c κs inside =
+pub keep_step-requires-clause-homes : goal.keep_step-requires-clause-homes
+keep_step-requires-clause-homes g c κs inside =
     let made = made_here _ _ _ (as_seen _ _ _ _ c.self.view_is c.self.invariant.1) c.args.thread_number _ _ _ _ _ _ c.requires.within c.index_mut-thread.ensures.value
     c.in_ok-effect.ensures.outcome c.in-Some.effect c.in-Some.is in
     subst (All (IsLive (g.W.World.seen c.step_thread.new.world))) (sym c.worker_count-workers.ensures.homes)
     (homes_part (IsLive (g.W.World.seen c.step_thread.new.world)) _ _ made.live)
 
-pub drop_unreached-requires-clause-uncut : goal.drop_unreached-requires-clause-uncut
-drop_unreached-requires-clause-uncut g c κs inside other =
-    reaped_back _ _ _ _ _ c.as_slice.ensures.value c.worker_count-workers.ensures.homes
+pub keep_step-requires-clause-uncut : goal.keep_step-requires-clause-uncut
+keep_step-requires-clause-uncut g c κs inside other =
+    reaped_back _ _ _ _ _ refl c.worker_count-workers.ensures.homes
     (nothing_left _ _ _ (as_seen _ _ _ _ c.self.view_is c.self.invariant.1) c.args.thread_number _ _ _ _ _ _ c.requires.within c.index_mut-thread.ensures.value
     c.in_ok-effect.ensures.outcome c.in_ok-effect.ensures.kept c.in-Some.effect c.in-Some.is other)
-
-pub overflow_cast-thread_number-2 : goal.overflow_cast-thread_number-2
-overflow_cast-thread_number-2 g c =
-    let ready = is_ready _ _ _ (as_seen _ _ _ _ c.self.view_is c.self.invariant.1) in
-    omega (arith, within _ _ _ (as_seen _ _ _ _ c.self.view_is c.self.invariant.1) c.args.thread_number c.requires.within, ready.few)
 
 pub step_thread-requires-clause-serve : goal.step_thread-requires-clause-serve
 step_thread-requires-clause-serve g c κs within =

@@ -1,4 +1,4 @@
-use Rattle.std.proofs.Common.{arith}
+use Rattle.std.proofs.Common.{◌∙◌, Some, ap, arith, sym}
 use Rattle.lwc_text.proofs.Machines.{more_threads}
 use Rattle.lwc_monitor.proofs.Steadying.{as_seen, few, viewed}
 use Rattle.lwc_monitor.proofs.monitored.Monitored.threads_text.Goals as goal
@@ -9,4 +9,4 @@ overflow_cast-t g c =
 
 pub threads-preserved : goal.threads-preserved
 threads-preserved g c =
-    more_threads _ _ _ _ _ (viewed _ _ _ _ _ _ _ (as_seen _ _ _ _ c.self.view_is c.self.invariant.1) c.threads.t _ (omega (arith, c.threads-test.true, c.len-t-end.ensures)) c.index.ensures) c.threads.invariant c.in_ok-thread_lines.ensures.ok
+    more_threads _ _ _ _ _ (viewed _ _ _ _ _ _ _ (as_seen _ _ _ _ c.self.view_is c.self.invariant.1) c.threads.t _ (omega (arith, c.threads-test.true, c.len-t-end.ensures)) c.index.ensures ∙ ap Some (sym c.view.ensures)) c.threads.invariant c.in_ok-thread_lines.ensures.ok

@@ -7,7 +7,7 @@ use Rattle.kernel_core.specs.Step.{contexts_of}
 use Rattle.lwc_types.specs.declared.name.Name.{Name}
 use Rattle.world_face.specs.Calls.{IsLive}
 use Rattle.lwc_base.proofs.Reaped.{reap-reaped}
-use Rattle.kernel_core.proofs.kernel.drop_unreached.Goals as goal
+use Rattle.kernel_core.proofs.parts.drop_unreached.Goals as goal
 
 pub push-requires-in-homes : goal.push-requires-in-homes
 push-requires-in-homes g c = (
