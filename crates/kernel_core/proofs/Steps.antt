@@ -254,10 +254,6 @@ module _ (m : Machine) (most : ℕ) (h : History) (steady : IsSteady m most h) w
       (can_serve h.inputs (length h.steps) last (ready_machine h.inputs h.steps steady.inputs)) in
       subst (λ (k : Machine). IfSome (in_serve k.serve r) (StillHas k.environment.channels)) (sym steady.machine) (still_has h.inputs h.steps r count)
 
-  -- and where a request is given
-  pub recorded_seen : (r : Option ℕ) → recorded m.serve r ≡ recorded (machine_of h).serve r
-  recorded_seen r = ap (λ (k : Machine). recorded k.serve r) steady.machine
-
   -- the machine's work
   pub work_is : work m ≡ work (machine_of h)
   work_is = ap work steady.machine

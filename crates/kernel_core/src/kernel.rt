@@ -410,7 +410,7 @@ impl<W: World> Kernel<W> {
         &self.parts.channels
     }
 
-    /// The parts of a kernel that has kept no step: those of its start.
+    /// The parts of a kernel that has kept no step: those of its start, with the room that it was opened with.
     pub fn into_parts(self) -> Parts<W>
         requires { self.steps ≡ [] }
         ensures world { W.seen result.world ≡ (start self.inputs).environment.world }

@@ -42,9 +42,9 @@ pub struct Parts<W: World> {
 }
 
 impl<W: World> Parts<W> {
-    /// The parts at the start of an image, with a vault if one is given, and with room for this number of
-    /// steps. The only error is out of memory.
-    pub fn start(
+    /// The parts at the start of an image with these requests, with a vault if one is given, and with room for
+    /// this number of steps. The only error is out of memory.
+    pub(crate) fn start(
         alloc: Global,
         image: &Image,
         vault: Option<&Vault>,
@@ -88,9 +88,10 @@ impl<W: World> Parts<W> {
         })
     }
 
-    /// Keeps the step that a thread has just made, which has changed this: drops what neither a thread's
-    /// context nor the home of one of this number of workers reaches any more, notes what is in use, and
-    /// appends the step.
+    /// Keeps the step that a thread has just made, for which there is room, with what it has changed. Drops
+    /// the contexts that neither a thread's context nor the home of one of this number of workers reaches,
+    /// and the groups that no cell names; raises the peak to the frames in use; appends the thread's number
+    /// to the schedule; and takes 1 from the room. Nothing is dropped where the change has cut no link.
     #[inline(always)]
     pub fn keep_step(&mut self, thread_number: u32, workers: u32, change: Change)
         requires number { thread_number < MOST_THREADS }
@@ -145,7 +146,7 @@ fn drop_unreached<W: World>(world: &mut W, threads: &[Thread], workers: u32, cha
     }
 }
 
-/// The peak after a step, which a step that leaves the world does not raise.
+/// The most frames in use after a step. A step that changes the thread alone does not raise it.
 fn peak_after<W: World>(peak: u32, world: &W, change: Change) -> u32
     requires { change ≡ changes.Thread → used (W.seen world.now) ≤ peak }
     ensures { result ≡ max peak (used (W.seen world.now)) }

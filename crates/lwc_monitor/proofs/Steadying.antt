@@ -16,7 +16,7 @@ use Rattle.kernel_core.proofs.Reaping.{uncut}
 use Rattle.kernel_core.proofs.ReadyRuns.{live_after, ready_later, ready_thread, running_acts, step_made, while_running}
 use Rattle.kernel_core.proofs.Steps.{contexts_part}
 use Rattle.kernel_core.specs.Changes.{Keeps, KeepsAll, after_effect, made}
-use Rattle.kernel_core.specs.Kernel.{CanOpen, History, MayHave, opened, turn_of, view_of}
+use Rattle.kernel_core.specs.Kernel.{CanOpen, History, MayHave, turn_of, view_of}
 use Rattle.kernel_core.specs.Machine.{Environment, Machine, has_ended, is_ended, reply_of}
 use Rattle.kernel_core.proofs.Limits.{has_place}
 use Rattle.kernel_core.specs.Ready.{CanAct, IsReadyThread, IsRunnable, WhileRunning, jobs_of}
@@ -24,7 +24,7 @@ use Rattle.kernel_core.specs.Runs.{frames_of, peak}
 use Rattle.kernel_core.specs.Start.{Inputs, inputs_of, serve_at, start, thread_count}
 use Rattle.kernel_core.specs.Settings.{IsSettings}
 use Rattle.kernel_core.specs.Steady.{history, machine}
-use Rattle.kernel_core.specs.Step.{AfterStep, after_outcome, after_thread, beside, contexts_of, roots, step_by, thread_outcome, with_regs}
+use Rattle.kernel_core.specs.Step.{AfterStep, after_outcome, after_thread, beside, roots, step_by, thread_outcome, with_regs}
 use Rattle.kernel_core.specs.declared.acting.Change.{Change}
 use Rattle.kernel_core.specs.declared.acting.Change.TheVariants as changes
 use Rattle.kernel_core.specs.declared.acting.Effect.{Effect}

@@ -82,7 +82,7 @@ pub fn read_schedule(alloc: Global, bytes: &[u8], threads: u32) -> Result<Schedu
     read_schedule_within(alloc, bytes, threads, MOST_STEPS)
 }
 
-/// Reads a schedule of at most this number of steps, as `read_schedule` does.
+/// Reads a schedule of no more than `most` steps, at most `MOST_STEPS`, as `read_schedule` does.
 ///
 /// # Errors
 ///
