@@ -1,6 +1,7 @@
 mod Changed
 mod Edges
 mod Filled
+mod FrameLemmas
 pub mod FreeLemmas
 pub mod KindChanges
 pub mod Lists

@@ -228,7 +228,7 @@ put-same m p c is = λ i q. at q i
     at q = grind (arith, nat_tests, is)
 
 module _ (nodes : List Node) (frames frames' : List Frame) (trees : List ℕ) (i p f : ℕ) (kept : IsKept nodes frames trees) (i_in : i < length trees) (p_in : p < PAGES) (is : page_of nodes trees i p ≡ cell.Frame (record { n = f })) (alone : parts (row_tags (tree_maps frames nodes trees)) (row_of (tree_maps frames nodes trees) i p) ≡ false) where
-  way-alone : page_short nodes (get_or trees i 0) p ≡ 0
+  pub way-alone : page_short nodes (get_or trees i 0) p ≡ 0
   way-alone =
       ⊎_elim (λ none. none)
       (λ short. absurd (let parts = parting-shared nodes frames trees kept i p f i_in p_in is short in cc (parts, alone)))
@@ -259,6 +259,9 @@ module _ (nodes : List Node) (frames frames' : List Frame) (trees : List ℕ) (i
 
     same-stamp : (g : ℕ) → frame_stamp frames' g ≡ frame_stamp frames g
     same-stamp g = grind (arith, nat_tests, here-at, other-at g)
+
+    pub refill-count : (g : ℕ) → frame_count frames' g ≡ frame_count frames g
+    refill-count = same-count
 
     pub refill-size : length frames' ≡ length frames
     refill-size = ap length refilled ∙ length-set frames f (record (frame_at frames f) { bytes = bytes })

@@ -1,8 +1,10 @@
 pub mod Cells
 pub mod Changes
+pub mod Frames
 pub mod Kept
 pub mod Laws
 pub mod Maps
+pub mod RowFrames
 pub mod RowKept
 pub mod RowSeen
 pub mod RowWrites

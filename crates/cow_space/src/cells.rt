@@ -6,6 +6,7 @@ ghost use Rattle.cow_space.specs.Kept.{HasNoOwnPage, IsKept};
 ghost use Rattle.cow_space.specs.RowSeen.{no_tree-prop};
 
 use crate::rows::Rows;
+use frame_pool::FrameNo;
 use late_rows::LateRows;
 use lwc_base::{OutOfMemory, PageNumber, Right};
 use page_tree::PageCell;
@@ -42,6 +43,7 @@ impl PageCells {
       rights_of,
       states_of,
     };
+    ghost use Rattle.cow_space.specs.Frames.{HasFrame, HasLoneFrame};
     ghost use Rattle.cow_space.specs.Seen.{cells, frames_of, free_nodes, rights};
     ghost use Rattle.cow_space.specs.Tags.{is_parting, own_values, used};
 
@@ -150,6 +152,51 @@ impl PageCells {
             PageCell::Frame(frame) => Some(self.rows.store.frames.bytes(frame)),
             _ => None,
         }
+    }
+
+    /// The frame that has the bytes of a page that is the place's own. A page that is absent, common or zeros has
+    /// none.
+    pub fn frame(&self, place: usize, page: PageNumber) -> Option<u32>
+        requires place { place < length (cells self.now) }
+        requires page { page < MOST_PAGES }
+        ensures { IfSome result (λ f. HasFrame self.now place page f) }
+    {
+        match self.kind(place, page) {
+            Some(SegmentKind::Own) => match self.rows.cell(place, page) {
+                PageCell::Frame(frame) => Some(frame.n),
+                _ => None,
+            },
+            _ => None,
+        }
+    }
+
+    /// The frame of a page that is the place's own, may be stored to and does not part.
+    #[inline(always)]
+    pub fn lone_frame(&self, place: usize, page: PageNumber) -> Option<u32>
+        requires { place < length (cells self.now) }
+        ensures { IfSome result (λ f. HasLoneFrame self.now place page f) }
+    {
+        let Some(state) = self.state(place, page) else {
+            return None;
+        };
+        match (state.kind, state.right) {
+            (SegmentKind::Own, Right::Write) => {
+                let frame = self.rows.lone_frame(place, page)?;
+                Some(frame.n)
+            }
+            _ => None,
+        }
+    }
+
+    /// The bytes of a page that has this frame.
+    #[inline(always)]
+    pub fn bytes_at(&self, place: usize, page: PageNumber, frame: u32) -> &[u8]
+        requires { HasFrame self.now place page frame }
+        ensures value { Some result.now ≡ data_of (own_values (place_of (cells self.now) place) page) }
+        ensures own { IsOwnPage (place_of (cells self.now) place page) }
+        ensures whole { length result.now ≡ PAGE_BYTES }
+    {
+        self.rows.store.frames.bytes(FrameNo { n: frame })
     }
 
     /// Whether a page that is the place's own parts when it is written: it is zeros, or its tag is at another

@@ -10,7 +10,27 @@ use lwc_base::{PAGE_BYTES, PageNumber, Tag};
 use page_tree::{PAGES, PageCell};
 
 /// Puts what a piece at an address has of a page into the page's bytes.
+#[inline(always)]
 fn put_piece(page: &mut [u8; PAGE_BYTES], page_number: PageNumber, at: u32, piece: &[u8])
+    ensures { page.new ≡ bytes_after (record { at = at; bytes = piece.now }) page_number page.old }
+{
+    let start = page_number as usize * PAGE_BYTES;
+    let first = at as usize;
+    // Where the piece is within the page, its length stays that of the caller, and a short copy takes no call.
+    if start <= first
+        && first - start <= PAGE_BYTES
+        && piece.len() <= PAGE_BYTES - (first - start)
+    {
+        let from = first - start;
+        page[from..from + piece.len()].copy_from_slice(&piece[0..piece.len()]);
+        return;
+    }
+    put_across(page, page_number, at, piece);
+}
+
+/// Does so with a piece that may begin before the page or end behind it.
+#[inline(never)]
+fn put_across(page: &mut [u8; PAGE_BYTES], page_number: PageNumber, at: u32, piece: &[u8])
     ensures { page.new ≡ bytes_after (record { at = at; bytes = piece.now }) page_number page.old }
 {
     let start = page_number as usize * PAGE_BYTES;
@@ -55,6 +75,7 @@ fn copy_cell(frames: &mut Pool, cell: PageCell, tag: Tag) -> FrameNo
 }
 
 /// Puts what a piece has of a page into a frame that is held once.
+#[inline(always)]
 fn write_frame(frames: &mut Pool, frame: FrameNo, page: PageNumber, at: u32, piece: &[u8])
     requires once { frame_count frames.old frame.n ≡ 1 }
     ensures { frames.new ≡ refill_frame frames.old frame.n
@@ -68,6 +89,7 @@ impl Rows {
     ghost use Rattle.lwc_types.specs.declared.name.Tag.{Tag};
     ghost use Rattle.page_tree.specs.declared.store.TheConstants.{PAGES};
     ghost use Rattle.cow_space.specs.Maps.{row_of};
+    ghost use Rattle.cow_space.specs.RowFrames.{LeadsAlone, LeadsTo};
     ghost use Rattle.cow_space.specs.RowWrites.{write_page};
     ghost use Rattle.cow_space.specs.RowSeen.{frames_of, free_nodes, maps, node_steps, HasNoTree};
     ghost use Rattle.cow_space.specs.Tags.{different, parts, row_tags, times};
@@ -117,7 +139,31 @@ impl Rows {
         let Some(frame) = self.lone_frame(place, page) else {
             return false;
         };
-        write_frame(&mut self.store.frames, frame, page, at, piece);
+        self.write_lone(place, page, frame, at, piece);
         true
+    }
+
+    /// Writes what a piece at an address has of a page of a row to the frame that the page has alone.
+    #[inline(always)]
+    pub(crate) fn write_lone(
+        &mut self,
+        place: usize,
+        page: PageNumber,
+        frame: FrameNo,
+        at: u32,
+        piece: &[u8],
+    )
+        requires { LeadsAlone self.old place page frame.n }
+        ensures written { (tag : Tag) → maps self.new
+            ≡ write_page (maps self.old) place page (record { at = at; bytes = piece.now }) tag }
+        ensures frames { frames_of self.new ≡ frames_of self.old }
+        ensures others { (j : ℕ) → HasNoTree self.old j → HasNoTree self.new j }
+        ensures nodes { free_nodes self.new ≡ free_nodes self.old }
+        ensures cost { node_steps self.new ≡ node_steps self.old }
+        ensures within { different (row_tags (maps self.old)) ≤ frames_of self.old }
+        ensures leads { (j q f : ℕ) → LeadsTo self.old j q f → LeadsTo self.new j q f }
+        ensures alone { (j q f : ℕ) → LeadsAlone self.old j q f → LeadsAlone self.new j q f }
+    {
+        write_frame(&mut self.store.frames, frame, page, at, piece);
     }
 }

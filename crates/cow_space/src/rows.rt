@@ -39,6 +39,7 @@ impl Rows {
     ghost use Rattle.lwc_types.specs.declared.limits.TheConstants.{MOST_PAGE_PLACES};
     ghost use Rattle.cow_space.specs.Maps.{no_pages, row_of};
     ghost use Rattle.cow_space.specs.RowSeen.{frames_of, free_nodes, maps, HasNoTree};
+    ghost use Rattle.cow_space.specs.RowFrames.{LeadsAlone};
     ghost use Rattle.cow_space.specs.Tags.{parts, row_tags};
 
     /// This number of rows without pages, over this number of frames. The only error is out of memory.
@@ -72,6 +73,7 @@ impl Rows {
         requires page { page_number < PAGES }
         ensures frame { IfSome result (λ frame. page self.now.store.nodes.all
             (slice_index self.now.trees.items place) page_number ≡ cell.Frame frame) }
+        ensures lone { IfSome result (λ frame. LeadsAlone self.now place page_number frame.n) }
         ensures alone { IfSome result
             (λ frame. parts (row_tags (maps self.now)) (row_of (maps self.now) place page_number) ≡ false) }
         ensures parts { IfNone result

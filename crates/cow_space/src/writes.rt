@@ -1,4 +1,5 @@
 use crate::cells::PageCells;
+use frame_pool::FrameNo;
 use lwc_base::{PageNumber, Right, Tag};
 use range_map::SegmentKind;
 use thiserror::Error;
@@ -9,10 +10,11 @@ use thiserror::Error;
 pub struct NoFrame;
 
 impl PageCells {
-    ghost use Rattle.std.specs.Prelude.{◌≡◌, ◌↔◌, ◌+◌, ◌<◌, ◌≤◌, IfOk, IsErr, OnErr, false, length, true};
+    ghost use Rattle.std.specs.Prelude.{ℕ, ◌≡◌, ◌↔◌, ◌+◌, ◌<◌, ◌≤◌, IfOk, IsErr, OnErr, false, length, true};
     ghost use Rattle.lwc_types.specs.declared.name.Tag.{Tag};
     ghost use Rattle.lwc_types.specs.declared.right.Right.TheVariants.{Write};
     ghost use Rattle.cow_space.specs.Cells.{IsOwnPage, place_of, rights_of};
+    ghost use Rattle.cow_space.specs.Frames.{HasFrame, HasLoneFrame};
     ghost use Rattle.cow_space.specs.Seen.{cells, frames_of, free_nodes, node_steps, rights};
     ghost use Rattle.cow_space.specs.Tags.{IsNewTag, is_parting, taken_by, used};
     ghost use Rattle.cow_space.specs.Writes.{write_page};
@@ -57,6 +59,26 @@ impl PageCells {
             self.rows.write_in_place(place, page, at, piece);
         }
         Ok(parting)
+    }
+
+    /// Writes what a piece at an address has of a page of a place, which has this frame alone. No other page of any
+    /// place changes, and no right does.
+    #[inline(always)]
+    pub fn write_at(&mut self, place: usize, page: PageNumber, frame: u32, at: u32, piece: &[u8])
+        requires { HasLoneFrame self.old place page frame }
+        ensures own { IsOwnPage (place_of (cells self.old) place page) }
+        ensures may { rights_of (rights self.old) place page ≡ Write }
+        ensures alone { is_parting (cells self.old) place page ≡ false }
+        ensures enough { used (cells self.old) ≤ frames_of self.old }
+        ensures written { (tag : Tag) → cells self.new
+            ≡ write_page (cells self.old) place page (record { at = at; bytes = piece.now }) tag }
+        ensures rights { rights self.new ≡ rights self.old }
+        ensures frames { frames_of self.new ≡ frames_of self.old }
+        ensures has { (j q f : ℕ) → HasFrame self.old j q f → HasFrame self.new j q f }
+        ensures lone { (j q f : ℕ) → HasLoneFrame self.old j q f → HasLoneFrame self.new j q f }
+    {
+        self.rows
+            .write_lone(place, page, FrameNo { n: frame }, at, piece);
     }
 
     /// Writes what a piece at an address has of a page of a place, if the page is the place's own, may be

@@ -1,8 +1,9 @@
-ghost use Rattle.std.specs.Prelude.{◌≡◌, ◌<◌, ◌≤◌, IfNone, IfOk, IfSome, IsOk, None, OnErr, OnOk, length, true};
+ghost use Rattle.std.specs.Prelude.{◌≡◌, ◌<◌, ◌≤◌, IfNone, IfOk, IfSome, IsOk, None, OnErr, OnOk, Some, length, true};
 ghost use Rattle.guest_isa.specs.Instructions.{IsInstruction, IsText};
 ghost use Rattle.guest_machine.specs.Advances.{IfShared, advanced};
 ghost use Rattle.kernel_core.specs.Changes.{IsNumbered, Keeps, KeepsAll, MakesAll, after_effect, made};
-ghost use Rattle.kernel_core.specs.Machine.{home_of};
+ghost use Rattle.kernel_core.specs.Machine.{has_ended, home_of};
+ghost use Rattle.kernel_core.specs.declared.acting.Change.TheVariants as changes;
 ghost use Rattle.kernel_core.specs.Ready.{CanAct, CanServe, HasItsJob, WhileRunning};
 ghost use Rattle.kernel_core.specs.Step as spec;
 ghost use Rattle.lwc_base.specs.Channels.{HasItsFiles};
@@ -120,17 +121,42 @@ fn settle<W: World>(
 {
     match serve {
         Some(serve) if has_ended(thread.status) => {
-            let _requests = io.requests();
-            let r = (thread.job - 1) as u16;
-            serve.record_reply(io, r, thread.status);
-            let home = home_of(thread_number);
-            *thread = Thread::waiting(home, world.entry(home));
-            Effect {
-                change: Change::Links,
-                finished: Some(r),
-            }
+            finish_request(world, io, serve, thread_number, thread)
         }
         _ => Effect::only(change),
+    }
+}
+
+/// Records the reply of a worker that has ended, which then waits at home again. Not inlined, since each step would
+/// clear the registers of the worker.
+#[inline(never)]
+fn finish_request<W: World>(
+    world: &W,
+    io: &Channels,
+    serve: &mut Serve,
+    thread_number: u32,
+    thread: &mut Thread,
+) -> Effect
+    requires number { thread_number < MOST_THREADS }
+    requires home { IsLive (W.seen world.now) (home_of thread_number) }
+    requires begun { (1 ≤ thread.old.job) × (thread.old.job ≤ serve.old.next) }
+    requires known { serve.old.next ≤ length io.now.requests }
+    requires replies { length serve.old.replies ≡ length io.now.requests }
+    requires ended { has_ended thread.old.status ≡ true }
+    ensures number { IsNumbered result (Some serve.new) }
+    ensures after { spec.settled thread_number (Some serve.old)
+        (spec.unchanged (spec.beside (W.seen world.now) io.now) thread.old)
+        ≡ after_effect result (spec.beside (W.seen world.now) io.now) (Some serve.new) thread.new }
+    ensures links { result.change ≡ changes.Links }
+{
+    let _requests = io.requests();
+    let r = (thread.job - 1) as u16;
+    serve.record_reply(io, r, thread.status);
+    let home = home_of(thread_number);
+    *thread = Thread::waiting(home, world.entry(home));
+    Effect {
+        change: Change::Links,
+        finished: Some(r),
     }
 }
 

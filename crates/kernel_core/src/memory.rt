@@ -9,7 +9,7 @@ use crate::acting::Change;
 use crate::thread::Thread;
 use guest_isa::Instr;
 use lwc_base::{Fault, Name, OutOfMemory, Regs};
-use world_face::{StoreFault, World, bytes_for, is_within};
+use world_face::{StoreFault, World, is_within, load_for};
 
 /// The number of bytes of a word.
 const WORD_BYTES: u64 = 8;
@@ -25,12 +25,13 @@ pub(crate) fn address_of(regs: &Regs, instruction: &Instr) -> u64
 
 /// The byte at an address.
 #[inline(always)]
-pub(crate) fn byte_at<W: World>(world: &W, context: Name, at: u64) -> Option<u8>
-    requires { IsLive (W.seen world.now) context }
-    ensures { result ≡ spec.byte_for (W.seen world.now) context at }
+pub(crate) fn byte_at<W: World>(world: &mut W, context: Name, at: u64) -> Option<u8>
+    requires { IsLive (W.seen world.old) context }
+    ensures found { result ≡ spec.byte_for (W.seen world.old) context at }
+    ensures same { W.seen world.new ≡ W.seen world.old }
 {
     let mut out = [0u8; 1];
-    if bytes_for(world, context, at, &mut out) {
+    if load_for(world, context, at, &mut out) {
         Some(out[0])
     } else {
         None
@@ -39,15 +40,16 @@ pub(crate) fn byte_at<W: World>(world: &W, context: Name, at: u64) -> Option<u8>
 
 /// The word at an address, lowest byte first.
 #[inline(always)]
-pub(crate) fn word_at<W: World>(world: &W, context: Name, at: u64) -> Option<u64>
-    requires { IsLive (W.seen world.now) context }
-    ensures { result ≡ spec.word_for (W.seen world.now) context at }
+pub(crate) fn word_at<W: World>(world: &mut W, context: Name, at: u64) -> Option<u64>
+    requires { IsLive (W.seen world.old) context }
+    ensures found { result ≡ spec.word_for (W.seen world.old) context at }
+    ensures same { W.seen world.new ≡ W.seen world.old }
 {
     if at % WORD_BYTES != 0 {
         return None;
     }
     let mut out = [0u8; 8];
-    if bytes_for(world, context, at, &mut out) {
+    if load_for(world, context, at, &mut out) {
         Some(u64::from_le_bytes(out))
     } else {
         None

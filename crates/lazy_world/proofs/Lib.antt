@@ -33,6 +33,7 @@ mod MemoryLemmas
 mod MoveLemmas
 mod MovedLemmas
 mod NeedLemmas
+mod NoteLemmas
 mod OpenLemmas
 mod OverlayLemmas
 mod PageLemmas

@@ -8,6 +8,7 @@ pub mod KeyValues
 pub mod Lazy
 pub mod Mapped
 pub mod Memory
+pub mod Notes
 pub mod Origins
 pub mod Reaping
 pub mod Registers

@@ -1,4 +1,5 @@
 use crate::lazy::{LazyWorld, set_cached_roots};
+use crate::notes::Notes;
 use crate::world::PlacedWorld;
 use arrayvec::ArrayVec;
 use lwc_base::{
@@ -32,6 +33,7 @@ impl World for LazyWorld {
             world: PlacedWorld::open(alloc, world_size)?,
             cached_roots: ArrayVec::new(),
             known: false,
+            notes: Notes::none(),
         })
     }
 
@@ -41,15 +43,18 @@ impl World for LazyWorld {
 
     fn first(&mut self, uid: u32, entry: &Regs) -> Result<Name, OutOfMemory> {
         self.known = false;
+        self.notes.forget();
         Ok(self.world.first(uid, entry))
     }
 
     fn map(&mut self, context: Name, range: Range) -> Result<(), OutOfMemory> {
+        self.notes.forget();
         self.world.map(context, range);
         Ok(())
     }
 
     fn unmap(&mut self, context: Name, range: Range) -> Result<(), OutOfMemory> {
+        self.notes.forget();
         self.world.unmap(context, range);
         Ok(())
     }
@@ -60,10 +65,16 @@ impl World for LazyWorld {
     }
 
     #[inline(always)]
+    fn load(&mut self, context: Name, at: u32, out: &mut [u8]) -> bool {
+        self.load_where_noted(context, at, out) || self.load_unnoted(context, at, out)
+    }
+
+    #[inline(always)]
     fn store(&mut self, context: Name, at: u32, piece: &[u8], job: u32) -> Result<(), StoreFault> {
-        if self.world.store_in_place(context, at, piece) {
+        if self.store_in_place(context, at, piece) {
             return Ok(());
         }
+        self.notes.forget();
         self.world.store(context, at, piece, job)
     }
 
@@ -76,6 +87,7 @@ impl World for LazyWorld {
         // What the old descriptor is of may have lost its only link.
         let cut = self.world.linked(i, slot);
         self.add_cached_root(cut);
+        self.notes.forget();
         self.world.set_slot(context, i, slot, value);
     }
 
@@ -84,6 +96,7 @@ impl World for LazyWorld {
         // As in `set_slot`.
         let lost = self.world.linked(i, to);
         self.add_cached_root(lost);
+        self.notes.forget();
         self.world.dup_slot(context, i, from, to);
     }
 
@@ -96,6 +109,7 @@ impl World for LazyWorld {
     }
 
     fn set_uid(&mut self, context: Name, uid: u32) {
+        self.notes.forget();
         self.world.set_uid(context, uid);
     }
 
@@ -108,6 +122,7 @@ impl World for LazyWorld {
     }
 
     fn save(&mut self, context: Name, thread: u32, regs: &Regs) {
+        self.notes.forget();
         self.world.save(context, thread, regs);
     }
 
@@ -156,6 +171,7 @@ impl World for LazyWorld {
     }
 
     fn reap(&mut self, roots: &[Name]) {
+        self.notes.forget();
         self.world
             .reap_from(self.known, self.cached_roots.as_slice(), roots);
         set_cached_roots(&mut self.cached_roots, roots);

@@ -1,8 +1,10 @@
 ghost use Rattle.std.specs.Prelude.{◌≡◌, ◌≤◌, length, true};
 ghost use Rattle.lwc_types.specs.declared.limits.TheConstants.{MOST_ROOTS};
 ghost use Rattle.lazy_world.specs.CachedRoots.{AreReached};
+ghost use Rattle.lazy_world.specs.Notes.{AreRight};
 ghost use Rattle.lazy_world.specs.Worlds as placed;
 
+use crate::notes::Notes;
 use crate::ranges::names_slots;
 use crate::world::PlacedWorld;
 use arrayvec::ArrayVec;
@@ -15,7 +17,9 @@ pub struct LazyWorld {
     pub(crate) world: PlacedWorld,
     pub(crate) cached_roots: ArrayVec<Name, MOST_KEPT_ROOTS>,
     pub(crate) known: bool,
+    pub(crate) notes: Notes,
     ghost reached: { known ≡ true → AreReached (placed.seen world) cached_roots.items },
+    ghost noted: { AreRight world notes },
 }
 
 impl LazyWorld {
@@ -68,6 +72,7 @@ impl LazyWorld {
     {
         let next = self.world.next_name(job);
         self.add_cached_root(Some(next));
+        self.notes.forget();
         self.world.clone_context(context, spec, job, entry)
     }
 
@@ -90,6 +95,7 @@ impl LazyWorld {
         if names_slots(spec) {
             self.known = false;
         }
+        self.notes.forget();
         self.world.overlay(to, from, spec, job);
     }
 }

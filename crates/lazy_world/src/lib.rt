@@ -12,6 +12,8 @@ pub mod loosening;
 pub mod mapping;
 pub mod marking;
 pub mod memory;
+pub mod notes;
+pub mod noting;
 pub mod overlaying;
 pub mod pieces;
 pub mod places;

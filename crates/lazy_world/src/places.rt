@@ -54,6 +54,8 @@ impl Places {
     ghost use Rattle.lwc_types.specs.declared.key.Key.TheVariants.{Page, Slot, Cred};
     ghost use Rattle.lwc_types.specs.declared.limits.TheConstants.{MOST_PAGES};
     ghost use Rattle.lwc_types.specs.declared.page.TheConstants.{PAGE_BYTES};
+    ghost use Rattle.cow_space.specs.Frames.{HasFrame, HasLoneFrame};
+    ghost use Rattle.range_map.specs.declared.segment.SegmentKind.TheVariants as kinds;
     ghost use Rattle.cow_space.specs.Maps.{data_of};
     ghost use Rattle.range_map.specs.Kinds.{kind_of};
     ghost use Rattle.cow_space.specs.Cells.{all_write};
@@ -98,6 +100,35 @@ impl Places {
         ensures whole { IfSome result (λ bytes. length bytes.now ≡ PAGE_BYTES) }
     {
         self.pages.bytes(place, page)
+    }
+
+    /// The frame that has the bytes of a page that is the place's own. A page that is absent, common or zeros has
+    /// none.
+    pub fn frame(&self, place: usize, page: PageNumber) -> Option<u32>
+        requires place { place < count self.now }
+        requires page { page < MOST_PAGES }
+        ensures { IfSome result (λ f. HasFrame self.now.pages place page f) }
+    {
+        self.pages.frame(place, page)
+    }
+
+    /// The frame of a page that is the place's own, may be stored to and does not part.
+    pub fn lone_frame(&self, place: usize, page: PageNumber) -> Option<u32>
+        requires place { place < count self.now }
+        ensures { IfSome result (λ f. HasLoneFrame self.now.pages place page f) }
+    {
+        self.pages.lone_frame(place, page)
+    }
+
+    /// The bytes of a page that has this frame.
+    #[inline(always)]
+    pub fn bytes_at(&self, place: usize, page: PageNumber, frame: u32) -> &[u8]
+        requires { HasFrame self.now.pages place page frame }
+        ensures value { Some result.now ≡ data_of (own_value (rows self.now place (Page page))) }
+        ensures own { kind_of (rows self.now place (Page page)) ≡ Some kinds.Own }
+        ensures whole { length result.now ≡ PAGE_BYTES }
+    {
+        self.pages.bytes_at(place, page, frame)
     }
 
     /// The cell of a slot of a place, lent.

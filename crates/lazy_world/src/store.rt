@@ -9,6 +9,7 @@ ghost use Rattle.lwc_types.specs.declared.page.PageValue.TheVariants.{Zero};
 ghost use Rattle.lwc_types.specs.declared.page.TheConstants.{PAGE_BYTES};
 ghost use Rattle.lwc_types.specs.declared.right.Right.TheVariants.{Write};
 ghost use Rattle.cow_space.specs.Cells.{IsOwnPage, place_of};
+ghost use Rattle.cow_space.specs.Frames.{HasFrame, HasLoneFrame};
 ghost use Rattle.cow_space.specs.Tags as places;
 ghost use Rattle.cow_space.specs.Writes.{write_page, written_value};
 ghost use Rattle.lazy_world.specs.Cells.{put_row};
@@ -54,6 +55,28 @@ impl Places {
         ensures frames { frame_count self.new ≡ frame_count self.old }
     {
         self.pages.write_in_place(place, page, at, piece)
+    }
+
+    /// Writes what a piece has of a page that has this frame alone.
+    #[inline(always)]
+    #[tactic(auto, unfolding(crate::specs::Seen::pages, crate::specs::Seen::frame_count))]
+    pub fn write_at(&mut self, place: usize, page: PageNumber, frame: u32, at: u32, piece: &[u8])
+        requires { HasLoneFrame self.old.pages place page frame }
+        ensures own { IsOwnPage (place_of (pages self.old) place page) }
+        ensures may { rights self.old place page ≡ Write }
+        ensures alone { places.is_parting (pages self.old) place page ≡ false }
+        ensures enough { places.used (pages self.old) ≤ frame_count self.old }
+        ensures rows { (tag : Tag) → rows self.new ≡ put_row (rows self.old) place
+            (with_key Cell (Page page)
+            (Own (Some (written_value (pages self.old) place page (record { at = at; bytes = piece.now }) tag)))
+            (rows self.old place)) }
+        ensures rights { rights self.new ≡ rights self.old }
+        ensures count { count self.new ≡ count self.old }
+        ensures frames { frame_count self.new ≡ frame_count self.old }
+        ensures has { (j q f : ℕ) → HasFrame self.old.pages j q f → HasFrame self.new.pages j q f }
+        ensures lone { (j q f : ℕ) → HasLoneFrame self.old.pages j q f → HasLoneFrame self.new.pages j q f }
+    {
+        self.pages.write_at(place, page, frame, at, piece);
     }
 
     /// Writes what a piece has of a page that is the place's own, under a new tag if the page parts, and

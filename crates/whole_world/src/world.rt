@@ -78,6 +78,10 @@ impl World for WholeWorld {
         true
     }
 
+    fn load(&mut self, context: Name, at: u32, out: &mut [u8]) -> bool {
+        self.bytes(context, at, out)
+    }
+
     fn store(&mut self, context: Name, at: u32, piece: &[u8], job: u32) -> Result<(), StoreFault> {
         let pages = touched_pages(at as usize, piece.len());
         if !self.are_present(context, pages) {

@@ -6,5 +6,5 @@ pub mod memory;
 pub mod world;
 
 pub use lwc_base::{StoreFault, Summary, WorldSize};
-pub use memory::{bytes_for, is_within};
+pub use memory::{bytes_for, is_within, load_for};
 pub use world::World;

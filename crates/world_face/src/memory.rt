@@ -30,3 +30,21 @@ pub fn bytes_for<W: World>(world: &W, context: Name, at: u64, out: &mut [u8]) ->
     out.is_empty()
         || (is_within(world.pages(), at, out.len()) && world.bytes(context, at as u32, out))
 }
+
+/// Reads as `bytes_for` does, where the world may note where the bytes are.
+#[inline(always)]
+#[tactic(auto, unfolding(lwc_base::specs::Memory::bytes_for))]
+pub fn load_for<W: World>(world: &mut W, context: Name, at: u64, out: &mut [u8]) -> bool
+    requires live { IsLive (W.seen world.old) context }
+    ensures present { result ≡ is_some (memory.bytes_for (W.seen world.old) context at (length out.old)) }
+    ensures found { IfSome (memory.bytes_for (W.seen world.old) context at (length out.old))
+        (λ bytes. out.new ≡ bytes) }
+    ensures absent { IfNone (memory.bytes_for (W.seen world.old) context at (length out.old))
+        (out.new ≡ out.old) }
+    ensures same { W.seen world.new ≡ W.seen world.old }
+{
+    if out.is_empty() {
+        return true;
+    }
+    is_within(world.pages(), at, out.len()) && world.load(context, at as u32, out)
+}

@@ -99,6 +99,15 @@ pub trait World: Sized + Drop + Send + Sync {
         ensures found { IfSome (load (seen self.now) context at (length out.old)) (λ bytes. out.new ≡ bytes) }
         ensures absent { IfNone (load (seen self.now) context at (length out.old)) (out.new ≡ out.old) };
 
+    /// Reads as `bytes` does, and may note where the bytes are, so that the next read or store there is cheaper.
+    fn load(&mut self, context: Name, at: u32, out: &mut [u8]) -> bool
+        requires live { IsLive (seen self.old) context }
+        requires within { at + length out.old ≤ (seen self.old).size.pages * PAGE_BYTES }
+        ensures present { result ≡ is_some (load (seen self.old) context at (length out.old)) }
+        ensures found { IfSome (load (seen self.old) context at (length out.old)) (λ bytes. out.new ≡ bytes) }
+        ensures absent { IfNone (load (seen self.old) context at (length out.old)) (out.new ≡ out.old) }
+        ensures same { seen self.new ≡ seen self.old };
+
     /// Stores bytes in the context's memory from the address `at` on, for a job.
     ///
     /// # Errors

@@ -6,7 +6,7 @@ use Rattle.cow_space.specs.declared.rows.Rows.{Rows}
 use Rattle.cow_space.specs.Maps.{row_of}
 use Rattle.page_tree.specs.declared.cell.PageCell.TheVariants as cell
 use Rattle.page_tree.specs.declared.store.TheConstants.{PAGES}
-use Rattle.page_tree.specs.Pages.{page}
+use Rattle.page_tree.specs.Pages.{entry_for, page}
 use Rattle.page_tree.specs.Short.{page_short}
 use Rattle.page_tree.specs.Tied.{page_of}
 use Rattle.frame_pool.specs.Frame.{frame_count}
@@ -78,9 +78,24 @@ pub returns-in_default : goal.returns-in_default
 unfolding maps
 returns-in_default c = record {
   frame = tt;
+  lone = tt;
   alone = tt;
   parts =
       let tree_is = tree-read c.args.self.now c.args.place _ c.requires.row c.index.ensures in
       ap (parts (row_tags (maps c.args.self.now))) (row-value c.args.self.now c.args.place c.args.page_number c.requires.row c.requires.page ∙ ap (cell_value c.args.self.now.store.frames) (ap (λ t. page c.args.self.now.store.nodes.all t c.args.page_number) (sym tree_is) ∙ sym c.look-cell.ensures.cell))
       ∙ parting-none (row_tags (maps c.args.self.now)) c.args.self.now.store.frames c.look-cell.result.0 c.in_default.not-Frame;
 }
+
+pub returns-then-count-eq1-clause-lone : goal.returns-then-count-eq1-clause-lone
+returns-then-count-eq1-clause-lone c =
+    let w = c.args.self.now in
+    let tree_is = tree-read w c.args.place c.index.result.now c.requires.row c.index.ensures in
+    record {
+      to = record {
+        inside = tree-in w c.args.place c.requires.row;
+        below = c.requires.page;
+        there = ap entry_for (at w c.args.place c.args.page_number c.index.result.now c.look-cell.result.0 c.in-Frame.frame c.requires.row c.requires.page c.index.ensures c.look-cell.ensures.cell c.in-Frame.is);
+      };
+      path = ap (λ t. page_short w.store.nodes.all t c.args.page_number) (sym tree_is) ∙ c.look-cell.ensures.alone.0 c.if-alone.true;
+      once = let count = c.count.ensures in omega (arith, count, c.if-count-eq1.true);
+    }

@@ -7,6 +7,7 @@ use Rattle.lazy_world.specs.CachedRoots.{AreReached, with_cached_root}
 use Rattle.lazy_world.specs.Worlds.{parts, seen}
 use Rattle.lazy_world.proofs.CachedRootLemmas.{reached-put}
 use Rattle.lazy_world.proofs.WorldLemmas.{slot-found}
+use Rattle.lazy_world.proofs.NoteLemmas.{forgotten}
 use Rattle.lazy_world.proofs.face.LazyWorldWorld.dup_slot.Goals as goal
 
 pub invariant_of-self : goal.invariant_of-self
@@ -22,4 +23,5 @@ invariant_of-self c =
           (reached-put (seen old.world) old.cached_roots.items (old.reached (c.add_cached_root.ensures.kept known))
           c.args.context c.args.to value c.linked-lost.result
           (c.linked-lost.ensures ∙ ap context_of (slot-found (parts old.world) c.args.context c.place-i.result c.args.to c.place-i.ensures.found))));
+      noted = forgotten c.dup_slot.new.self c.forget.new.self c.forget.ensures.read c.forget.ensures.write;
     }

@@ -3,6 +3,7 @@ use Rattle.lwc_base.specs.World.{World}
 use Rattle.lazy_world.specs.CachedRoots.{AreReached}
 use Rattle.lazy_world.specs.Worlds.{seen}
 use Rattle.lazy_world.proofs.CachedRootLemmas.{reached-uid}
+use Rattle.lazy_world.proofs.NoteLemmas.{forgotten}
 use Rattle.lazy_world.proofs.face.LazyWorldWorld.set_uid.Goals as goal
 
 pub invariant_of-self : goal.invariant_of-self
@@ -12,4 +13,5 @@ invariant_of-self c =
       reached = λ known.
           subst (λ (w : World). AreReached w old.cached_roots.items) (sym c.set_uid.ensures)
           (reached-uid (seen old.world) old.cached_roots.items (old.reached known) c.args.context c.args.uid);
+      noted = forgotten c.set_uid.new.self c.forget.new.self c.forget.ensures.read c.forget.ensures.write;
     }

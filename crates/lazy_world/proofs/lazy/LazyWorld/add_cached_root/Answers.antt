@@ -11,4 +11,5 @@ invariant_of-self c =
       reached = λ known.
           subst (AreReached (seen old.world)) (sym c.push.ensures.items)
           (reached-more (seen old.world) old.cached_roots.items (Some c.in-Some.context) (old.reached known));
+      noted = old.noted;
     }

@@ -5,6 +5,7 @@ use Rattle.lwc_types.specs.declared.name.Name.{Name}
 use Rattle.lazy_world.specs.CachedRoots.{AreReached, with_cached_root}
 use Rattle.lazy_world.specs.Worlds.{parts, seen}
 use Rattle.lazy_world.proofs.CachedRootLemmas.{reached-clone}
+use Rattle.lazy_world.proofs.NoteLemmas.{forgotten}
 use Rattle.lazy_world.proofs.lazy.LazyWorld.clone_with_costs.Goals as goal
 
 pub invariant_of-self : goal.invariant_of-self
@@ -20,4 +21,5 @@ invariant_of-self c =
           (sym (c.add_cached_root.ensures.cached_roots known ∙ ap (λ (n : Name). with_cached_root names (Some n)) c.next_name-next.ensures))
           (subst (λ (v : World). AreReached v (with_cached_root names (Some (next_context w c.args.job)))) (sym made)
           (reached-clone w names (old.reached (c.add_cached_root.ensures.kept known)) old.world.sound.fresh c.args.context c.args.job c.args.spec.now c.args.entry.now));
+      noted = forgotten c.clone_context.new.self c.forget.new.self c.forget.ensures.read c.forget.ensures.write;
     }

@@ -4,6 +4,7 @@ use Rattle.lazy_world.specs.CachedRoots.{AreReached}
 use Rattle.lazy_world.specs.Worlds.{parts, seen}
 use Rattle.lazy_world.proofs.CachedRootLemmas.{reached-overlay}
 use Rattle.lazy_world.proofs.lazy.LazyWorld.overlay_with_costs.Goals as goal
+use Rattle.lazy_world.proofs.NoteLemmas.{forgotten}
 use Rattle.lazy_world.proofs.lazy.LazyWorld.overlay_with_costs.Goals.{then-names_slots, else-names_slots}
 
 pub invariant_of-self : goal.invariant_of-self
@@ -20,4 +21,5 @@ invariant_of-self c =
             subst (λ v. AreReached v old.cached_roots.items) (sym c.overlay.ensures.overlaid)
             (reached-overlay (seen old.world) old.cached_roots.items (old.reached (sym same ∙ known)) old.world.sound.fresh c.args.to c.args.from c.args.job c.args.spec.now (c.names_slots.ensures w.if-names_slots.false))
       ];
+      noted = forgotten c.overlay.new.self c.forget.new.self c.forget.ensures.read c.forget.ensures.write;
     }
