@@ -1,5 +1,6 @@
 ghost use Rattle.std.specs.Prelude.{◌≡◌, ◌<◌, ◌≤◌, [], None, length, IfOk, OnOk, OnErr};
 ghost use Rattle.lwc_io.specs.Outside.{given_by, incremented, with_fetch};
+ghost use Rattle.std.specs.Io.KnownBytes.{WriteAppends};
 
 use crate::log::{Asked, FetchLog};
 use crate::outside::{Failed, Files, Sink};
@@ -109,16 +110,17 @@ impl<R: rt::Files> Files for RealFiles<R> {
     }
 }
 
-/// A writer of the system. What it took is not known.
+/// A writer of the system. What it took is known where the writer's own contract knows it.
 #[derive(Drop)]
 pub struct RealSink<W> {
     writer: W,
     faults: u64,
 }
 
-/// One write, tried again where a signal interrupts it.
+/// One write, tried again where a signal interrupts it. It answers how many bytes the writer took.
 fn write_some<W: Write>(writer: &mut W, piece: &[u8]) -> io::Result<usize>
-    ensures { IfOk result (λ n. n ≤ length piece.now) }
+    ensures count { IfOk result (λ n. n ≤ length piece.now) }
+    ensures appended { WriteAppends (W.contents writer.old) (W.contents writer.new) result piece.now }
 {
     for _ in 0..u64::MAX {
         match writer.write(piece) {
@@ -157,7 +159,7 @@ impl<W: Write> RealSink<W> {
 impl<W: Write> Sink for RealSink<W> {
     ghost seen = { λ sink. record { taken = None; faults = sink.faults } };
 
-    /// Writes once. The writer may take less than the piece.
+    /// Writes once. The writer may take less than the piece; the answer is how many bytes it took.
     ///
     /// # Errors
     ///
@@ -165,6 +167,8 @@ impl<W: Write> Sink for RealSink<W> {
     fn write(&mut self, piece: &[u8]) -> Result<usize, Failed>
         ensures count { IfOk result (λ n. n ≤ length piece.now) }
         ensures some { IfOk result (λ n. 0 < length piece.now → 0 < n) }
+        ensures appended { WriteAppends (W.contents self.old.writer) (W.contents self.new.writer) result
+            piece.now }
         ensures ok { OnOk result (self.new.faults ≡ self.old.faults) }
         ensures err { OnErr result (self.new.faults ≡ incremented self.old.faults) }
         ensures never_decreases { self.old.faults ≤ self.new.faults }
