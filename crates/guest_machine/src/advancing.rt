@@ -29,7 +29,7 @@ pub fn advance(text: &Text, regs: &Regs) -> Advance
     }
 }
 
-/// The same in place, as a part of each caller, which then keeps the pc in a register: the registers become those after the private instructions. Answers what comes next.
+/// `advance` in place: the registers become those after the private instructions. Answers what comes next.
 #[inline(always)]
 pub fn run_on(text: &Text, regs: &mut Regs) -> Next
     ensures exact { record { before = regs.old; after = regs.new; next = result }
