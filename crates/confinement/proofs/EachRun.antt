@@ -13,11 +13,12 @@ use Rattle.kernel_core.specs.declared.thread.Thread.{Thread}
 use Rattle.lwc_base.specs.declared.descriptor.Cap.{Cap}
 use Rattle.lwc_types.specs.declared.name.Name.{Name}
 use Rattle.confinement.proofs.Confining.{confined, ready_thread}
+use Rattle.confinement.proofs.Faults.{ends_alone}
 use Rattle.confinement.proofs.Fenced.{closed_fenced, closed_leaves, closed_silent, entered_closed, fenced, fenced_silent, kept_to, made_closed}
 use Rattle.confinement.proofs.Snapshots.{as_made, goes_on_as_made}
 use Rattle.confinement.specs.Closed.{IsClosed, IsOfJob, LeavesOthers, StayIn}
 use Rattle.confinement.specs.Confined.{IsConfined}
-use Rattle.confinement.specs.EachStep.{IsConfinedRun, machine_after, machine_made}
+use Rattle.confinement.specs.EachStep.{IsConfinedRun, fence_after, machine_after, machine_made}
 use Rattle.confinement.specs.Fences.{Fence, fence_of, IsMute, KeepsTo, LeavesOutside, StayInside, StayInsideOrAway, StaysInside}
 use Rattle.confinement.specs.May.{IsGiven, MakesCall, regs_at, world_of}
 use Rattle.confinement.specs.Snapshots.{IsAsMade, IsResumed, IsUntouched, Makes}
@@ -80,6 +81,11 @@ module _ (inputs : Inputs) (can : CanOpen inputs) where
       KeepsTo (fence_of (world_of (machine_after inputs steps)) c job) (machine_after inputs steps)
   its_fence steps c job = closed_fenced inputs can (run (start inputs) steps) (record { steps = steps; is = refl }) c job
 
+  pub inside_leaves : (before during : List ℕ) (t : ℕ) (c : Name) (job : ℕ) → IsClosed (world_of (machine_after inputs before)) c → IsOfJob (machine_after inputs before) c job →
+      StayInsideOrAway (fence_after inputs before c job) (machine_after inputs before) during → StaysInside (fence_after inputs before c job) (run (machine_after inputs before) during) t →
+      LeavesOutside (fence_after inputs before c job) (world_of (run (machine_after inputs before) during)) (world_of (step (run (machine_after inputs before) during) t))
+  inside_leaves before during t c job closed of_job = leaves_beside before during t (fence_after inputs before c job) (its_fence before c job closed of_job)
+
   pub others_left : (before during : List ℕ) (c : Name) → IsClosed (world_of (machine_after inputs before)) c → StayIn (world_of (machine_after inputs before)) c (machine_after inputs before) during →
       LeavesOthers (world_of (machine_after inputs before)) (world_of (run (machine_after inputs before) during)) c
   others_left before during c = closed_leaves inputs can during (run (start inputs) before) (record { steps = before; is = refl }) c
@@ -97,8 +103,10 @@ module _ (inputs : Inputs) (can : CanOpen inputs) where
   pub run_confined : (steps : List ℕ) → IsConfinedRun inputs steps
   run_confined steps = record {
     each = λ before rest t is. step_confined before t;
+    faults = λ before rest t is. ends_alone (machine_after inputs before) t;
     snapshots = λ before since rest t c is. stays_as_made before since t c;
     resumed = λ before since rest t u c x held is. resumes_as_made before since t u c x held;
     closed = λ before during rest c is. others_left before during c;
     silent = λ before during rest c is. others_silent before during c;
+    beside = λ before during rest t c job is. inside_leaves before during t c job;
   }

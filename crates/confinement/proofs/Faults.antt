@@ -8,6 +8,7 @@ use Rattle.guest_isa.specs.declared.op.Op.TheVariants.{Halt, Ldb, Ldw, Stb, Stw,
 use Rattle.guest_machine.specs.Advances.{advanced}
 use Rattle.guest_machine.specs.declared.progress.Next.{Next}
 use Rattle.guest_machine.specs.declared.progress.Next.TheVariants.{BadPc, Pause, Shared}
+use Rattle.kernel_core.proofs.Others.{step_leaves}
 use Rattle.kernel_core.specs.Machine.{Environment, Machine}
 use Rattle.kernel_core.specs.Refused.{advanced_thread}
 use Rattle.kernel_core.specs.Step.{Outcome, advance_outcome, answered, create_outcome, guest_calls, is_aligned, next_outcome, overlay_outcome, plain_outcome, plainly, restrict_outcome, shared_outcome, status_with, step, store_outcome, stored_outcome, switch_outcome, switched, syscall_outcome, word_outcome}
@@ -30,6 +31,7 @@ use Rattle.lwc_syscall.specs.declared.answer.CallAnswer.{CallAnswer}
 use Rattle.lwc_syscall.specs.declared.answer.CallAnswer.TheVariants as ends
 use Rattle.confinement.proofs.Confining.{Leaves, leaves_reaped}
 use Rattle.confinement.proofs.Steps.{outcome_of, step_reaps}
+use Rattle.confinement.specs.Faults.{EndsAlone}
 use Rattle.confinement.specs.May.{world_of}
 
 -- an outcome leaves what threads have in common, or its thread has no fault
@@ -128,3 +130,11 @@ module _ (m : Machine) (t : ℕ) (x : Thread) (found : slice_get m.threads t ≡
 
   pub values_stay : (e : Name) → is_live (world_of (step m t)) e ≡ true → (k : _) → IsKey (world_of m).size.pages k → value_at (world_of (step m t)) e k ≡ value_at (world_of m) e k
   values_stay e live k key = left.values e k key live
+
+-- a step leaves other threads, and ends its own alone
+pub ends_alone : (m : Machine) (t : ℕ) → EndsAlone m (step m t) t
+ends_alone m t = record {
+  others = step_leaves m t;
+  contexts = λ x e by. contexts_stay m t x by.found by.running by.fault by.other by.ends e;
+  values = λ x e k by live. values_stay m t x by.found by.running by.fault by.other by.ends e live k;
+}

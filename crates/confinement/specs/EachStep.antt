@@ -12,8 +12,10 @@ use Rattle.lwc_base.specs.declared.descriptor.Cap.{Cap}
 use Rattle.lwc_types.specs.declared.key.TheConstants.{SLOTS}
 use Rattle.lwc_types.specs.declared.name.Name.{Name}
 use Rattle.lwc_syscall.specs.Plain.{is_written}
-use Rattle.confinement.specs.Closed.{IsClosed, LeavesOthers, StayIn}
+use Rattle.confinement.specs.Closed.{IsClosed, IsOfJob, LeavesOthers, StayIn}
 use Rattle.confinement.specs.Confined.{IsConfined}
+use Rattle.confinement.specs.Faults.{EndsAlone}
+use Rattle.confinement.specs.Fences.{Fence, LeavesOutside, StayInsideOrAway, StaysInside, fence_of}
 use Rattle.confinement.specs.May.{IsGiven, MakesCall, world_of}
 use Rattle.confinement.specs.Snapshots.{IsAsMade, IsResumed, IsUntouched, Makes}
 
@@ -28,13 +30,20 @@ machine_made inputs before t = step (machine_after inputs before) t
 abbrev pub machine_since : Inputs → List ℕ → ℕ → List ℕ → Machine
 machine_since inputs before t since = run (machine_made inputs before t) since
 
--- of a history: each step is confined; a context that a step makes by the call for it, and that is untouched
--- for some steps, is then as it was made; a thread that enters it by the next step goes on as it was made; and
--- steps that stay in a closed context leave the others, and where it has no descriptor of the console or of a
--- reply, they write nothing
+-- the fence of a context for a job, as it is after these steps
+abbrev pub fence_after : Inputs → List ℕ → Name → ℕ → Fence
+fence_after inputs steps c job = fence_of (world_of (machine_after inputs steps)) c job
+
+-- of a history: each step is confined, and one that ends its thread by a fault ends that thread alone; a context that
+-- a step makes by the call for it, and that is untouched for some steps, is then as it was made; a thread that enters
+-- it by the next step goes on as it was made; steps that stay in a closed context leave the others, and where it has no
+-- descriptor of the console or of a reply, they write nothing; and beside steps that stay away from its fence, each
+-- step that is made inside leaves what is outside
 pub record IsConfinedRun (inputs : Inputs) (steps : List ℕ) : Type 0 where
   pub each : (before rest : List ℕ) (t : ℕ) → steps ≡ before ++ t ∷ rest →
       IsConfined (machine_after inputs before) t (machine_made inputs before t)
+  pub faults : (before rest : List ℕ) (t : ℕ) → steps ≡ before ++ t ∷ rest →
+      EndsAlone (machine_after inputs before) (machine_made inputs before t) t
   pub snapshots : (before since rest : List ℕ) (t : ℕ) (c : Name) → steps ≡ before ++ t ∷ (since ++ rest) →
       Makes (machine_after inputs before) t c → IsUntouched (machine_made inputs before t) since c →
       IsAsMade (world_of (machine_made inputs before t)) (world_of (machine_since inputs before t since)) c
@@ -56,3 +65,9 @@ pub record IsConfinedRun (inputs : Inputs) (steps : List ℕ) : Type 0 where
       StayIn (world_of (machine_after inputs before)) c (machine_after inputs before) during →
       (run (machine_after inputs before) during).environment.channels ≡
       (machine_after inputs before).environment.channels
+  pub beside : (before during rest : List ℕ) (t : ℕ) (c : Name) (job : ℕ) → steps ≡ before ++ (during ++ t ∷ rest) →
+      IsClosed (world_of (machine_after inputs before)) c → IsOfJob (machine_after inputs before) c job →
+      StayInsideOrAway (fence_after inputs before c job) (machine_after inputs before) during →
+      StaysInside (fence_after inputs before c job) (run (machine_after inputs before) during) t →
+      LeavesOutside (fence_after inputs before c job) (world_of (run (machine_after inputs before) during))
+      (world_of (step (run (machine_after inputs before) during) t))

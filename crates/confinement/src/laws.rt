@@ -4,7 +4,7 @@ ghost use Rattle.std.specs.Prelude.{◌≡◌, ◌≢◌, ◌⊎◌, ◌<◌, �
 ghost use Rattle.access_cap.specs.Kinds.{is_chosen};
 ghost use Rattle.confinement.specs.Closed.{IsClosed, IsOfJob, LeavesOthers, StayIn};
 ghost use Rattle.confinement.specs.Confined.{IsConfined, IsLiveInBoth};
-ghost use Rattle.confinement.specs.Faults.{EndsByFault};
+ghost use Rattle.confinement.specs.Faults.{EndsAlone};
 ghost use Rattle.confinement.specs.Fences.{Fence, fence_of, IsMute, KeepsTo, LeavesOutside, StayInside};
 ghost use Rattle.confinement.specs.Fences.{StayInsideOrAway, StaysInside};
 ghost use Rattle.confinement.specs.May.{IsGiven, MakesCall, MayChange, regs_at, world_of};
@@ -121,13 +121,7 @@ pub fn a_confined_step_leaves_the_rest()
 /// A fault ends its thread alone. No step changes another thread; and one that ends its thread by a fault,
 /// but for the budget that is used up, changes nothing of a context that lives on, and no value.
 pub fn a_fault_ends_its_thread_alone()
-    ensures others { (m : Machine) (t u : ℕ) → t ≢ u →
-        slice_get (step m t).threads u ≡ slice_get m.threads u }
-    ensures contexts { (m : Machine) (t : ℕ) (x : Thread) (e : Name) → EndsByFault m t x →
-        is_live (world_of (step m t)) e ≡ true → context (world_of (step m t)) e ≡ context (world_of m) e }
-    ensures values { (m : Machine) (t : ℕ) (x : Thread) (e : Name) (k : Key) → EndsByFault m t x →
-        is_live (world_of (step m t)) e ≡ true → IsKey (world_of m).size.pages k →
-        value_at (world_of (step m t)) e k ≡ value_at (world_of m) e k }
+    ensures { (m : Machine) (t : ℕ) → EndsAlone m (step m t) t }
 {}
 
 /// No step drops what is still reached: each thread stands in a live context, and each slot of a live context
@@ -205,8 +199,8 @@ pub fn a_context_without_descriptors_is_closed()
         IsClosed (world_of (run (step (run (start inputs) before) t) since)) c }
 {}
 
-/// The first three of these laws, and those of a closed context, hold of each list of steps, for each beginning
-/// of it: so they do of the steps that a kernel has kept.
+/// The first three of these laws, that of faults, and those of a closed context, also beside other threads, hold of
+/// each list of steps, for each beginning of it: so they do of the steps that a kernel has kept.
 pub fn runs_are_confined()
     ensures { (inputs : Inputs) (steps : List ℕ) → CanOpen inputs → IsConfinedRun inputs steps }
 {}
