@@ -22,8 +22,8 @@ pub record EndsByFault (m : Machine) (t : ℕ) (x : Thread) : Type 0 where
   pub other : fault ≢ Budget
   pub ends : (advance_outcome guest_calls t m.environment x (advanced m.text x.regs)).thread.status ≡ Faulted fault
 
--- a step of a thread leaves the other threads as they are; and where it ends its own by a fault, each context that lives
--- on is the same, and each value
+-- a step of a thread leaves the other threads as they are; and where it ends its own by a fault, each context that
+-- lives on is the same, and each value
 pub record EndsAlone (m after : Machine) (t : ℕ) : Type 0 where
   pub others : (u : ℕ) → t ≢ u → slice_get after.threads u ≡ slice_get m.threads u
   pub contexts : (x : Thread) (e : Name) → EndsByFault m t x → is_live (world_of after) e ≡ true →

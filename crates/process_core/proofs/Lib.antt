@@ -6,3 +6,4 @@ pub mod Sends
 pub mod Carrying
 pub mod Offers
 pub mod Offered
+pub mod Rows

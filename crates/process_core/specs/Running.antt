@@ -1,16 +1,22 @@
 -- What contracts see of a process and of its passes.
-use Rattle.std.specs.Prelude.{◌≡◌, ◌<◌, ◌≤◌, ◌+◌, ℕ, List, All, false, true, Contains, Option, None, Some, length, map}
-use Rattle.std.specs.Prelude.{slice_get, take}
+use Rattle.std.specs.Prelude.{◌≡◌, ◌<◌, ◌≤◌, ◌+◌, ℕ, Bool, if◌then◌else◌, List, All, false, true, Contains, Option}
+use Rattle.std.specs.Prelude.{None, Some, length, map, slice_get, slice_index_or, take}
 use Rattle.guest_isa.specs.declared.instr.Instr.{Instr}
+use Rattle.guest_isa.specs.declared.op.Op.{Op}
+use Rattle.guest_isa.specs.declared.op.Op.TheVariants.{Stb, Stw}
 use Rattle.guest_machine.specs.Advances.{advanced}
 use Rattle.guest_machine.specs.declared.progress.Advance.{Advance}
+use Rattle.guest_machine.specs.declared.progress.Next.{Next}
+use Rattle.guest_machine.specs.declared.progress.Next.TheVariants.{BadPc, Pause, Shared}
 use Rattle.kernel_core.specs.Histories.{GoesOn, IsLegal, turn_after}
 use Rattle.kernel_core.specs.Machine.{has_ended}
 use Rattle.kernel_core.specs.Start.{Inputs, start, thread_count}
+use Rattle.kernel_core.specs.Step.{next_instruction}
 use Rattle.kernel_core.specs.declared.thread.Turn.{Turn}
 use Rattle.lwc_types.specs.Registers.{fresh_registers}
 use Rattle.lwc_types.specs.declared.fault.ThreadStatus.TheVariants.{Idle}
 use Rattle.lwc_types.specs.declared.limits.TheConstants.{MOST_STEPS}
+use Rattle.lwc_types.specs.declared.regs.Regs.{Regs}
 use Rattle.process_core.specs.declared.opened.Opened.{Opened}
 use Rattle.turnstile.specs.Passes as gate
 use Rattle.turnstile.specs.Passes.{Held, Lock}
@@ -31,6 +37,25 @@ pub record Staying : Type 0 where
 -- the proposal of its next turn, if there is one
 abbrev pub offered : Staying → Option Advance
 offered s = slice_get (take s.count s.places) s.made
+
+-- a store of a byte or of a word
+abbrev pub is_store : Op → Bool
+is_store Stb = true
+is_store Stw = true
+is_store op = false
+
+-- the registers that the step of an advance leaves, where they rest on the text alone: those of a pause, and those
+-- behind a store
+abbrev pub left_by : Next → Regs → Option Regs
+left_by Pause regs = Some regs
+left_by (Shared i) regs = if is_store i.op then Some (next_instruction regs) else None
+left_by BadPc regs = None
+
+-- of this many proposals each but the first is of the registers that the step of the one before it leaves
+abbrev pub AreInRow : ℕ → List Advance → Type 0
+AreInRow count places = (i : ℕ) (d : Advance) → i + 1 < count →
+    left_by (slice_index_or places i d).next (slice_index_or places i d).after
+    ≡ Some (slice_index_or places (i + 1) d).before
 
 -- each is the advance of its registers over the text
 abbrev pub AreAdvances : List Instr → List Advance → Type 0

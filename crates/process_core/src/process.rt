@@ -8,8 +8,8 @@ ghost use Rattle.kernel_core.specs.Kernel.{machine_of};
 ghost use Rattle.kernel_core.specs.Machine.{has_ended, is_ended, work};
 ghost use Rattle.kernel_core.specs.Start.{start, thread_count};
 ghost use Rattle.lwc_types.specs.declared.fault.ThreadStatus.TheVariants.{Running};
-ghost use Rattle.process_core.specs.Running.{AreAdvances, AreAllOf, Carried, IsNewPass, IsPassOf, Leaves, MakesTurn};
-ghost use Rattle.process_core.specs.Running.{NotesTurn, offered};
+ghost use Rattle.process_core.specs.Running.{AreAdvances, AreAllOf, AreInRow, Carried, IsNewPass, IsPassOf, Leaves};
+ghost use Rattle.process_core.specs.Running.{MakesTurn, NotesTurn, offered};
 ghost use Rattle.turnstile.specs.Passes as gates;
 ghost use Rattle.turnstile.specs.Past.{Knows};
 
@@ -156,6 +156,7 @@ impl<W: World> Process<W> {
             pass.now.last.status ≡ Running →
             offered stay.new ≡ Some (advanced self.now.name.inputs.image.text pass.now.last.regs) }
         ensures alone { stay.old.made ≡ 0 → thread_count self.now.name.inputs ≡ 1 → offered stay.new ≡ None }
+        ensures row { stay.old.made ≡ 0 → AreInRow stay.new.count stay.new.places }
         ensures fits { AreAdvances self.now.name.inputs.image.text stay.new.places }
     {
         if stay.is_inside() {

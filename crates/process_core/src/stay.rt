@@ -3,7 +3,7 @@ ghost use Rattle.std.specs.Prelude.{◌≡◌, ◌≤◌, ◌<◌, false, true, 
 ghost use Rattle.std.specs.Option.{option_map};
 ghost use Rattle.guest_machine.specs.Advances.{advanced};
 ghost use Rattle.lwc_types.specs.declared.fault.ThreadStatus.TheVariants.{Running};
-ghost use Rattle.process_core.specs.Running.{AreAdvances, NotesTurn, offered};
+ghost use Rattle.process_core.specs.Running.{AreAdvances, AreInRow, NotesTurn, left_by, offered};
 ghost use Rattle.process_core.specs.declared.stay.TheConstants.{MOST_TURNS};
 
 use guest_isa::{Op, Text};
@@ -102,6 +102,7 @@ impl Stay {
         ensures made { self.new.made ≡ self.old.made }
         ensures first { self.old.made ≡ 0 → last.now.status ≡ Running →
             offered self.new ≡ Some (advanced text.now last.now.regs) }
+        ensures row { AreInRow self.new.count self.new.places }
         ensures fits { AreAdvances text.now self.new.places }
     {
         self.count = 0;
@@ -137,6 +138,7 @@ fn propose(text: &Text, regs: &Regs, most: usize, places: &mut [Advance; MOST_PR
     requires fits { AreAdvances text.now places.old }
     ensures count { (1 ≤ result) × (result ≤ 8) }
     ensures first { slice_get places.new 0 ≡ Some (advanced text.now regs.now) }
+    ensures row { AreInRow result places.new }
     ensures fits { AreAdvances text.now places.new }
 {
     advance_in(text, regs, &mut places[0]);
@@ -165,8 +167,10 @@ fn advance_in(text: &Text, regs: &Regs, place: &mut Advance)
 }
 
 /// The registers that the step of this advance leaves, where they rest on the text alone: those of a pause, and those
-/// of a store that is not refused. No clause says so: a proposal from other registers is not used.
-fn regs_left(advance: &Advance) -> Option<Regs> {
+/// of a store, as it leaves them where it is not refused.
+fn regs_left(advance: &Advance) -> Option<Regs>
+    ensures { result ≡ left_by advance.now.next advance.now.after }
+{
     let Regs { r, pc } = advance.after;
     match advance.next {
         Next::Pause => Some(Regs { r, pc }),
