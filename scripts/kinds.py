@@ -42,6 +42,8 @@ WHILE_A_GROUP_LIVES = {
     "a setuid": "LI r1, 0\nSYS 9\n",
     "an overlay of one page": f"MOV r1, r11\nLI r2, {900 * 4096}\nLI r3, 1\nSYS 19\n",
 }
+# An overlay of a slot may cut links, so that a reap might search among all contexts.
+OVERLAY_OF_A_SLOT = f"MOV r1, r11\nLI r2, {900 * 4096 + 16}\nLI r3, 1\nSYS 19\n"
 # How many threads make how many contexts each, of how many ranges.
 LIVING = {
     "4 contexts": (1, 3, 2),
@@ -75,7 +77,7 @@ def living(threads: int, contexts: int, ranges: int, body: str) -> str:
             f"lost: HALT\nready: LI r1, {900 * 4096}\nLI r2, 1\nSYS 16\nADDI r9, r0, 1\nJZ r9, lost\nMOV r11, r0\n",
             f"loop: {body}JMP loop\n",
             *pages,
-            f".page 900 {item(0, 1, 0, 1)}\n",
+            f".page 900 {item(0, 1, 0, 1)}{item(1, 0, 20, 21)}\n",
         ]
     )
 
@@ -164,3 +166,5 @@ class Kinds:
         for kind, body in WHILE_A_GROUP_LIVES.items():
             for beside, numbers in LIVING.items():
                 yield f"{kind} beside {beside} while a group lives", self.step_beside(*numbers, body)
+        slot = self.step_beside(*LIVING["497 contexts"], OVERLAY_OF_A_SLOT)
+        yield "an overlay of one slot beside 497 contexts while a group lives", slot

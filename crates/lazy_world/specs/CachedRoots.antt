@@ -1,8 +1,14 @@
 -- What all live contexts are reached from, and contexts that nothing reaches.
 use Rattle.std.specs.FinMap as fm
-use Rattle.std.specs.Prelude.{ℕ, ◌≡◌, ◌⊎◌, ◌++◌, ◌∷◌, [], List, Option, None, Some, true}
+use Rattle.std.specs.Prelude.{ℕ, ◌≡◌, ◌<◌, ◌⊎◌, ◌++◌, ◌∷◌, [], List, Option, None, Some, is_some, true}
+use Rattle.fd_table.specs.Slots.{context_of}
+use Rattle.lwc_base.specs.declared.item.Item.{Item}
+use Rattle.lwc_base.specs.Cells.{slot_at}
 use Rattle.lwc_base.specs.Life.{Reaches, is_among, is_reached, links}
+use Rattle.lwc_base.specs.Modes.{mode}
 use Rattle.lwc_base.specs.World.{World, is_live}
+use Rattle.lwc_types.specs.declared.key.Key.TheVariants.{Slot}
+use Rattle.lwc_types.specs.declared.key.TheConstants.{SLOTS}
 use Rattle.lwc_types.specs.declared.name.Name.{Name}
 use Rattle.lazy_world.specs.States.{Parts}
 
@@ -20,6 +26,12 @@ pub record IsLoose (w : World) (roots : List Name) (c : Name) : Type 0 where
 pub record HasLoose (w : World) (names roots : List Name) (loose : Option Name) : Type 0 where
   pub one : (c : Name) → loose ≡ Some c → IsLoose w roots c
   pub others : (c : Name) → is_among names c ≡ true → is_live w c ≡ true → (loose ≡ Some c) ⊎ Reaches w roots c
+
+-- names have each context that a slot which items name links a context to
+abbrev pub HasNamedLinks : World → Name → List Item → List Name → Type 0
+HasNamedLinks w c items names =
+    (n : ℕ) (d : Name) → n < SLOTS → is_some (mode items (Slot n)) ≡ true →
+    context_of (slot_at w c n) ≡ Some d → is_among names d ≡ true
 
 -- names with one more, if one is given
 abbrev pub with_cached_root : List Name → Option Name → List Name

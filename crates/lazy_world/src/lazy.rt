@@ -4,6 +4,7 @@ ghost use Rattle.lazy_world.specs.CachedRoots.{AreReached};
 ghost use Rattle.lazy_world.specs.Notes.{AreRight};
 ghost use Rattle.lazy_world.specs.Worlds as placed;
 
+use crate::cutting::add_root;
 use crate::notes::Notes;
 use crate::ranges::names_slots;
 use crate::world::PlacedWorld;
@@ -23,7 +24,11 @@ pub struct LazyWorld {
 }
 
 impl LazyWorld {
-    ghost use Rattle.lazy_world.specs.CachedRoots.{with_cached_root};
+    ghost use Rattle.lwc_base.specs.Life.{is_among};
+    ghost use Rattle.lwc_types.specs.declared.name.Name.{Name};
+    ghost use Rattle.world_face.specs.Calls.{IsLive};
+    ghost use Rattle.lazy_world.specs.CachedRoots.{HasNamedLinks, with_cached_root};
+    ghost use Rattle.lazy_world.specs.Lazy.{seen_lazy};
 
     /// Adds a cached root, if one is given. Without room for it they are not known any more.
     pub(crate) fn add_cached_root(&mut self, context: Option<Name>)
@@ -32,12 +37,31 @@ impl LazyWorld {
         ensures cached_roots { self.new.known ≡ true
             → self.new.cached_roots.items ≡ with_cached_root self.old.cached_roots.items context }
     {
-        if let Some(context) = context {
-            if self.cached_roots.len() < MOST_KEPT_ROOTS {
-                self.cached_roots.push(context);
-            } else {
-                self.known = false;
-            }
+        if !add_root(&mut self.cached_roots, context) {
+            self.known = false;
+        }
+    }
+
+    /// Adds what an overlay may cut a context off from: what its slots that items name link it to. Without room
+    /// for all they are not known any more.
+    fn add_named_links(&mut self, context: Name, spec: &Items)
+        requires { IsLive (seen_lazy self.old) context }
+        ensures world { self.new.world ≡ self.old.world }
+        ensures kept { self.new.known ≡ true → self.old.known ≡ true }
+        ensures more { (d : Name) → is_among self.old.cached_roots.items d ≡ true
+            → is_among self.new.cached_roots.items d ≡ true }
+        ensures links { self.new.known ≡ true
+            → HasNamedLinks (seen_lazy self.old) context spec.now self.new.cached_roots.items }
+    {
+        if !names_slots(spec) {
+            return;
+        }
+        let place = self.world.place(context);
+        if !self
+            .world
+            .add_named_links(place, spec, &mut self.cached_roots)
+        {
+            self.known = false;
         }
     }
 }
@@ -91,10 +115,7 @@ impl LazyWorld {
         ensures store { OverlayStore (placed self.old) (placed self.new) from job spec.now }
         ensures steps { OverlaySteps (placed self.old) (placed self.new) from job spec.now }
     {
-        // The context may lose the only link to another one where a slot is named, and no link else.
-        if names_slots(spec) {
-            self.known = false;
-        }
+        self.add_named_links(to, spec);
         self.notes.forget();
         self.world.overlay(to, from, spec, job);
     }

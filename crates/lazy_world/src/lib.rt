@@ -4,6 +4,7 @@
 
 pub mod cloning;
 pub mod copying;
+pub mod cutting;
 pub mod dropping;
 pub mod face;
 pub mod key_value;
