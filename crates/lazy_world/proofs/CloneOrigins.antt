@@ -1,11 +1,10 @@
 -- Where the pages of a clone come from: by items first, and else by the segments of the context.
-use Rattle.std.proofs.Common.{◌≡◌, ◌≢◌, ℕ, ◌+◌, ◌<◌, ◌++◌, Bool, true, false, cond, List, [], ◌∷◌, arith, drop, get_or, length, take, refl, sym, ap, ◌∙◌, Option, Some, None}
-use Rattle.std.specs.Prelude.{◌&&◌, ◌||◌, All, nat_le, nat_lt, unwrap_or}
+use Rattle.std.proofs.Common.{◌≡◌, ◌≢◌, ℕ, ◌+◌, ◌<◌, ◌++◌, Bool, true, false, cond, List, [], ◌∷◌, arith, get_or, length, take, refl, sym, ap, ◌∙◌, Option, Some, None}
+use Rattle.std.specs.Prelude.{◌||◌, All, unwrap_or}
 use Rattle.std.specs.FinMap as fm
 use Rattle.std.specs.List.{find}
 use Rattle.std.specs.Option.{option_map, option_or}
-use Rattle.std.proofs.lemmas.Bool.Decides.{nat_tests}
-use Rattle.std.proofs.lemmas.List.{get_or-take, get_or_default, length-take, take-append-drop, take_more}
+use Rattle.std.proofs.lemmas.List.{take_more}
 use Rattle.std.proofs.lemmas.List.Elements.{All-push}
 use Rattle.std.proofs.lemmas.List.Folds.{find-append, list_any-append}
 use Rattle.lwc_base.specs.declared.cell.Cell.{Cell}
@@ -14,12 +13,11 @@ use Rattle.lwc_base.specs.declared.item.Item.{Item}
 use Rattle.lwc_base.specs.declared.item.Mode.{Mode}
 use Rattle.lwc_base.specs.declared.item.Mode.TheVariants.{Copy, Share, Unmap, CopyRead}
 use Rattle.lwc_base.specs.Cells.{value_of}
-use Rattle.lwc_base.specs.Modes.{IsSpec, mode, mode_or_copy, names, overlaps, same_kind}
+use Rattle.lwc_base.specs.Modes.{IsSpec, mode, mode_or_copy, names}
 use Rattle.lwc_base.specs.Sharing.{is_moved}
 use Rattle.lwc_base.specs.World.{Group, group}
 use Rattle.lwc_types.specs.declared.key.Key.{Key}
 use Rattle.lwc_types.specs.declared.key.Key.TheVariants.{Page}
-use Rattle.lwc_types.specs.declared.key.Kind.{Kind}
 use Rattle.lwc_types.specs.declared.key.Kind.TheVariants as kinds
 use Rattle.lwc_types.specs.declared.name.Name.{Name}
 use Rattle.lwc_types.specs.declared.page.PageValue.{PageValue}
@@ -40,8 +38,8 @@ use Rattle.lazy_world.specs.Sound.{IsAllOwn}
 use Rattle.lazy_world.specs.Origins.{Gift, gift_at, gift_of}
 use Rattle.lazy_world.specs.States.{Parts, world_of}
 use Rattle.lazy_world.specs.declared.transfer.Transfer.TheVariants.{Clone}
+use Rattle.item_modes.proofs.ModeLemmas.{mode_here, mode_named, mode_other, none_before}
 use Rattle.lazy_world.proofs.FoundLemmas.{held_own}
-use Rattle.lazy_world.proofs.PastLemmas.{find_none}
 use Rattle.lazy_world.proofs.WorldLemmas.{group-found, group-missed}
 
 -- what page runs after others give
@@ -54,78 +52,14 @@ gift_append xs ys q =
     at None b = refl
     at (Some s) b = refl
 
-mode_append : (xs ys : List Item) (k : Key) → mode (xs ++ ys) k ≡ option_or (mode xs k) (mode ys k)
-unfolding mode
-mode_append xs ys k = ap (option_map (λ (x : Item). x.mode)) (find-append (λ x. names x k) xs ys) ∙ at (find (λ x. names x k) xs) (find (λ x. names x k) ys)
-  where
-    at : (a b : Option Item) → option_map (λ (x : Item). x.mode) (option_or a b) ≡ option_or (option_map (λ x. x.mode) a) (option_map (λ x. x.mode) b)
-    at None b = refl
-    at (Some x) b = refl
-
--- two items that name one page have a key in common
-both_name : (a b : Kind) (from to first end q : ℕ) → (same_kind a kinds.Page && nat_le from q && nat_lt q to) ≡ true → (same_kind b kinds.Page && nat_le first q && nat_lt q end) ≡ true →
-    (same_kind a b && nat_lt from end && nat_lt first to) ≡ false → ⊥
-both_name kinds.Page kinds.Page from to first end q here there apart = grind (arith, nat_tests)
-both_name kinds.Slot b from to first end q here there apart = cc
-both_name kinds.Cred b from to first end q here there apart = cc
-both_name kinds.Page kinds.Slot from to first end q here there apart = cc
-both_name kinds.Page kinds.Cred from to first end q here there apart = cc
-
 -- what one page run gives
 one_gift : (s : PageRun) (q : ℕ) (b : Bool) → is_between s.range.from s.range.to q ≡ b → gift_at (s ∷ []) q ≡ cond b (Some (gift_of s)) None
 one_gift s q true on = ap (λ c. option_map gift_of (cond c (Some s) None)) on
 one_gift s q false off = ap (λ c. option_map gift_of (cond c (Some s) None)) off
 
--- one more item decides for the keys that no item before it names
-pub mode_one_more : (items : List Item) (i : ℕ) (d : Item) → i < length items → (k : Key) →
-    mode (take (i + 1) items) k ≡ option_or (mode (take i items) k) (cond (names (get_or items i d) k) (Some (get_or items i d).mode) None)
-unfolding mode
-mode_one_more items i d inside k =
-    ap (λ xs. option_map (λ (x : Item). x.mode) (find (λ x. names x k) xs)) (take_more items i d inside)
-    ∙ ap (option_map (λ (x : Item). x.mode)) (find-append (λ x. names x k) (take i items) (get_or items i d ∷ []))
-    ∙ at (find (λ x. names x k) (take i items)) (names (get_or items i d) k)
-  where
-    at : (o : Option Item) (b : Bool) →
-        option_map (λ (x : Item). x.mode) (option_or o (cond b (Some (get_or items i d)) None)) ≡ option_or (option_map (λ x. x.mode) o) (cond b (Some (get_or items i d).mode) None)
-    at None true = refl
-    at None false = refl
-    at (Some x) b = refl
-
 module _ (items : List Item) (pages : ℕ) (spec : IsSpec pages items) (i : ℕ) (d : Item) (inside : i < length items) (q : ℕ) where
   abbrev item : Item
   item = get_or items i d
-
-  off_page : (x : Item) (b : Bool) → names x (Page q) ≡ b → names item (Page q) ≡ true → overlaps x item ≡ false → names x (Page q) ≡ false
-  off_page x true there here apart = absurd (both_name x.kind item.kind x.from x.to item.from item.to q there here apart)
-  off_page x false there here apart = there
-
-  -- of the items before one that names a page none names it
-  none_before : names item (Page q) ≡ true → mode (take i items) (Page q) ≡ None
-  unfolding mode
-  none_before here =
-      ap (option_map (λ (x : Item). x.mode))
-      (find_none (λ x. names x (Page q)) (take i items)
-      (λ j e below.
-      let low : j < i = (let len = length-take i items in omega (arith, below, len)) in
-      let x = get_or items j e in
-      let apart : overlaps x item ≡ false = ap (overlaps x) (get_or_default items i d e inside) ∙ spec.apart j i e low inside in
-      ap (λ (y : Item). names y (Page q)) (get_or-take i items j e low) ∙ off_page x (names x (Page q)) refl here apart))
-
-  mode_more : mode (take (i + 1) items) (Page q) ≡ option_or (mode (take i items) (Page q)) (cond (names item (Page q)) (Some item.mode) None)
-  mode_more = mode_one_more items i d inside (Page q)
-
-  pub mode_named : names item (Page q) ≡ true → mode (take (i + 1) items) (Page q) ≡ Some item.mode
-  mode_named here = mode_more ∙ (λ x. option_or (none_before here x) (cond (here x) (Some item.mode) None))
-
-  pub mode_other : names item (Page q) ≡ false → mode (take (i + 1) items) (Page q) ≡ mode (take i items) (Page q)
-  mode_other off = mode_more ∙ ap (λ b. option_or (mode (take i items) (Page q)) (cond b (Some item.mode) None)) off ∙ or_none (mode (take i items) (Page q))
-
-  -- the item that names a page gives it its mode
-  pub mode_here : names item (Page q) ≡ true → mode items (Page q) ≡ Some item.mode
-  mode_here here =
-      ap (λ xs. mode xs (Page q)) (sym (take-append-drop (i + 1) items))
-      ∙ mode_append (take (i + 1) items) (drop (i + 1) items) (Page q)
-      ∙ ap (λ o. option_or o (mode (drop (i + 1) items) (Page q))) (mode_named here)
 
   -- an item that copies its pages leaves all copied that were
   pub still_copied : (names item (Page q) ≡ true → item.mode ≡ Copy) → mode_or_copy (take i items) (Page q) ≡ Copy → mode_or_copy (take (i + 1) items) (Page q) ≡ Copy
@@ -133,13 +67,13 @@ module _ (items : List Item) (pages : ℕ) (spec : IsSpec pages items) (i : ℕ)
   still_copied copies so_far = at (names item (Page q)) refl
     where
       at : (b : Bool) → names item (Page q) ≡ b → unwrap_or (mode (take (i + 1) items) (Page q)) Copy ≡ Copy
-      at true here = ap (λ o. unwrap_or o Copy) (mode_named here) ∙ copies here
-      at false off = ap (λ o. unwrap_or o Copy) (mode_other off) ∙ so_far
+      at true here = ap (λ o. unwrap_or o Copy) (mode_named items pages spec i d inside q here) ∙ copies here
+      at false off = ap (λ o. unwrap_or o Copy) (mode_other items pages spec i d inside q off) ∙ so_far
 
   -- where all pages are copied, the item copies what it names
   pub copied_here : CopiesPages items → names item (Page q) ≡ true → item.mode ≡ Copy
   unfolding mode_or_copy
-  copied_here copies here = sym (ap (λ o. unwrap_or o Copy) (mode_here here)) ∙ copies q
+  copied_here copies here = sym (ap (λ o. unwrap_or o Copy) (mode_here items pages spec i d inside q here)) ∙ copies q
 
   module _ (from : ℕ) (page_runs : List PageRun) (so_far : gift_at page_runs q ≡ item_gift from (mode (take i items) (Page q))) where
     -- an item whose pages are copied has no page run
@@ -147,8 +81,8 @@ module _ (items : List Item) (pages : ℕ) (spec : IsSpec pages items) (i : ℕ)
     item_passed copies = at (names item (Page q)) refl
       where
         at : (b : Bool) → names item (Page q) ≡ b → gift_at page_runs q ≡ item_gift from (mode (take (i + 1) items) (Page q))
-        at true here = so_far ∙ ap (item_gift from) (none_before here) ∙ sym (ap (item_gift from) (mode_named here) ∙ copies here)
-        at false off = so_far ∙ sym (ap (item_gift from) (mode_other off))
+        at true here = so_far ∙ ap (item_gift from) (none_before items pages spec i d inside q here) ∙ sym (ap (item_gift from) (mode_named items pages spec i d inside q here) ∙ copies here)
+        at false off = so_far ∙ sym (ap (item_gift from) (mode_other items pages spec i d inside q off))
 
     -- another one has a page run of its own
     pub item_pushed : (s : PageRun) → is_between s.range.from s.range.to q ≡ names item (Page q) → Some (gift_of s) ≡ item_gift from (Some item.mode) →
@@ -157,23 +91,23 @@ module _ (items : List Item) (pages : ℕ) (spec : IsSpec pages items) (i : ℕ)
       where
         at : (b : Bool) → names item (Page q) ≡ b → option_or (gift_at page_runs q) (gift_at (s ∷ []) q) ≡ item_gift from (mode (take (i + 1) items) (Page q))
         at true here =
-            (λ x. option_or ((so_far ∙ ap (item_gift from) (none_before here)) x) (one_gift s q true (same ∙ here) x))
-            ∙ gift ∙ sym (ap (item_gift from) (mode_named here))
+            (λ x. option_or ((so_far ∙ ap (item_gift from) (none_before items pages spec i d inside q here)) x) (one_gift s q true (same ∙ here) x))
+            ∙ gift ∙ sym (ap (item_gift from) (mode_named items pages spec i d inside q here))
         at false off =
             ap (option_or (gift_at page_runs q)) (one_gift s q false (same ∙ off))
-            ∙ or_none (gift_at page_runs q) ∙ so_far ∙ sym (ap (item_gift from) (mode_other off))
+            ∙ or_none (gift_at page_runs q) ∙ so_far ∙ sym (ap (item_gift from) (mode_other items pages spec i d inside q off))
 
   -- of pages that may only be read, with one item more
   module _ (ranges : List Range) (so_far : have_page ranges q ≡ is_read (mode (take i items) (Page q))) where
     none_read : names item (Page q) ≡ true → have_page ranges q ≡ false
-    none_read here = so_far ∙ ap is_read (none_before here)
+    none_read here = so_far ∙ ap is_read (none_before items pages spec i d inside q here)
 
     pub read_passed : (names item (Page q) ≡ true → is_read (Some item.mode) ≡ false) → have_page ranges q ≡ is_read (mode (take (i + 1) items) (Page q))
     read_passed other = at (names item (Page q)) refl
       where
         at : (b : Bool) → names item (Page q) ≡ b → have_page ranges q ≡ is_read (mode (take (i + 1) items) (Page q))
-        at true here = none_read here ∙ sym (ap is_read (mode_named here) ∙ other here)
-        at false off = so_far ∙ sym (ap is_read (mode_other off))
+        at true here = none_read here ∙ sym (ap is_read (mode_named items pages spec i d inside q here) ∙ other here)
+        at false off = so_far ∙ sym (ap is_read (mode_other items pages spec i d inside q off))
 
     pub read_pushed : (r : Range) → is_between r.from r.to q ≡ names item (Page q) → is_read (Some item.mode) ≡ true → have_page (ranges ++ r ∷ []) q ≡ is_read (mode (take (i + 1) items) (Page q))
     read_pushed r same read =
@@ -185,8 +119,8 @@ module _ (items : List Item) (pages : ℕ) (spec : IsSpec pages items) (i : ℕ)
         or_false false = refl
 
         at : (b : Bool) → names item (Page q) ≡ b → (have_page ranges q || (names item (Page q) || false)) ≡ is_read (mode (take (i + 1) items) (Page q))
-        at true here = (λ e. none_read here e || (here e || false)) ∙ sym (ap is_read (mode_named here) ∙ read)
-        at false off = ap (λ b. have_page ranges q || (b || false)) off ∙ or_false (have_page ranges q) ∙ so_far ∙ sym (ap is_read (mode_other off))
+        at true here = (λ e. none_read here e || (here e || false)) ∙ sym (ap is_read (mode_named items pages spec i d inside q here) ∙ read)
+        at false off = ap (λ b. have_page ranges q || (b || false)) off ∙ or_false (have_page ranges q) ∙ so_far ∙ sym (ap is_read (mode_other items pages spec i d inside q off))
 
 -- a place can get what an item gives of another one
 pub item_given : (from count to : ℕ) → from < count → from ≢ to → (m : Option Mode) → CanGet count to (option_map (λ gift. gift.0) (item_gift from m))

@@ -1,8 +1,7 @@
 -- Items that share nothing, and items that name no slot.
-use Rattle.std.proofs.Common.{◌≡◌, ◌≢◌, ℕ, ◌+◌, ◌<◌, ◌∙◌, Bool, true, false, cond, List, get_or, length, take, refl, sym, ap, Option, Some, None}
-use Rattle.std.specs.Prelude.{◌&&◌, ◌||◌, nat_le, nat_lt, not, unwrap_or}
+use Rattle.std.proofs.Common.{◌≡◌, ◌≢◌, ℕ, ◌∙◌, Bool, true, false, cond, List, refl, sym, ap, Option, Some, None}
+use Rattle.std.specs.Prelude.{◌||◌, not, unwrap_or}
 use Rattle.std.specs.Int.Bits.{bit_or}
-use Rattle.std.specs.Option.{option_or}
 use Rattle.std.proofs.lemmas.Bool.{false≢true}
 use Rattle.lwc_base.specs.declared.cell.Cell.TheVariants.{Common, Own}
 use Rattle.lwc_base.specs.declared.descriptor.Descriptor.TheVariants.{Empty}
@@ -10,7 +9,7 @@ use Rattle.lwc_base.specs.declared.item.Item.{Item}
 use Rattle.lwc_base.specs.declared.item.Mode.{Mode}
 use Rattle.lwc_base.specs.declared.item.Mode.TheVariants.{Copy, Share}
 use Rattle.lwc_base.specs.Capabilities.{has_bit}
-use Rattle.lwc_base.specs.Modes.{mode, names, same_kind}
+use Rattle.lwc_base.specs.Modes.{mode, names}
 use Rattle.lwc_base.specs.Sharing.{needs_group}
 use Rattle.lwc_base.specs.World.{World}
 use Rattle.lwc_types.specs.declared.key.Key.{Key}
@@ -24,38 +23,9 @@ use Rattle.lazy_world.specs.Transfers.{Gives, moves, transferred_cell, transferr
 use Rattle.lazy_world.specs.declared.transfer.Transfer.{Transfer}
 use Rattle.lazy_world.specs.declared.transfer.Transfer.TheVariants.{Mark, Move, Clone, Overlay}
 use Rattle.lazy_world.proofs.AddLemmas.{no_slot}
-use Rattle.lazy_world.proofs.CloneOrigins.{mode_one_more}
 use Rattle.lazy_world.proofs.MoveLemmas.{moves-share}
 use Rattle.lazy_world.proofs.NeedLemmas.{as_mode}
 use Rattle.lwc_base.proofs.Needs.{not_needed}
-
-module _ (items : List Item) (i : ℕ) (d : Item) (inside : i < length items) where
-  abbrev item : Item
-  item = get_or items i d
-
-  -- an item that does not share leaves nothing shared
-  pub still_unshared : (k : Key) → item.mode ≢ Share → mode (take i items) k ≢ Some Share → mode (take (i + 1) items) k ≢ Some Share
-  still_unshared k other none is = at (mode (take i items) k) (names item k) none (sym (mode_one_more items i d inside k) ∙ is)
-    where
-      at : (o : Option Mode) (b : Bool) → o ≢ Some Share → option_or o (cond b (Some item.mode) None) ≡ Some Share → ⊥
-      at None true never is = other (let e : item.mode ≡ Share = cc in e)
-      at None false never is = never is
-      at (Some m) b never is = never is
-
-  -- what holds of a key that the items before share holds still, if it holds of one that this item shares
-  pub one_more_shared : (k : Key) (T : Type 0) → (mode (take i items) k ≡ Some Share → T) → (names item k ≡ true → item.mode ≡ Share → T) → mode (take (i + 1) items) k ≡ Some Share → T
-  one_more_shared k T old here is = at (mode (take i items) k) (names item k) old here (sym (mode_one_more items i d inside k) ∙ is)
-    where
-      at : (o : Option Mode) (b : Bool) → (o ≡ Some Share → T) → (b ≡ true → item.mode ≡ Share → T) → option_or o (cond b (Some item.mode) None) ≡ Some Share → T
-      at None true before now is = now refl (let e : item.mode ≡ Share = cc in e)
-      at None false before now is = before is
-      at (Some m) b before now is = before is
-
-  -- an item of another kind names no slot
-  pub still_unnamed : (n : ℕ) → same_kind item.kind kind.Slot ≡ false → mode (take i items) (Slot n) ≡ None → mode (take (i + 1) items) (Slot n) ≡ None
-  still_unnamed n other none =
-      let off : names item (Slot n) ≡ false = ap (λ b. b && nat_le item.from n && nat_lt n item.to) other in
-      mode_one_more items i d inside (Slot n) ∙ (λ x. option_or (none x) (cond (off x) (Some item.mode) None))
 
 share_mode : (o : Option Mode) → unwrap_or o Copy ≡ Share → o ≡ Some Share
 share_mode None is = cc

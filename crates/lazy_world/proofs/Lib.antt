@@ -11,7 +11,6 @@ mod CostLemmas
 mod CountLemmas
 mod CountedLemmas
 mod DropLemmas
-mod EdgeLemmas
 mod EmptyLemmas
 mod FitLemmas
 mod FollowLemmas

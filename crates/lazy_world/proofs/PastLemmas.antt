@@ -1,7 +1,6 @@
 -- Keys past those that there are: no item names them, and a place keeps what it has there.
-use Rattle.std.proofs.Common.{◌≡◌, ℕ, zero, suc, ◌+◌, ◌<◌, ◌≤◌, ⊎_elim, Bool, true, false, List, [], ◌∷◌, arith, get_or, get_or-set_other, length, set, leb, ltb, refl, replicate, sym, ap, subst, ◌∙◌, cond, Option, Some, None}
-use Rattle.std.specs.Prelude.{◌&&◌, All, nat_le, nat_lt}
-use Rattle.std.specs.List.{find}
+use Rattle.std.proofs.Common.{◌≡◌, ℕ, zero, suc, ◌+◌, ◌<◌, ◌≤◌, ⊎_elim, true, false, List, [], ◌∷◌, arith, get_or, get_or-set_other, length, set, leb, ltb, refl, replicate, sym, ap, subst, ◌∙◌, Option, None}
+use Rattle.std.specs.Prelude.{◌&&◌, nat_le, nat_lt}
 use Rattle.std.specs.Option.{option_map}
 use Rattle.std.proofs.lemmas.Bool.{and_right, cases_eq, cases_lt, le-ltb}
 use Rattle.std.proofs.lemmas.List.{get_or-set_same}
@@ -18,6 +17,7 @@ use Rattle.lwc_types.specs.declared.key.Kind.{Kind}
 use Rattle.lwc_types.specs.declared.key.Kind.TheVariants as kinds
 use Rattle.lwc_types.specs.declared.limits.TheConstants.{MOST_PAGES}
 use Rattle.cow_space.specs.declared.page_runs.Origin.{Origin}
+use Rattle.item_modes.proofs.ModeLemmas.{find_none}
 use Rattle.lazy_world.specs.Cells.{Row, is_nothing}
 use Rattle.lazy_world.specs.Transfers.{Gives, given_or, transferred_cell, transferred_row}
 use Rattle.lazy_world.specs.Sound.{IsWithin}
@@ -37,11 +37,6 @@ past_kind pages kinds.Slot kinds.Page from to n below past = refl
 past_kind pages kinds.Slot kinds.Cred from to n below past = refl
 past_kind pages kinds.Cred kinds.Page from to n below past = refl
 past_kind pages kinds.Cred kinds.Slot from to n below past = refl
-
-pub find_none : {X : Type 0} (f : X → Bool) (xs : List X) → All (λ x. f x ≡ false) xs → find f xs ≡ None
-find_none f [] none = refl
-find_none f (x ∷ xs) none =
-    ap (λ b. cond b (Some x) (find f xs)) (none 0 x (omega arith)) ∙ find_none f xs (λ k d inside. none (suc k) d (omega arith))
 
 -- no item names a key past those that there are
 pub mode-past : (pages : ℕ) (items : List Item) (k : Key) → IsSpec pages items → limit pages (kind_of k) ≤ number_of k → mode items k ≡ None

@@ -1,7 +1,6 @@
 -- What places get of the cells and rights of a context, and from where.
-use Rattle.std.specs.Prelude.{◌≡◌, ◌≢◌, ℕ, ◌<◌, ◌≤◌, ◌==◌, ◌||◌, if◌then◌else◌, Bool, true, false, List, Option, None}
+use Rattle.std.specs.Prelude.{◌≡◌, ◌≢◌, ℕ, ◌<◌, ◌≤◌, ◌==◌, if◌then◌else◌, Bool, true, false, List, Option, None}
 use Rattle.std.specs.Prelude.{Some, unwrap_or}
-use Rattle.std.specs.List.{list_any}
 use Rattle.lwc_base.specs.declared.cell.Cell.{Cell}
 use Rattle.lwc_base.specs.declared.cell.Cell.TheVariants as cells
 use Rattle.lwc_base.specs.declared.item.Item.{Item}
@@ -16,7 +15,6 @@ use Rattle.lwc_base.specs.Sharing.{is_moved, moved_value, shared_cell}
 use Rattle.lwc_base.specs.World.{World, group}
 use Rattle.lwc_types.specs.declared.key.Key.{Key}
 use Rattle.lwc_types.specs.declared.key.Key.TheVariants.{Page, Slot, Cred}
-use Rattle.lwc_types.specs.declared.limits.TheConstants.{MOST_PAGES}
 use Rattle.lwc_types.specs.declared.name.Name.{Name}
 use Rattle.lwc_types.specs.declared.page.PageValue.TheVariants.{Zero}
 use Rattle.lwc_types.specs.declared.right.Right.{Right}
@@ -28,7 +26,6 @@ use Rattle.cow_space.specs.declared.page_runs.Origin.{Origin}
 use Rattle.cow_space.specs.declared.page_runs.Origin.TheVariants as origins
 use Rattle.cow_space.specs.Changes.{IsApart}
 use Rattle.lazy_world.specs.Cells.{Row}
-use Rattle.lazy_world.specs.declared.ranges.ModeRun.{ModeRun}
 use Rattle.lazy_world.specs.declared.transfer.Found.{Found}
 use Rattle.lazy_world.specs.declared.transfer.Transfer.{Transfer}
 use Rattle.lazy_world.specs.declared.transfer.Transfer.TheVariants as transfers
@@ -104,13 +101,6 @@ is_read (Some Copy) = false
 is_read (Some Share) = false
 is_read (Some Unmap) = false
 is_read (Some CopyRead) = true
-
--- the pages from one on have a mode, up to a later page where an item begins or ends
-pub record IsModeRun (items : List Item) (p : ℕ) (run : ModeRun) : Type 0 where
-  pub alike : (q : ℕ) → p ≤ q → q < run.to → mode items (Page q) ≡ run.mode
-  pub within : run.to ≤ MOST_PAGES
-  pub edge : p < run.to → run.to < MOST_PAGES →
-      list_any (λ item. (item.from == run.to) || (item.to == run.to)) items ≡ true
 
 -- whether a transfer makes a page of a mode one that may only be read
 abbrev pub reads : Transfer → Option Mode → Bool

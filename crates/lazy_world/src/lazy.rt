@@ -6,9 +6,9 @@ ghost use Rattle.lazy_world.specs.Worlds as placed;
 
 use crate::cutting::add_root;
 use crate::notes::Notes;
-use crate::ranges::names_slots;
 use crate::world::PlacedWorld;
 use arrayvec::ArrayVec;
+use item_modes::names_slots;
 use lwc_base::{Items, MOST_KEPT_ROOTS, Name, Regs};
 
 /// A world by shared pages that knows what its contexts are reached from, so that a reap mostly takes no

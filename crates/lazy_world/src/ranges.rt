@@ -1,17 +1,17 @@
 ghost use Rattle.std.specs.Prelude.{◌≡◌, ◌≢◌, ◌==◌, ◌||◌, ◌<◌, ◌≤◌, ◌+◌, ◌*◌, ◌⊎◌, ℕ, false, true};
-ghost use Rattle.std.specs.Prelude.{if◌then◌else◌, [], All, IfSome, List, None, length, replicate, unwrap_or};
+ghost use Rattle.std.specs.Prelude.{if◌then◌else◌, [], All, IfSome, None, length, replicate, unwrap_or};
 ghost use Rattle.std.specs.List.{list_any};
 ghost use Rattle.std.specs.Option.{option_map};
-ghost use Rattle.lwc_base.specs.Modes.{IsItem, IsSpec, mode, names, same_kind};
+ghost use Rattle.lwc_base.specs.Modes.{IsSpec, mode, names};
 ghost use Rattle.lwc_base.specs.declared.cell.Cell.{Cell};
 ghost use Rattle.lwc_base.specs.Keys.{ValueOf};
-ghost use Rattle.lwc_base.specs.declared.item.Item.{Item};
 ghost use Rattle.lwc_types.specs.declared.key.TheConstants.{SLOTS};
 ghost use Rattle.lwc_types.specs.declared.key.Key.TheVariants.{Page, Slot, Cred};
 ghost use Rattle.lwc_types.specs.declared.limits.TheConstants.{MOST_PAGES, MOST_RANGES};
 ghost use Rattle.lwc_types.specs.declared.key.Key.{Key};
 ghost use Rattle.lwc_types.specs.declared.key.Kind.TheVariants as kind;
-ghost use Rattle.lazy_world.specs.Transfers.{IsModeRun, kind_in, owner};
+ghost use Rattle.item_modes.specs.Runs.{IsModeRun};
+ghost use Rattle.lazy_world.specs.Transfers.{kind_in, owner};
 ghost use Rattle.lazy_world.specs.declared.transfer.Transfer.{Transfer};
 
 use crate::pieces::{Origins, PageOrigins};
@@ -20,119 +20,12 @@ use crate::world::PlacedWorld;
 use arrayvec::ArrayVec;
 use cow_space::{Origin, PageRun};
 use fd_table::lowest_bit;
+use item_modes::{ModeRun, names_slots};
 use lwc_base::{
-    Cell, Item, Items, Key, Kind, MOST_PAGE_RUNS, MOST_PAGES, Mode, PageNumber, Range, Right,
-    SlotNumber,
+    Cell, Items, Key, MOST_PAGE_RUNS, MOST_PAGES, PageNumber, Range, Right, SlotNumber,
 };
 use range_map::{PageState, SegmentKind};
 use res_spec::mode_of;
-
-/// The mode of the pages from one on, up to a later one, and the number of the item that is looked at first for
-/// the next pages. Any number does; mostly items are in the order of their pages.
-#[derive(Clone, Copy)]
-pub(crate) struct ModeRun {
-    pub(crate) mode: Option<Mode>,
-    pub(crate) to: PageNumber,
-    pub(crate) near: usize,
-}
-
-impl ModeRun {
-    /// The mode of no page.
-    pub(crate) fn empty() -> ModeRun
-        ensures { (items : List Item) → IsModeRun items 0 result }
-    {
-        ModeRun {
-            mode: None,
-            to: 0,
-            near: 0,
-        }
-    }
-
-    /// The mode of a page and of all up to the end of the item of a number, if that has the page.
-    fn in_item(items: &Items, near: usize, page: PageNumber) -> Option<ModeRun>
-        ensures past { IfSome result (λ run. page < run.to) }
-        ensures run { IfSome result (λ run. IsModeRun items.now page run) }
-    {
-        let item = items.items().get(near)?;
-        let range = item.pages()?;
-        if page < range.from || range.to <= page {
-            return None;
-        }
-        Some(ModeRun {
-            mode: Some(item.mode),
-            to: range.to,
-            near: near + 1,
-        })
-    }
-
-    /// The mode of a page and of all up to a later one, where an item begins or ends: that of the item that has
-    /// the page, or none up to the next item. It looks at each item.
-    fn at(items: &Items, near: usize, page: PageNumber) -> ModeRun
-        requires page { page < MOST_PAGES }
-        ensures past { page < result.to }
-        ensures run { IsModeRun items.now page result }
-    {
-        let mut to = MOST_PAGES;
-        for item in items.items() {
-            let Some(range) = item.pages() else {
-                continue;
-            };
-            if page < range.from {
-                to = to.min(range.from);
-            } else if page < range.to {
-                return ModeRun {
-                    mode: Some(item.mode),
-                    to: range.to,
-                    near,
-                };
-            }
-        }
-        ModeRun {
-            mode: None,
-            to,
-            near,
-        }
-    }
-
-    /// The mode of a page and of all up to a later one, where an item begins or ends. The items are looked
-    /// through once for all pages of one mode.
-    pub(crate) fn next(self, items: &Items, page: PageNumber) -> ModeRun
-        requires page { page < MOST_PAGES }
-        requires known { IsModeRun items.now page self }
-        ensures past { page < result.to }
-        ensures run { IsModeRun items.now page result }
-    {
-        if page < self.to {
-            return self;
-        }
-        match ModeRun::in_item(items, self.near, page) {
-            Some(run) => run,
-            None => ModeRun::at(items, self.near, page),
-        }
-    }
-}
-
-/// Whether an item names slots.
-fn is_of_slots(item: &Item) -> bool
-    ensures { result ≡ same_kind item.now.kind kind.Slot }
-{
-    match item.kind {
-        Kind::Slot => true,
-        Kind::Page | Kind::Cred => false,
-    }
-}
-
-/// Whether some item names slots.
-pub(crate) fn names_slots(spec: &Items) -> bool
-    ensures { result ≡ false → (n : ℕ) → mode spec.now (Slot n) ≡ None }
-{
-    for item in spec.items() {
-        if is_of_slots(item) {
-            return true;
-        }
-    }
-    false
-}
 
 /// Who has the value of a cell.
 fn owner<T>(cell: &Cell<T>) -> SegmentKind

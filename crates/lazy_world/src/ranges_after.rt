@@ -7,9 +7,9 @@ ghost use Rattle.range_map.specs.Kinds.{ranges};
 ghost use Rattle.lazy_world.specs.Cells.{states_of};
 ghost use Rattle.lazy_world.specs.Seen.{count, rights, rows};
 
-use crate::ranges::ModeRun;
 use crate::transfer::Transfer;
 use crate::world::PlacedWorld;
+use item_modes::ModeRun;
 use lwc_base::{Items, MOST_PAGES, Name, PageNumber};
 
 impl PlacedWorld {

@@ -1,4 +1,4 @@
-ghost use Rattle.std.specs.Prelude.{◌≡◌, ◌≢◌, ◌<◌, ◌≤◌, ◌+◌, ◌*◌, ◌^◌, ℕ, Some, false, true};
+ghost use Rattle.std.specs.Prelude.{◌≡◌, ◌<◌, ◌≤◌, ◌+◌, ◌^◌, ℕ, Some, false, true};
 ghost use Rattle.lwc_base.specs.declared.item.Mode.TheVariants.{Share};
 ghost use Rattle.lwc_base.specs.declared.cell.Cell.{Cell};
 ghost use Rattle.lwc_base.specs.Keys.{ValueOf};
@@ -13,32 +13,12 @@ ghost use Rattle.lwc_types.specs.declared.limits.TheConstants.{MOST_PAGES, MOST_
 ghost use Rattle.lazy_world.specs.Transfers.{moves};
 
 use crate::pieces::Origins;
-use crate::ranges::names_slots;
 use crate::transfer::Transfer;
 use crate::world::PlacedWorld;
-use lwc_base::{Cell, Counters, Item, Items, Key, Mode, NOBODY, Name, PageNumber, Range, SLOTS};
+use item_modes::{is_share, names_slots, shares_nothing};
+use lwc_base::{Cell, Counters, Item, Items, Key, NOBODY, Name, PageNumber, Range, SLOTS};
 use range_map::{PageState, SegmentKind};
 use res_spec::mode_of;
-
-/// Whether an item shares what it names.
-fn is_share(item: &Item) -> bool
-    ensures is { result ≡ true → item.now.mode ≡ Share }
-    ensures other { result ≡ false → item.now.mode ≢ Share }
-{
-    item.mode == Mode::Share
-}
-
-/// Whether no item shares what it names, so that no value moves.
-fn shares_nothing(spec: &Items) -> bool
-    ensures { result ≡ true → (k : Key) → mode spec.now k ≢ Some Share }
-{
-    for item in spec.items() {
-        if is_share(item) {
-            return false;
-        }
-    }
-    true
-}
 
 /// Whether a state is one of a page that is the context's own.
 fn is_of_own(state: Option<PageState>) -> bool
@@ -69,7 +49,7 @@ impl PlacedWorld {
     ghost use Rattle.lazy_world.specs.Clones.{change_nodes, change_steps, fill_nodes, fill_steps};
     ghost use Rattle.lazy_world.specs.Costs.{TakesNodes, pieces};
     ghost use Rattle.lazy_world.specs.Seen.{KeepsStore, count, node_steps, rows};
-    ghost use Rattle.lazy_world.specs.Worlds.{parts, seen};
+    ghost use Rattle.lazy_world.specs.Worlds.{seen};
 
     /// Whether a page of a range is a place's own.
     fn has_own_between(&self, place: usize, range: Range) -> bool

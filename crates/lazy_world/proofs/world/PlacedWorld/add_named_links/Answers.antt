@@ -1,4 +1,4 @@
-use Rattle.std.proofs.Common.{◌∙◌, ◌≡◌, ◌<◌, ℕ, List, None, Some, ap, arith, false, inl, inr, not, subst, sym, true}
+use Rattle.std.proofs.Common.{◌∙◌, ◌≡◌, ℕ, List, None, Some, ap, arith, false, inl, inr, not, subst, sym, true}
 use Rattle.std.proofs.lemmas.Bool.{cases_lt}
 use Rattle.std.specs.Prelude.{is_some}
 use Rattle.lwc_base.specs.Modes.{mode}

@@ -3,7 +3,7 @@ use Rattle.lwc_types.specs.declared.limits.TheConstants.{MOST_PAGES}
 use Rattle.range_map.specs.Kinds.{ranges}
 use Rattle.lazy_world.specs.Cells.{states_of}
 use Rattle.lazy_world.specs.Worlds.{right_transferred, transferred}
-use Rattle.lazy_world.specs.Transfers.{IsModeRun}
+use Rattle.item_modes.specs.Runs.{IsModeRun}
 use Rattle.lazy_world.proofs.world.PlacedWorld.count_transferred.Given as goal
 
 abbrev pub invariant-pages : goal.invariant-pages

@@ -6,7 +6,7 @@ use Rattle.lazy_world.specs.Cells.{states_of}
 use Rattle.lazy_world.specs.Seen.{count, rights, rows}
 use Rattle.lazy_world.proofs.FitLemmas.{fits}
 use Rattle.lazy_world.proofs.OriginLemmas.{HasGiven}
-use Rattle.lazy_world.specs.Transfers.{IsModeRun}
+use Rattle.item_modes.specs.Runs.{IsModeRun}
 use Rattle.lazy_world.proofs.world.PlacedWorld.list_page_runs.Given as goal
 
 abbrev pub invariant-pages : goal.invariant-pages

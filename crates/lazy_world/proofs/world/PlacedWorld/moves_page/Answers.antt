@@ -9,8 +9,9 @@ use Rattle.lwc_types.specs.declared.key.Key.TheVariants.{Page}
 use Rattle.lwc_types.specs.declared.limits.TheConstants.{MOST_PAGES}
 use Rattle.lazy_world.specs.Transfers.{moves}
 use Rattle.lazy_world.specs.Seen.{rows}
-use Rattle.lazy_world.proofs.CloneOrigins.{mode_here}
-use Rattle.lazy_world.proofs.ItemLemmas.{one_more_shared, settled_by}
+use Rattle.item_modes.proofs.ModeLemmas.{mode_here}
+use Rattle.item_modes.proofs.ModeLemmas.{one_more_shared}
+use Rattle.lazy_world.proofs.ItemLemmas.{settled_by}
 use Rattle.lazy_world.proofs.MoveLemmas.{still}
 use Rattle.lazy_world.proofs.world.PlacedWorld.moves_page.Goals as goal
 

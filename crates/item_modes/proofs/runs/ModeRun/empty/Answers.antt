@@ -1,5 +1,5 @@
 use Rattle.std.proofs.Common.{arith}
-use Rattle.lazy_world.proofs.ranges.ModeRun.empty.Goals as goal
+use Rattle.item_modes.proofs.runs.ModeRun.empty.Goals as goal
 
 pub returns : goal.returns
 returns c items = record {

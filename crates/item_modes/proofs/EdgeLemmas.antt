@@ -13,8 +13,8 @@ use Rattle.lwc_types.specs.declared.key.Kind.{Kind}
 use Rattle.lwc_types.specs.declared.key.Kind.TheVariants as kinds
 use Rattle.lwc_types.specs.declared.limits.TheConstants.{MOST_PAGES}
 use Rattle.range_map.proofs.Alike.{edge_more}
-use Rattle.lazy_world.specs.Transfers.{IsModeRun}
-use Rattle.lazy_world.proofs.CloneOrigins.{mode_here}
+use Rattle.item_modes.specs.Runs.{IsModeRun}
+use Rattle.item_modes.proofs.ModeLemmas.{mode_here}
 
 abbrev named : Kind → ℕ → ℕ → ℕ → Bool
 named kind from to q = same_kind kind kinds.Page && nat_le from q && nat_lt q to

@@ -2,8 +2,8 @@ use Rattle.std.proofs.Common.{◌≢◌, ◌∙◌, Some, subst}
 use Rattle.std.proofs.lemmas.List.{take_all}
 use Rattle.lwc_base.specs.declared.item.Mode.TheVariants.{Share}
 use Rattle.lwc_base.specs.Modes.{mode}
-use Rattle.lazy_world.proofs.ItemLemmas.{still_unshared}
-use Rattle.lazy_world.proofs.sharing.shares_nothing.Goals as goal
+use Rattle.item_modes.proofs.ModeLemmas.{still_unshared}
+use Rattle.item_modes.proofs.naming.shares_nothing.Goals as goal
 
 pub loop-item-init : goal.loop-item-init
 unfolding mode

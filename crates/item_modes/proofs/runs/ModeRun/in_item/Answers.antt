@@ -2,9 +2,9 @@ use Rattle.std.proofs.Common.{◌∙◌, ◌+◌, Some, ap, arith, get_or, subst
 use Rattle.lwc_base.specs.declared.item.Item.{Item}
 use Rattle.lwc_base.specs.Modes.{IsSpec}
 use Rattle.lwc_types.specs.declared.limits.TheConstants.{MOST_PAGES}
-use Rattle.lazy_world.specs.Transfers.{IsModeRun}
-use Rattle.lazy_world.proofs.EdgeLemmas.{item_run, no_item}
-use Rattle.lazy_world.proofs.ranges.ModeRun.in_item.Goals as goal
+use Rattle.item_modes.specs.Runs.{IsModeRun}
+use Rattle.item_modes.proofs.EdgeLemmas.{item_run, no_item}
+use Rattle.item_modes.proofs.runs.ModeRun.in_item.Goals as goal
 
 pub returns-clause-run : goal.returns-clause-run
 returns-clause-run c =

@@ -4,7 +4,7 @@ use Rattle.std.specs.List.{list_any}
 use Rattle.lwc_base.specs.Modes.{mode}
 use Rattle.lwc_types.specs.declared.key.Key.TheVariants.{Page}
 use Rattle.lwc_types.specs.declared.limits.TheConstants.{MOST_PAGES}
-use Rattle.lazy_world.proofs.ranges.ModeRun.at.Given as goal
+use Rattle.item_modes.proofs.runs.ModeRun.at.Given as goal
 
 abbrev pub invariant-loop-item : goal.invariant-loop-item
 invariant-loop-item l = record {

@@ -2,8 +2,8 @@ use Rattle.std.proofs.Common.{◌≡◌, ◌∙◌, None, refl, subst, sym}
 use Rattle.std.proofs.lemmas.List.{take_all}
 use Rattle.lwc_base.specs.Modes.{mode}
 use Rattle.lwc_types.specs.declared.key.Key.TheVariants.{Slot}
-use Rattle.lazy_world.proofs.ItemLemmas.{still_unnamed}
-use Rattle.lazy_world.proofs.ranges.names_slots.Goals as goal
+use Rattle.item_modes.proofs.ModeLemmas.{still_unnamed}
+use Rattle.item_modes.proofs.naming.names_slots.Goals as goal
 
 pub loop-item-init : goal.loop-item-init
 unfolding mode

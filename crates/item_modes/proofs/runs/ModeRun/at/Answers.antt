@@ -3,11 +3,11 @@ use Rattle.range_map.proofs.Alike.{edge_more}
 use Rattle.lwc_base.specs.declared.item.Item.{Item}
 use Rattle.lwc_base.specs.Modes.{IsSpec, mode}
 use Rattle.lwc_types.specs.declared.limits.TheConstants.{MOST_PAGES}
-use Rattle.lazy_world.specs.Transfers.{IsModeRun}
-use Rattle.lazy_world.proofs.CloneOrigins.{mode_other}
-use Rattle.lazy_world.proofs.EdgeLemmas.{item_run, no_item, of_other, outside}
-use Rattle.lazy_world.proofs.ranges.ModeRun.at.Goals as goal
-use Rattle.lazy_world.proofs.ranges.ModeRun.at.Goals.{then-page-range, else-page-range+else-page-range-2}
+use Rattle.item_modes.specs.Runs.{IsModeRun}
+use Rattle.item_modes.proofs.ModeLemmas.{mode_other}
+use Rattle.item_modes.proofs.EdgeLemmas.{item_run, no_item, of_other, outside}
+use Rattle.item_modes.proofs.runs.ModeRun.at.Goals as goal
+use Rattle.item_modes.proofs.runs.ModeRun.at.Goals.{then-page-range, else-page-range+else-page-range-2}
 
 pub loop-item-init : goal.loop-item-init
 unfolding mode
