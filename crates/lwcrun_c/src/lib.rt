@@ -2,16 +2,6 @@
 //! at step by step.
 #![tactic(auto)]
 
-mod border;
 mod exports;
-mod lines;
-mod runs;
-mod shapes;
-mod views;
 
-pub use border::{Bytes, FileBytes};
-pub use exports::{
-    Answer, lwcrun_c_line, lwcrun_c_page, lwcrun_c_slot, lwcrun_c_thread, lwcrun_c_totals,
-};
-pub use runs::Run;
-pub use shapes::{SlotState, ThreadState, Totals};
+pub use exports::{lwcrun_c_line, lwcrun_c_page, lwcrun_c_slot, lwcrun_c_thread, lwcrun_c_totals};

@@ -30,12 +30,12 @@ use Rattle.lwc_types.specs.declared.name.Name.{Name}
 use Rattle.lwc_types.specs.declared.page.TheConstants.{PAGE_BYTES}
 use Rattle.lwc_text.specs.Requests.{requests_at}
 use Rattle.lwc_text.specs.declared.fault.InputRule.{InputRule}
-use Rattle.lwcrun_c.specs.declared.runs.Run.{Run}
-use Rattle.lwcrun_c.specs.declared.runs.RunError.{RunError}
-use Rattle.lwcrun_c.specs.declared.runs.RunError.TheVariants as errors
-use Rattle.lwcrun_c.specs.declared.shapes.SlotState.{SlotState}
-use Rattle.lwcrun_c.specs.declared.shapes.ThreadState.{ThreadState}
-use Rattle.lwcrun_c.specs.declared.shapes.Totals.{Totals}
+use Rattle.run_views.specs.declared.runs.Run.{Run}
+use Rattle.run_views.specs.declared.runs.RunError.{RunError}
+use Rattle.run_views.specs.declared.runs.RunError.TheVariants as errors
+use Rattle.run_views.specs.declared.shapes.SlotState.{SlotState}
+use Rattle.run_views.specs.declared.shapes.ThreadState.{ThreadState}
+use Rattle.run_views.specs.declared.shapes.Totals.{Totals}
 
 -- what a kernel does for this number of workers: it runs the image's threads where there are none
 abbrev pub job_for : ℕ → Job

@@ -1,7 +1,7 @@
 use Rattle.std.proofs.Common.{Err, Some, ap, refl}
 use Rattle.lwc_io.specs.Memory.{FilesInMemory, SinkInMemory, bytes_of}
-use Rattle.lwcrun_c.proofs.Outcomes.{left_by_command, left_by_usage}
-use Rattle.lwcrun_c.proofs.lines.carry_out_line.Goals as goal
+use Rattle.memory_lines.proofs.Outcomes.{left_by_command, left_by_usage}
+use Rattle.memory_lines.proofs.lines.carry_out_line.Goals as goal
 
 pub returns-in-Err-Usage-clause-outcome : goal.returns-in-Err-Usage-clause-outcome
 returns-in-Err-Usage-clause-outcome c =

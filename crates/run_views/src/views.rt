@@ -4,7 +4,7 @@ ghost use Rattle.std.specs.Prelude.{◌≡◌, ◌≢◌, Err, IfErr, IfOk, None
 ghost use Rattle.std.specs.Option.{option_map};
 ghost use Rattle.kernel_core.specs.Kernel.{machine_of, view_of};
 ghost use Rattle.lwc_types.specs.declared.page.TheConstants.{PAGE_BYTES};
-ghost use Rattle.lwcrun_c.specs.Runs.{MayRefuse, Sees, page_at, slot_in, slot_of, state_of, totals_of, world_of};
+ghost use Rattle.run_views.specs.Runs.{MayRefuse, Sees, page_at, slot_in, slot_of, state_of, totals_of, world_of};
 
 use crate::runs::{Run, RunError};
 use crate::shapes::{SlotState, ThreadState, Totals};

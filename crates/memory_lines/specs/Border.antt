@@ -1,10 +1,10 @@
 -- What a caller hands over, as contracts see it.
 use Rattle.std.specs.Prelude.{ℕ, List, ◌∷◌, All, IsUtf8, codes, map}
 use Rattle.lwc_io.specs.Memory.{Named}
-use Rattle.lwcrun_c.specs.declared.border.Bytes.{Bytes}
-use Rattle.lwcrun_c.specs.declared.border.FileBytes.{FileBytes}
-use Rattle.lwcrun_c.specs.declared.border.LineError.{LineError}
-use Rattle.lwcrun_c.specs.declared.border.LineError.TheVariants as errors
+use Rattle.memory_lines.specs.declared.border.Bytes.{Bytes}
+use Rattle.memory_lines.specs.declared.border.FileBytes.{FileBytes}
+use Rattle.memory_lines.specs.declared.border.LineError.{LineError}
+use Rattle.memory_lines.specs.declared.border.LineError.TheVariants as errors
 
 -- the words of a line: the program's name, and the bytes of each word
 abbrev pub line_of : List Bytes → List (List ℕ)

@@ -2,9 +2,9 @@
 use Rattle.std.proofs.Common.{◌≡◌, ◌∙◌, inl, ℕ, List, [], Option, None, Some, Result, Ok, Err, IfOk, refl, string_bytes, subst, sym}
 use Rattle.lwc_io.specs.Memory.{Named, bytes_of}
 use Rattle.lwc_io.specs.Outside.{FilesView, SinkView}
-use Rattle.lwcrun_c.specs.Lines.{IsOutcome}
-use Rattle.lwcrun_c.specs.declared.border.LineError.{LineError}
-use Rattle.lwcrun_c.specs.declared.lines.Outcome.{Outcome}
+use Rattle.memory_lines.specs.Lines.{IsOutcome}
+use Rattle.memory_lines.specs.declared.border.LineError.{LineError}
+use Rattle.memory_lines.specs.declared.lines.Outcome.{Outcome}
 use Rattle.lwcrun_core.specs.Calls.{CallEnded}
 use Rattle.lwcrun_inputs.specs.Statuses.{message_of, status_of}
 use Rattle.lwcrun_inputs.specs.declared.status.ExitStatus.{ExitStatus}

@@ -1,3 +1,2 @@
 pub mod Border
 pub mod Lines
-pub mod Runs

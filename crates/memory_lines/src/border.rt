@@ -1,8 +1,8 @@
 //! What crosses to C and back: numbers, and slices of bytes.
 
 ghost use Rattle.std.specs.Prelude.{◌≡◌, ◌≢◌, All, Err, IfErr, IfOk, IsUtf8, map, string_bytes};
-ghost use Rattle.lwcrun_c.specs.Border.{error_number, line_of, named};
-ghost use Rattle.lwcrun_c.specs.declared.border.LineError.TheVariants.{OutOfMemory};
+ghost use Rattle.memory_lines.specs.Border.{error_number, line_of, named};
+ghost use Rattle.memory_lines.specs.declared.border.LineError.TheVariants.{OutOfMemory};
 
 use lwc_io::NamedFile;
 use std::alloc::{AllocError, AllocFailed, Global};

@@ -1,6 +1,6 @@
 use Rattle.std.proofs.Common.{◌≡◌, map, take, string_bytes}
-use Rattle.lwcrun_c.specs.Border.{line_of}
-use Rattle.lwcrun_c.proofs.border.words_from.Given as goal
+use Rattle.memory_lines.specs.Border.{line_of}
+use Rattle.memory_lines.proofs.border.words_from.Given as goal
 
 -- the program's name, and the words so far
 abbrev pub invariant-words : goal.invariant-words

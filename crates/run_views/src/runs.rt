@@ -9,7 +9,7 @@ ghost use Rattle.kernel_core.specs.Settings.{IsJob, IsSettings};
 ghost use Rattle.kernel_core.specs.Start.{inputs_of, start};
 ghost use Rattle.lwc_types.specs.declared.limits.TheConstants.{MOST_STEPS};
 ghost use Rattle.lwc_text.specs.Requests.{requests_at};
-ghost use Rattle.lwcrun_c.specs.Runs.{
+ghost use Rattle.run_views.specs.Runs.{
   AreRequestsOf,
   IsAt,
   IsOpenedBy,

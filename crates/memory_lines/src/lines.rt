@@ -1,7 +1,7 @@
 //! A line that is carried out over files in memory.
 
 ghost use Rattle.std.specs.Prelude.{◌≡◌, ◌≢◌, [], Err, IfErr, IfOk, IfSome, map, string_bytes};
-ghost use Rattle.lwcrun_c.specs.Lines.{IsOutcome};
+ghost use Rattle.memory_lines.specs.Lines.{IsOutcome};
 ghost use Rattle.lwcrun_inputs.specs.Statuses.{message_of, status_of};
 ghost use Rattle.lwcrun_line.specs.Lines.{RunsThreads, command_of};
 ghost use Rattle.lwcrun_inputs.specs.Views.{end_of};

@@ -2,7 +2,7 @@
 
 ghost use Rattle.std.specs.Prelude.{◌≡◌};
 ghost use Rattle.lwc_base.specs.Lending.{descriptor_of};
-ghost use Rattle.lwcrun_c.specs.Runs.{slot_of, state_of, status_code, status_number};
+ghost use Rattle.run_views.specs.Runs.{slot_of, state_of, status_code, status_number};
 
 use kernel_core::ThreadView;
 use lwc_base::{Lent, ThreadStatus};

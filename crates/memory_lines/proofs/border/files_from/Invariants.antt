@@ -1,6 +1,6 @@
 use Rattle.std.proofs.Common.{◌≡◌, map, take}
-use Rattle.lwcrun_c.specs.Border.{named}
-use Rattle.lwcrun_c.proofs.border.files_from.Given as goal
+use Rattle.memory_lines.specs.Border.{named}
+use Rattle.memory_lines.proofs.border.files_from.Given as goal
 
 -- the files so far
 abbrev pub invariant-files : goal.invariant-files
