@@ -49,10 +49,10 @@ impl ThreadState {
         ensures { result ≡ state_of view.now }
     {
         ThreadState {
-            code: code_of(view.status),
+            code: status_code(view.status),
             pc: view.regs.pc,
             registers: view.regs.r,
-            status: number_of(view.status),
+            status: status_number(view.status),
             job: view.context.job,
             context: view.context.k,
         }
@@ -81,7 +81,7 @@ impl SlotState {
 }
 
 /// The number of a status.
-fn number_of(status: ThreadStatus) -> u32
+fn status_number(status: ThreadStatus) -> u32
     ensures { result ≡ status_number status }
 {
     match status {
@@ -93,7 +93,7 @@ fn number_of(status: ThreadStatus) -> u32
 }
 
 /// What a thread ended with, or the number of its fault; else 0.
-fn code_of(status: ThreadStatus) -> u64
+fn status_code(status: ThreadStatus) -> u64
     ensures { result ≡ status_code status }
 {
     match status {
