@@ -18,7 +18,6 @@ use Rattle.lwc_base.specs.Sharing.{is_moved}
 use Rattle.lwc_base.specs.World.{Group, group}
 use Rattle.lwc_types.specs.declared.key.Key.{Key}
 use Rattle.lwc_types.specs.declared.key.Key.TheVariants.{Page}
-use Rattle.lwc_types.specs.declared.key.Kind.TheVariants as kinds
 use Rattle.lwc_types.specs.declared.name.Name.{Name}
 use Rattle.lwc_types.specs.declared.page.PageValue.{PageValue}
 use Rattle.range_map.specs.Kinds.{IsSegment, is_between, kind_of, state_at, state_in, state_of}

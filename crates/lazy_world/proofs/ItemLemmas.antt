@@ -9,12 +9,11 @@ use Rattle.lwc_base.specs.declared.item.Item.{Item}
 use Rattle.lwc_base.specs.declared.item.Mode.{Mode}
 use Rattle.lwc_base.specs.declared.item.Mode.TheVariants.{Copy, Share}
 use Rattle.lwc_base.specs.Capabilities.{has_bit}
-use Rattle.lwc_base.specs.Modes.{mode, names}
+use Rattle.lwc_base.specs.Modes.{mode}
 use Rattle.lwc_base.specs.Sharing.{needs_group}
 use Rattle.lwc_base.specs.World.{World}
 use Rattle.lwc_types.specs.declared.key.Key.{Key}
 use Rattle.lwc_types.specs.declared.key.Key.TheVariants.{Slot}
-use Rattle.lwc_types.specs.declared.key.Kind.TheVariants as kind
 use Rattle.lwc_types.specs.declared.name.Name.{Name}
 use Rattle.fd_table.specs.Slots as slots
 use Rattle.access_cap.proofs.Bits.{has_bit-or}
