@@ -1,5 +1,5 @@
 divert(-1)
-; Macros for guests, for GNU m4: scripts/assemble runs it on a source whose name ends in .m4, or type
+; Macros for guests, for GNU m4: tools/assemble runs it on a source whose name ends in .m4, or type
 ;     m4 -I guests guests/greeter.s.m4 > greeter.s
 ; Each macro acts only where `(' follows its name, so that a label or a word may have that name too. In a comment
 ; nothing is a macro. An unknown name ends m4 with a line that says so.

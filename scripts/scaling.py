@@ -9,7 +9,7 @@ import time
 from collections import Counter
 from collections.abc import Sequence
 
-from kinds import WHILE_A_GROUP_LIVES, living
+from step_costs import WHILE_A_GROUP_LIVES, living
 from timing import check, image_of, seconds_of, source_of, start, text_of, written
 
 REQUESTS = 1024

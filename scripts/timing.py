@@ -8,7 +8,9 @@ import time
 from collections.abc import Sequence
 from functools import cache
 
-from program import NAME, TOP, find_program, give_up
+from lwcrun_tools.checkout import TOP
+from lwcrun_tools.command import NAME, give_up
+from lwcrun_tools.program import find_program
 
 MOST_SECONDS = 120
 

@@ -1,4 +1,4 @@
-"""scripts/assemble: where a refusal is, why, and what an image's parts come from."""
+"""tools/assemble: where a refusal is, why, and what an image's parts come from."""
 
 from __future__ import annotations
 
@@ -7,9 +7,9 @@ import subprocess
 from pathlib import Path
 
 import pytest
-from conftest import SCRIPTS
-from program import WorkFolder
-from sources import Line, Reasons, Source, unmarked
+from conftest import TOOLS
+from lwcrun_tools.command import WorkFolder
+from lwcrun_tools.guest_source import Line, Reasons, Source, unmarked
 
 HEAD = ".entry 0\n"
 
@@ -20,9 +20,9 @@ def source_of(text: str) -> Source:
 
 
 def assemble(folder: Path, name: str, text: str, *words: str) -> subprocess.CompletedProcess[str]:
-    """Runs scripts/assemble on a source in a folder of its own."""
+    """Runs tools/assemble on a source in a folder of its own."""
     (folder / name).write_text(text, encoding="latin-1")
-    command = [str(SCRIPTS / "assemble"), name, *words]
+    command = [str(TOOLS / "assemble"), name, *words]
     return subprocess.run(command, cwd=folder, capture_output=True, text=True, timeout=120, check=False)
 
 

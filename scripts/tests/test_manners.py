@@ -8,12 +8,16 @@ import time
 from pathlib import Path
 
 import pytest
-from conftest import SCRIPTS, TOP
+from conftest import SCRIPTS, TOOLS, TOP
 
 # Scripts in shell, and ones that take what they are given to the program, read no options of their own.
-NAMES = sorted(
-    it.name for it in SCRIPTS.iterdir() if it.is_file() and os.access(it, os.X_OK) and "run_script" in it.read_text()
-)
+COMMANDS = {
+    it.name: it
+    for folder in (SCRIPTS, TOOLS)
+    for it in sorted(folder.iterdir())
+    if it.is_file() and os.access(it, os.X_OK) and "run_script" in it.read_text()
+}
+NAMES = list(COMMANDS)
 NEED_PROGRAM = [
     "bench", "check-all", "check-alloc-faults", "check-guests", "check-io-faults", "check-replays", "check-serves",
     "check-vaults",
@@ -22,7 +26,7 @@ NEED_PROGRAM = [
 
 def ended(name: str, *words: str, **more: str) -> subprocess.CompletedProcess[str]:
     """How a script ends on these words."""
-    command, settings = [str(SCRIPTS / name), *words], {**os.environ, **more}
+    command, settings = [str(COMMANDS[name]), *words], {**os.environ, **more}
     return subprocess.run(command, env=settings, capture_output=True, text=True, timeout=120, check=False)
 
 
@@ -43,7 +47,7 @@ def test_an_option_that_it_does_not_take(name: str) -> None:
 @pytest.mark.parametrize("name", NAMES)
 def test_a_full_disk(name: str) -> None:
     with open("/dev/full", "wb") as full:
-        done = subprocess.run([SCRIPTS / name, "--help"], stdout=full, stderr=subprocess.PIPE, text=True, check=False)
+        done = subprocess.run([COMMANDS[name], "--help"], stdout=full, stderr=subprocess.PIPE, text=True, check=False)
     assert done.returncode != 0
     assert len(done.stderr.splitlines()) == 1 and "Traceback" not in done.stderr
 
@@ -52,7 +56,7 @@ def test_a_full_disk(name: str) -> None:
 def test_a_closed_pipe(name: str) -> None:
     reading, writing = os.pipe()
     os.close(reading)
-    done = subprocess.run([SCRIPTS / name, "--help"], stdout=writing, stderr=subprocess.PIPE, text=True, check=False)
+    done = subprocess.run([COMMANDS[name], "--help"], stdout=writing, stderr=subprocess.PIPE, text=True, check=False)
     os.close(writing)
     assert (done.returncode, done.stderr) == (141, "")
 
@@ -73,7 +77,7 @@ def test_a_signal_leaves_nothing(name: str, tmp_path: Path) -> None:
     work = tmp_path / "work"
     work.mkdir()
     files = [str(TOP / "guests" / f"counter_handler.{kind}") for kind in ("lwc", "requests")]
-    words = [str(SCRIPTS / name), *(files if name == "serve-many" else [])]
+    words = [str(COMMANDS[name]), *(files if name == "serve-many" else [])]
     settings = {**os.environ, "LWCRUN": str(slow), "TMPDIR": str(work)}
     with subprocess.Popen(words, env=settings, stdout=subprocess.DEVNULL, stderr=subprocess.PIPE, text=True) as begun:
         while not (tmp_path / "begun").exists() and begun.poll() is None:

@@ -2,11 +2,10 @@
 
 from __future__ import annotations
 
-import shutil
 import subprocess
 from pathlib import Path
 
-from conftest import SCRIPTS
+from conftest import SCRIPTS, copy_scripts
 
 # Each line that makes an error ends in a comment that says so.
 SOURCE = """
@@ -48,9 +47,7 @@ impl From<AllocError> for Fault {
 
 
 def test_the_places_of_a_source(tmp_path: Path) -> None:
-    (tmp_path / "scripts").mkdir()
-    for file in [SCRIPTS / "check-memory-errors", *SCRIPTS.glob("*.py")]:
-        shutil.copy(file, tmp_path / "scripts")
+    copy_scripts(tmp_path, SCRIPTS / "check-memory-errors")
     (tmp_path / "crates" / "planted" / "src").mkdir(parents=True)
     (tmp_path / "crates" / "planted" / "src" / "lib.rt").write_text(SOURCE, encoding="utf-8")
     words = [str(tmp_path / "scripts" / "check-memory-errors"), "--print"]

@@ -5,11 +5,11 @@ from __future__ import annotations
 from pathlib import Path
 
 import pytest
-from images import Image
-from names import Item, answer, arguments, number, read_items, refusals_in, registers_line, status
-from places import Input, refusal
-from probes import probe_image, probe_schedule, room
-from run_report import Thread
+from lwcrun_tools.images import Image
+from lwcrun_tools.machine_names import Item, answer, arguments, number, read_items, refusals_in, registers_line, status
+from lwcrun_tools.probes import probe_image, probe_schedule, room
+from lwcrun_tools.refusals import Input, refusal
+from lwcrun_tools.run_report import Thread
 
 TWO_64 = 2**64
 

@@ -6,8 +6,8 @@ import json
 import subprocess
 
 import pytest
-from conftest import SCRIPTS
-from run_report import Context, ReportError, read_report, shows_alone
+from conftest import TOOLS
+from lwcrun_tools.run_report import Context, ReportError, read_report, shows_alone
 
 REGISTERS = " ".join(["0"] * 14 + ["18446744073709551615", "7"])
 # What README's server prints.
@@ -88,7 +88,7 @@ def test_what_shows_that_replies_are_those_alone() -> None:
 
 
 def in_json(text: str) -> "subprocess.CompletedProcess[str]":
-    return subprocess.run([SCRIPTS / "report-json"], input=text, capture_output=True, text=True, check=False)
+    return subprocess.run([TOOLS / "report-json"], input=text, capture_output=True, text=True, check=False)
 
 
 def test_json_of_a_serve() -> None:

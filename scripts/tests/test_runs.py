@@ -5,9 +5,9 @@ from __future__ import annotations
 import subprocess
 from pathlib import Path
 
-from conftest import SCRIPTS, TOP
-from run_report import read_report
-from runs import MONITOR, SERVE, VAULT, difference, in_order, kind_of, schedule_in
+from conftest import TOOLS, TOP
+from lwcrun_tools.replayed_run import MONITOR, SERVE, VAULT, difference, in_order, kind_of, schedule_in
+from lwcrun_tools.run_report import read_report
 
 GUESTS = TOP / "guests"
 PLAIN_REPORT = """thread 0 done 0 ctx 0.0 pc 3
@@ -36,7 +36,7 @@ schedule 00000000
 def lines(*words: str | Path) -> tuple[int, list[str], list[str]]:
     """The status and the lines of a script."""
     done = subprocess.run(
-        [SCRIPTS / words[0], *words[1:]], input="", capture_output=True, text=True, timeout=300, check=False
+        [TOOLS / words[0], *words[1:]], input="", capture_output=True, text=True, timeout=300, check=False
     )
     return done.returncode, done.stdout.splitlines(), done.stderr.splitlines()
 

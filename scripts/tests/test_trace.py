@@ -6,7 +6,7 @@ import subprocess
 from pathlib import Path
 
 import pytest
-from conftest import SCRIPTS, TOP
+from conftest import TOOLS, TOP
 
 GUESTS = TOP / "guests"
 
@@ -42,7 +42,7 @@ STW r4, r4, 0
 def trace(source: Path | str, schedule: Path, *words: str | Path) -> list[list[str]]:
     """The lines of a trace, each as the words in front of the call, and the call."""
     done = subprocess.run(
-        [SCRIPTS / "trace", source, schedule, *words], capture_output=True, text=True, timeout=500, check=True
+        [TOOLS / "trace", source, schedule, *words], capture_output=True, text=True, timeout=500, check=True
     )
     return [line.split() for line in done.stdout.splitlines()[1:]]
 
@@ -57,7 +57,7 @@ def traced(folder: Path, source: str, steps: int, *words: str) -> list[str]:
 def answers(commands: str, *words: str | Path) -> list[str]:
     """What debug answers to commands."""
     done = subprocess.run(
-        [SCRIPTS / "debug", *words], input=commands, capture_output=True, text=True, timeout=500, check=True
+        [TOOLS / "debug", *words], input=commands, capture_output=True, text=True, timeout=500, check=True
     )
     return done.stdout.splitlines()
 
@@ -209,6 +209,6 @@ def test_what_debug_cannot_show(program: str) -> None:
 )
 def test_find_change(program: str, what: list[str], said: str) -> None:
     assert program
-    words = [str(it) for it in (SCRIPTS / "find-change", GUESTS / "store_load.lwc", GUESTS / "store_load.schedule")]
+    words = [str(it) for it in (TOOLS / "find-change", GUESTS / "store_load.lwc", GUESTS / "store_load.schedule")]
     done = subprocess.run([*words, *what], capture_output=True, text=True, timeout=300, check=False)
     assert (done.stdout.splitlines()[0], done.returncode) == (said, 1 if "same" in said else 0)

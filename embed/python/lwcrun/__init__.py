@@ -2,23 +2,20 @@
 
 The shared library is the one that embed/build makes, or the one that the variable LWCRUN_LIBRARY names. A call that
 library answers with another status than 0 raises `LwcrunError`, which has the status and the program's message.
-Reports are read by the scripts' own module, scripts/run_report.py.
+Reports are read by the module of the tools, tools/lwcrun_tools/run_report.py.
 """
 
 from __future__ import annotations
 
 import ctypes
 import os
-import sys
 from collections.abc import Iterable, Mapping, Sequence
 from dataclasses import dataclass
 from enum import IntEnum
 
-TOP = os.path.dirname(os.path.dirname(os.path.dirname(os.path.realpath(__file__))))
-sys.path.insert(0, os.path.join(TOP, "scripts"))
+from lwcrun.run_report import Report, read_report
 
-# pylint: disable-next=wrong-import-position
-from run_report import Report, read_report  # noqa: E402
+TOP = os.path.dirname(os.path.dirname(os.path.dirname(os.path.dirname(os.path.realpath(__file__)))))
 
 PAGE_BYTES = 4096
 MOST_STEPS = 16_000_000

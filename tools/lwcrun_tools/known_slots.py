@@ -9,7 +9,7 @@ known, what they may have changed is not known either.
 from collections.abc import Iterable
 from dataclasses import dataclass
 
-from names import Item
+from lwcrun_tools.machine_names import Item
 
 SLOTS = 64
 CONTEXT = "context "

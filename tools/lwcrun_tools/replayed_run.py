@@ -11,13 +11,14 @@ import threading
 from collections.abc import Callable, Sequence
 from dataclasses import dataclass
 
-from images import Image, read_image
-from line import OPTIONS
-from names import TRAP
-from places import IMAGE, REQUESTS, SCHEDULE, SCRIPT, Input, Refused, call_program, read_file
-from program import WorkFolder, find_program
-from run_report import Report, ReportError, read_report
-from sources import Source, read_source
+from lwcrun_tools.command import WorkFolder
+from lwcrun_tools.command_line import OPTIONS
+from lwcrun_tools.guest_source import Source, read_source
+from lwcrun_tools.images import Image, read_image
+from lwcrun_tools.machine_names import TRAP
+from lwcrun_tools.program import find_program
+from lwcrun_tools.refusals import IMAGE, REQUESTS, SCHEDULE, SCRIPT, Input, Refused, call_program, read_file
+from lwcrun_tools.run_report import Report, ReportError, read_report
 
 PLAIN, SERVE, MONITOR, VAULT = "plain", "serve", "monitor", "vault"
 KINDS = {PLAIN: "a plain run", SERVE: "a serve", MONITOR: "a run under a monitor", VAULT: "a run beside a vault"}

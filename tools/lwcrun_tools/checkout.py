@@ -10,7 +10,10 @@ TYPE_CHECKING = False
 if TYPE_CHECKING:
     from collections.abc import Iterable, Iterator
 
-TOP = os.path.dirname(os.path.dirname(os.path.realpath(__file__)))
+TOP = os.path.dirname(os.path.dirname(os.path.dirname(os.path.realpath(__file__))))
+GUESTS = os.path.join(TOP, "guests")
+TOOLS = os.path.join(TOP, "tools")
+LAUNCHER = os.path.join(TOP, "lwcrun")
 CRATES = os.path.join(TOP, "crates.txt")
 PARTS = ("src", "specs", "proofs")
 HOME = os.path.join(TOP, "crates", "lwcrun")

@@ -7,7 +7,9 @@ import struct
 from collections.abc import Callable, Iterator
 
 from counting import counts_of
-from program import TOP, WorkFolder, run_program
+from lwcrun_tools.checkout import TOP
+from lwcrun_tools.command import WorkFolder
+from lwcrun_tools.processes import run_program
 
 # The steps of a short and a long run, fewer where they are dear, and the requests of such serves: what is counted is
 # the difference.

@@ -12,9 +12,10 @@ import subprocess
 from collections.abc import Iterator
 from dataclasses import dataclass, field
 
-from images import FIRST_INSTRUCTION, PAGE
-from places import IMAGE, REASONS, REFUSAL, Input, Refused, at_place, call_program
-from program import GUESTS, WorkFolder
+from lwcrun_tools.checkout import GUESTS
+from lwcrun_tools.command import WorkFolder
+from lwcrun_tools.images import FIRST_INSTRUCTION, PAGE
+from lwcrun_tools.refusals import IMAGE, REASONS, REFUSAL, Input, Refused, at_place, call_program
 
 MACROS = os.path.join(GUESTS, "lwc.m4")
 MARK = re.compile(r'#line (\d+)(?: "(.*)")?$')

@@ -8,9 +8,10 @@ said to be.
 
 from dataclasses import dataclass, field
 
-from images import PAGE
-from memory import Memory
-from names import (
+from lwcrun_tools.images import PAGE
+from lwcrun_tools.known_memory import Memory
+from lwcrun_tools.known_slots import CONTEXT, NOT_KNOWN, NO_KEYS, Slots, Value
+from lwcrun_tools.machine_names import (
     BEHALF,
     CALLS,
     CLOSE,
@@ -34,10 +35,9 @@ from names import (
     refusal_of,
     status,
 )
-from run_report import Context, Report
-from runs import SERVE, VAULT, VAULT_CONTEXT, VAULT_SLOT, Run
-from slots import CONTEXT, NO_KEYS, NOT_KNOWN, Slots, Value
-from turns import Turn
+from lwcrun_tools.replayed_run import SERVE, VAULT, VAULT_CONTEXT, VAULT_SLOT, Run
+from lwcrun_tools.run_report import Context, Report
+from lwcrun_tools.step_states import Turn
 
 WORDS = {"LDB": "byte", "STB": "byte", "LDW": "word", "STW": "word"}
 

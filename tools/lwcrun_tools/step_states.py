@@ -6,12 +6,12 @@ from collections.abc import Callable, Iterable, Iterator
 from dataclasses import dataclass
 from typing import TypeVar
 
-import probes
-from names import Item
-from places import call_program
-from program import Progress
-from run_report import Report, Thread, thread_of
-from runs import MOST_COMMANDS, PLAIN, Run
+from lwcrun_tools import probes
+from lwcrun_tools.command import Progress
+from lwcrun_tools.machine_names import Item
+from lwcrun_tools.refusals import call_program
+from lwcrun_tools.replayed_run import MOST_COMMANDS, PLAIN, Run
+from lwcrun_tools.run_report import Report, Thread, thread_of
 
 JOBS = len(os.sched_getaffinity(0))
 Given = TypeVar("Given")

@@ -1,31 +1,23 @@
-"""What the scripts have in common: how one reads its words and ends, where the program is and how it is run."""
+"""What all commands have in common: how one reads its words, says something, shows its progress and ends."""
 
 from __future__ import annotations
 
 import argparse
-import hashlib
 import io
 import os
 import signal
-import subprocess
 import sys
 import tempfile
 import time
-from collections.abc import Callable, Iterator, Sequence
-from contextlib import contextmanager, suppress
+from collections.abc import Callable
 from types import FrameType
-from typing import IO, TYPE_CHECKING, Any, NoReturn
-
-from checkout import PROGRAM
-from checkout import TOP as TOP
+from typing import TYPE_CHECKING, NoReturn
 
 if TYPE_CHECKING:
     from _typeshed import SupportsWrite
 
-GUESTS = os.path.join(TOP, "guests")
-LAUNCHER = os.path.join(TOP, "lwcrun")
 NAME = os.path.basename(sys.argv[0])
-# Statuses of the scripts, of which the program has the first three too, and one of tests.
+# Statuses of the commands, of which the program has the first three too, and one of tests.
 FAILED, CANNOT_READ, CANNOT_WRITE, SKIPPED = 1, 3, 4, 77
 
 
@@ -115,92 +107,6 @@ def at_least(least: int) -> Callable[[str], int]:
         return int(word)
 
     return number
-
-
-def find_program(given: str | None = None) -> str:
-    """The program that is given, or that LWCRUN names, or else this checkout's, built first where it has to be."""
-    named = given or os.environ.get("LWCRUN")
-    if named:
-        if not (os.path.isfile(named) and os.access(named, os.X_OK)):
-            give_up(f"{NAME}: no program is at {named}", FAILED)
-        return os.path.realpath(named)
-    # The launcher takes a moment each time, so it runs once, on a small image, and the program itself after that.
-    status = run_child([LAUNCHER, "dis", os.path.join(GUESTS, "store_load.lwc")], subprocess.DEVNULL)
-    if status != 0:
-        sys.exit(status)
-    return PROGRAM
-
-
-def run_child(words: Sequence[str], out: int | None = None) -> int:
-    """Runs a script, which ends what it has begun when it is told to end. Answers its status."""
-    with subprocess.Popen(words, stdin=subprocess.DEVNULL, stdout=out) as child:
-        try:
-            status = child.wait()
-        except BaseException:
-            child.terminate()
-            raise
-    return status if status >= 0 else 128 - status
-
-
-def run_program(words: Sequence[str]) -> bytes:
-    """What the program writes for the words; where its status is not 0, the script ends with its line and status."""
-    done = subprocess.run(words, stdin=subprocess.DEVNULL, capture_output=True, check=False)
-    if done.returncode != 0:
-        said = done.stderr.decode(errors="replace").strip()
-        give_up(said or f"{words[0]}: status {done.returncode}", done.returncode)
-    return done.stdout
-
-
-@contextmanager
-def in_session(words: Sequence[str], folder: str, out: IO[Any], **more: str) -> Iterator[subprocess.Popen[bytes]]:
-    """A program that runs in a folder, with more variables, in a session of its own. When the script leaves it, also
-    by a signal, whatever the program has begun is ended. What it writes and says goes to one file."""
-    process = subprocess.Popen(
-        words,
-        cwd=folder,
-        env={**os.environ, **more},
-        stdin=subprocess.DEVNULL,
-        stdout=out,
-        stderr=out,
-        start_new_session=True,
-    )
-    try:
-        yield process
-    finally:
-        while members := processes_of(process.pid):
-            for member in members:
-                with suppress(ProcessLookupError):
-                    os.kill(member, signal.SIGKILL)
-            process.wait()
-            time.sleep(0.01)
-
-
-def processes_of(session: int) -> list[int]:
-    """The processes of a session that have not ended."""
-    found = []
-    for name in filter(str.isdigit, os.listdir("/proc")):
-        with suppress(OSError):
-            if os.getsid(int(name)) == session:
-                with open(f"/proc/{name}/stat", encoding="ascii", errors="replace") as file:
-                    state = file.read().rpartition(")")[2].split()[0]
-                if state not in "ZX" or int(name) == session:
-                    found.append(int(name))
-    return found
-
-
-def sum_of(file: str) -> str:
-    """The sum of a file's bytes."""
-    with open(file, "rb") as content:
-        return hashlib.sha256(content.read()).hexdigest()
-
-
-def output_of(words: Sequence[str]) -> str:
-    """What a command prints, without the last line feed; nothing where it is not there or fails."""
-    try:
-        done = subprocess.run(words, stdin=subprocess.DEVNULL, capture_output=True, check=False)
-    except OSError:
-        return ""
-    return done.stdout.decode(errors="replace").strip() if done.returncode == 0 else ""
 
 
 class WorkFolder:

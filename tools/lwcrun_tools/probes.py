@@ -9,8 +9,8 @@ of the HALT and all registers. Nothing here runs an instruction.
 import struct
 from dataclasses import dataclass
 
-from images import Image
-from run_report import Thread, read_report
+from lwcrun_tools.images import Image
+from lwcrun_tools.run_report import Thread, read_report
 
 MOST_INSTRUCTIONS, MOST_THREADS = 65536, 16
 FIRST_SHARED, LI, LIH, ADDI, JMP, JNZ, HALT = 32, 1, 2, 16, 17, 19, 37

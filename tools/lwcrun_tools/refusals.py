@@ -11,7 +11,7 @@ import sys
 from collections.abc import Callable, Iterable, Sequence
 from dataclasses import dataclass
 
-from program import NAME, give_up
+from lwcrun_tools.command import NAME, give_up
 
 WIDE = 100
 REFUSAL = re.compile(r"lwcrun: (image|input) refused: (\w+) at (\d+)$")
@@ -38,7 +38,7 @@ REASONS = {
     "TooManySteps": "a schedule has at most 16000000 steps, and for debug 100000",
     "OddLength": "a request is pairs of hexadecimal digits, and the last digit of this line is alone",
     "RequestTooLong": "a request has at most 4096 bytes, which are 8192 digits",
-    "TooManyRequests": "a request file has at most 1024 lines; scripts/serve-many takes more",
+    "TooManyRequests": "a request file has at most 1024 lines; tools/serve-many takes more",
     "TooMuchWork": "requests * (budget + 1) + workers is above 16000000; lower --budget, or take fewer requests",
     "BadCommand": "no command of the debugger: its words are parted by one space, and a number has one to nine digits",
     "TooManyCommands": "a script has at most 64 commands",
@@ -46,7 +46,7 @@ REASONS = {
     "Truncated": "the file ends here, inside a part of it or before one that has to be there",
     "SlotTaken": "the image has a file in slot 63, which the vault needs",
     "Trailing": "bytes follow the last entry of the image",
-    "BadMagic": "an image begins with LWC1 or LWC2; a source has to be assembled first, as scripts/assemble does",
+    "BadMagic": "an image begins with LWC1 or LWC2; a source has to be assembled first, as tools/assemble does",
     "BadCount": "a count of the header is out of its range",
     "BadInstruction": "these eight bytes are no instruction",
     "BadTarget": "a jump to an instruction behind the last one",

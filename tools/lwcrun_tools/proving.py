@@ -18,9 +18,22 @@ import sys
 import time
 from collections.abc import Iterable
 
-from program import say, sum_of
-from checkout import BUILT, HOME, LIBRARIES, PROGRAM, TOP, Look
-from checkout import crates_of_program, files_of, is_built, looks_of, state_of, uses_of_crates
+from lwcrun_tools.checkout import (
+    BUILT,
+    HOME,
+    LIBRARIES,
+    PROGRAM,
+    TOP,
+    Look,
+    crates_of_program,
+    files_of,
+    is_built,
+    looks_of,
+    state_of,
+    uses_of_crates,
+)
+from lwcrun_tools.command import say
+from lwcrun_tools.toolchain import sum_of
 
 # What a check may take, in bytes.
 MEMORY = 4_000_000_000

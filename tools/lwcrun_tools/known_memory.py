@@ -2,10 +2,10 @@
 
 from collections.abc import Sequence
 
-from images import PAGE, read_vault
-from names import ITEMS, MOST_ITEMS, Item, read_items
-from runs import MOST_STEPS_OF_DEBUG, PLAIN, VAULT, VAULT_CONTEXT, Run
-from turns import Turn
+from lwcrun_tools.images import PAGE, read_vault
+from lwcrun_tools.machine_names import ITEMS, MOST_ITEMS, Item, read_items
+from lwcrun_tools.replayed_run import MOST_STEPS_OF_DEBUG, PLAIN, VAULT, VAULT_CONTEXT, Run
+from lwcrun_tools.step_states import Turn
 
 
 class Memory:

@@ -1,0 +1,1 @@
+../../../tools/lwcrun_tools/run_report.py
