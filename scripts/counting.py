@@ -7,7 +7,7 @@ import re
 import subprocess
 from collections.abc import Sequence
 
-from lwcrun_tools.command import FAILED, NAME, give_up
+from lwcrun_tools.exits import FAILED, NAME, give_up
 
 # Tells the C library to clear and copy no memory by single bytes, which callgrind would count one by one.
 NO_STRINGS = "glibc.cpu.x86_rep_stosb_threshold=1000000000:glibc.cpu.x86_rep_movsb_threshold=1000000000"

@@ -9,7 +9,7 @@ from collections.abc import Sequence
 from functools import cache
 
 from lwcrun_tools.checkout import TOP
-from lwcrun_tools.command import NAME, give_up
+from lwcrun_tools.exits import NAME, give_up
 from lwcrun_tools.program import find_program
 
 MOST_SECONDS = 120

@@ -10,7 +10,6 @@ from types import ModuleType
 from conftest import SCRIPTS
 
 
-
 def script(name: str) -> ModuleType:
     """A script as a module."""
     called = name.replace("-", "_")

@@ -1,4 +1,5 @@
-"""The sources of the program: which crates it stands on, their files, and whether the program was made of them."""
+"""The sources of the program: which crates it stands on, their files, the toolchain, and whether the proved program
+was made of them."""
 
 from __future__ import annotations
 
@@ -17,7 +18,12 @@ LAUNCHER = os.path.join(TOP, "lwcrun")
 CRATES = os.path.join(TOP, "crates.txt")
 PARTS = ("src", "specs", "proofs")
 HOME = os.path.join(TOP, "crates", "lwcrun")
+# The proved program of a checkout, one that is compiled with nothing proved, and the one of a download.
 PROGRAM = os.path.join(HOME, "out", "lwcrun")
+UNPROVED = os.path.join(TOP, "out", "unproved", "lwcrun")
+PACKED = os.path.join(TOP, "bin", "lwcrun")
+# What a download says of its program: the commit, the toolchain and the sum of the proof.
+BUILD = os.path.join(TOP, "BUILD.txt")
 # The one folder of a crate's out/ in which `rt ci` allows sources, and which it puts back at its end.
 LIBRARIES = os.path.join(HOME, "out", "rlib")
 # The state of the checkout when the launcher built the program.
@@ -79,6 +85,32 @@ def files_of(name: str, parts: Iterable[str] = PARTS) -> Iterator[os.DirEntry[st
         yield from files_in(os.path.join(TOP, "crates", name, part))
 
 
+def has_sources() -> bool:
+    """Whether this is a checkout; a download has no sources of the program."""
+    return os.path.exists(CRATES)
+
+
+def kit_of() -> str | None:
+    """The folder of the toolchain, by its command `rt`; None where that is not on the path."""
+    # `shutil.which` would do; its module takes long to import.
+    for folder in os.environ.get("PATH", os.defpath).split(os.pathsep):
+        command = os.path.join(folder, "rt")
+        if os.access(command, os.X_OK) and not os.path.isdir(command):
+            return os.path.dirname(os.path.dirname(os.path.realpath(command)))
+    return None
+
+
+def files_of_kit(kit: str) -> list[str]:
+    """The files of the toolchain that say which one it is."""
+    return [os.path.join(kit, name) for name in ("KIT-ID", "WHAT")]
+
+
+def looks_of_kit() -> list[Look]:
+    """How the files look that say which toolchain is on the path; none where none is there."""
+    kit = kit_of()
+    return [look_of(name, os.stat(name)) for name in files_of_kit(kit)] if kit else []
+
+
 def looks_of(names: Iterable[str]) -> list[Look]:
     """How crates.txt and the files of these crates look."""
     looks = [look_of(CRATES, os.stat(CRATES))]
@@ -91,9 +123,9 @@ def look_of(name: str, state: os.stat_result) -> Look:
 
 
 def state_of(looks: list[Look]) -> str:
-    """The state of the checkout: how the files look, and the program."""
+    """The state of the checkout: how the files look, and the program; in another line, the toolchain."""
     state = os.stat(PROGRAM)
-    return repr((looks, state.st_mtime_ns, state.st_size))
+    return f"{(looks, state.st_mtime_ns, state.st_size)!r}\n{looks_of_kit()!r}"
 
 
 def folders_in(folder: str) -> Iterator[str]:
@@ -106,9 +138,10 @@ def folders_in(folder: str) -> Iterator[str]:
 
 
 def places_of(names: list[str]) -> Places:
-    """How everything looks on which it rests whether the program is made of these crates: the program, each source, and
-    each folder of sources. A folder looks another way once a file comes or goes."""
-    places: Places = {name: (written, changed, size) for name, written, changed, size in looks_of(names)}
+    """How everything looks on which it rests whether the program is made of these crates: the program, each source,
+    each folder of sources, and the toolchain. A folder looks another way once a file comes or goes."""
+    looks = [*looks_of(names), *looks_of_kit()]
+    places: Places = {name: (written, changed, size) for name, written, changed, size in looks}
     for folder in (os.path.join(TOP, "crates", name, part) for name in names for part in PARTS):
         for it in folders_in(folder) if os.path.isdir(folder) else [folder]:
             places[it] = place_of(it)
@@ -130,7 +163,8 @@ def looks_as_seen() -> bool:
     try:
         with open(SEEN, "rb") as file:
             seen = marshal.loads(file.read())
-        return PROGRAM in seen and all(place_of(name) == look for name, look in seen.items())
+        known = [PROGRAM, *(files_of_kit(kit) if (kit := kit_of()) else [])]
+        return all(name in seen for name in known) and all(place_of(name) == look for name, look in seen.items())
     except (OSError, EOFError, ValueError, TypeError):
         return False
 
@@ -147,7 +181,10 @@ def keep_seen(places: Places) -> None:
 
 
 def is_built() -> bool:
-    """Whether the program is there, and made of the sources as they are: by the launcher, or by `rt ci`."""
+    """Whether the proved program is there, and made of the sources as they are: by the launcher, or by `rt ci`.
+    Another toolchain on the path would prove and make another one."""
+    if not os.path.exists(PROGRAM):
+        return False
     if looks_as_seen():
         return True
     try:
@@ -167,7 +204,10 @@ def is_made_of(names: list[str]) -> bool:
     looks = looks_of(names)
     if os.path.exists(BUILT):
         with open(BUILT, encoding="utf-8") as file:
-            return file.read() == state_of(looks)
+            built, state = file.read(), state_of(looks)
+        # Where no toolchain is on the path, any that proved the program will do.
+        return built == state if kit_of() else built.partition("\n")[0] == state.partition("\n")[0]
     # `rt ci` writes this file when it begins.
     begun = os.stat(os.path.join(TOP, ".git", "rt-ci.lock")).st_mtime_ns
+    looks += looks_of_kit()
     return begun <= os.stat(PROGRAM).st_mtime_ns and all(changed <= begun for _, _, changed, _ in looks)

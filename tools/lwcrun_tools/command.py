@@ -1,4 +1,4 @@
-"""What all commands have in common: how one reads its words, says something, shows its progress and ends."""
+"""What all commands have in common: how one begins and ends, reads its words, and shows its progress."""
 
 from __future__ import annotations
 
@@ -10,44 +10,46 @@ import sys
 import tempfile
 import time
 from collections.abc import Callable
-from types import FrameType
 from typing import TYPE_CHECKING, NoReturn
+
+from lwcrun_tools.exits import CANNOT_READ, CANNOT_WRITE, FAILED, NAME, Ended, end_by, give_up, raise_signals, say
 
 if TYPE_CHECKING:
     from _typeshed import SupportsWrite
 
-NAME = os.path.basename(sys.argv[0])
-# Statuses of the commands, of which the program has the first three too, and one of tests.
-FAILED, CANNOT_READ, CANNOT_WRITE, SKIPPED = 1, 3, 4, 77
-
 
 def run_script(main: Callable[[], int]) -> NoReturn:
-    """Runs a script and ends with the status that it answers. A signal, a closed pipe, an error of a file ends it too.
-    Each is raised in the script, so that its temporary folders and its programs go, and is told by a line at most."""
+    """Runs a command and ends with the status that it answers. A signal, a closed pipe, an error of a file ends it
+    too. Each is raised in the command, so that its temporary folders and its programs go, and is told by a line at
+    most; by a signal the command ends itself, as if it had not caught it."""
     if sys.stderr is None:
         sys.stderr = open(os.devnull, "w", encoding="ascii")
     if sys.stdout is None:
         give_up(f"{NAME}: standard output is closed", FAILED)
-    for number in (signal.SIGTERM, signal.SIGHUP):
-        signal.signal(number, end_by_signal)
+    raise_signals()
     for stream in (sys.stdout, sys.stderr):
         # A file's name may be no text: then it is shown by escapes.
         if isinstance(stream, io.TextIOWrapper):
             stream.reconfigure(errors="backslashreplace")
-    status = status_of(main)
+    ended = ending_of(main)
     try:
         sys.stdout.flush()
     except OSError:
         # What could not be written is let go: Python would try again at the end, and fail in many lines.
         os.dup2(os.open(os.devnull, os.O_WRONLY), sys.stdout.fileno())
-    sys.exit(status)
+    if ended < 0:
+        end_by(-ended)
+    sys.exit(ended)
 
 
-def status_of(main: Callable[[], int]) -> int:
-    """The status with which a script ends, and a line on standard error where it could not go on."""
+def ending_of(main: Callable[[], int]) -> int:
+    """The status with which a command ends, or below 0 the signal; and a line on standard error where it could not go
+    on."""
     try:
         try:
             status = main()
+        except Ended as ended:
+            return -ended.number
         except SystemExit as ended:
             status = ended.code if isinstance(ended.code, int) else FAILED if ended.code else 0
             if isinstance(ended.code, str):
@@ -55,33 +57,18 @@ def status_of(main: Callable[[], int]) -> int:
         sys.stdout.flush()
         return status
     except KeyboardInterrupt:
-        return 128 + signal.SIGINT
+        return -signal.SIGINT
     except BrokenPipeError:
-        return 128 + signal.SIGPIPE
+        return -signal.SIGPIPE
+    except MemoryError:
+        say("no memory")
+        return FAILED
     except OSError as error:
         say(f"{error.filename}: {error.strerror}" if error.filename else f"cannot write: {error.strerror}")
         return CANNOT_READ if error.filename else CANNOT_WRITE
     except UnicodeDecodeError as error:
         say(f"a file that should be text is not: {error.reason} at {error.start}")
         return FAILED
-
-
-def end_by_signal(number: int, _: FrameType | None) -> NoReturn:
-    """Ends the script by a signal, once: what is to be removed is removed, whatever comes meanwhile."""
-    for other in (signal.SIGTERM, signal.SIGHUP, signal.SIGINT):
-        signal.signal(other, signal.SIG_IGN)
-    sys.exit(128 + number)
-
-
-def say(line: str) -> None:
-    """Says a line on standard error, with the script's name before it."""
-    print(f"{NAME}: {line}", file=sys.stderr, flush=True)
-
-
-def give_up(line: str, status: int) -> NoReturn:
-    """Ends the script with a line on standard error. The status is above 128 where a signal ended what it is of."""
-    print(line, file=sys.stderr)
-    sys.exit(status if status >= 0 else 128 - status)
 
 
 class Parser(argparse.ArgumentParser):

@@ -52,8 +52,7 @@ STATUSES = {
     5: "the image, or the source, is refused",
     6: "the schedule, the requests, the script or the vault is refused",
     7: "the image has more pages than there are frames",
-    125: "the program could not be proved and built",
-    130: "Ctrl-C while it was being proved and built",
+    125: "there is no program, and it could not be made",
 }
 MOST_DIGITS = 9
 
@@ -71,7 +70,8 @@ def help_text() -> str:
         lines.append(f"  {option + ' ' + value.letter:14}{value.means}: {values};")
         lines.append(f"{'':16}of {modes_with(option)}")
     lines += [f"  {'--':14}what follows are files, also where one begins with a dash"]
-    lines += [f"  {'-h, --help':14}this text", f"  {'--version':14}which sources and which toolchain"]
+    lines += [f"  {'-h, --help':14}this text", f"  {'--version':14}which sources, which toolchain and which program"]
+    lines += [f"  {'--prove':14}alone in its line: proves and builds the program, which every line then runs"]
     lines += ["", "Statuses:", "", *(f"  {status:<5}{means}" for status, means in STATUSES.items())]
     lines += ["", "docs/FORMATS.md has all of this in full, and docs/USES.md lines to type."]
     return "\n".join(lines) + "\n"

@@ -10,7 +10,7 @@ from collections.abc import Iterator, Sequence
 from contextlib import contextmanager, suppress
 from typing import IO, Any
 
-from lwcrun_tools.command import give_up
+from lwcrun_tools.exits import give_up
 
 
 def run_child(words: Sequence[str], out: int | None = None) -> int:

@@ -27,13 +27,14 @@ from lwcrun_tools.checkout import (
     Look,
     crates_of_program,
     files_of,
+    files_of_kit,
     is_built,
     looks_of,
     state_of,
     uses_of_crates,
 )
-from lwcrun_tools.command import say
-from lwcrun_tools.toolchain import sum_of
+from lwcrun_tools.exits import say
+from lwcrun_tools.toolchain import NotMade, needed_kit, sum_of
 
 # What a check may take, in bytes.
 MEMORY = 4_000_000_000
@@ -80,7 +81,7 @@ class Crate:
         """Takes the stamp of all that the proof reads, after the crates below. Answers whether what is made has it."""
         self.looks = looks_of([self.name])
         read = [(os.path.relpath(file.path, TOP), sum_of(file.path)) for file in files_of(self.name)]
-        kit = [sum_of(os.path.join(self.kit, it)) for it in ("KIT-ID", "WHAT")]
+        kit = [sum_of(it) for it in files_of_kit(self.kit)]
         told = (kit, self.commands(0), [crates[it].stamp for it in self.below], read)
         self.stamp = hashlib.sha256(repr(told).replace(TOP, "").encode()).hexdigest()
         try:
@@ -256,11 +257,11 @@ def prove_and_build() -> bool:
     lock = lock_home()
     failed = None
     if not is_built():
-        rt = shutil.which("rt")
-        if not rt:
-            say("the toolchain's command rt is not on the path")
+        try:
+            kit = needed_kit()
+        except NotMade as error:
+            say(str(error))
             return False
-        kit = os.path.dirname(os.path.dirname(os.path.realpath(rt)))
         uses = uses_of_crates()
         os.makedirs(LIBRARIES, exist_ok=True)
         failed = Build({it: Crate(it, uses, kit) for it in crates_of_program(uses)}, lock).run()

@@ -11,7 +11,7 @@ import sys
 from collections.abc import Callable, Iterable, Sequence
 from dataclasses import dataclass
 
-from lwcrun_tools.command import NAME, give_up
+from lwcrun_tools.exits import NAME, give_up
 
 WIDE = 100
 REFUSAL = re.compile(r"lwcrun: (image|input) refused: (\w+) at (\d+)$")
