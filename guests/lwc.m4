@@ -9,6 +9,7 @@ divert(-1)
 ;     pages(share, 1, 3)           an item, of the pages 1 and 2: 32 hexadecimal digits
 ;     slots(leave_out, 0, 64)      an item, of slots
 ;     uid(copy)                    an item, of the credential
+;     closed()                     two items: leave out all slots and the uid, as a closed context wants it
 ;     byte(10) half(10) word(-1)   a number as one, four or eight bytes
 ;     text(`hello, world')         the bytes of a text of printable characters, but ` and '
 ;     zeros(8)                     so many bytes of zeros
@@ -51,6 +52,8 @@ define(`lwc_item', `lwc_quoted(lwc_bytes(`$1')`'lwc_bytes(lwc_name(`mode', `$2')
 define(`pages', `ifelse(`$#', 0, ``$0'', `lwc_item(0, `$1', `$2', `$3')')')
 define(`slots', `ifelse(`$#', 0, ``$0'', `lwc_item(1, `$1', `$2', `$3')')')
 define(`uid', `ifelse(`$#', 0, ``$0'', `lwc_item(2, `$1', 0, 1)')')
+
+define(`closed', `ifelse(`$#', 0, ``$0'', `slots(leave_out, 0, size(slots))uid(leave_out)')')
 
 ; The printable characters from 32 on; in the places of the two quotes, which no text has, are blanks.
 define(`lwc_printable',

@@ -8,7 +8,7 @@ include(`lwc.m4')dnl
 .page 0 word(3)word(4)word(5)
 .page 1 -
 .page 2 text(`secret')
-.page 3 pages(read_only, 0, 1)pages(share, 1, 2)pages(leave_out, 2, 4)slots(leave_out, 0, size(slots))uid(leave_out)
+.page 3 pages(read_only, 0, 1)pages(share, 1, 2)pages(leave_out, 2, 4)closed()
 top: LI r1, page(3)
 LI r2, 5
 SYS call(create)

@@ -1,12 +1,14 @@
 ; a sandbox: a plugin in a closed context, which shares page 1 with its caller and tries what it can; use its schedule, by replay or monitor
 ; in the end the caller's word is as before, which thread 1 loads into r7, and so are its slots and its uid; run needs --budget 100000, since thread 1 waits
+; a file of uid 0 that is not public
+.file 0 0 6b6579
 .entry caller
 .entry looks
-; items for the plugin: leave out all slots, leave out page 0, share page 1; and behind them a word of the caller's own
-.page 0 0100000002000000000000004000000000000000020000000000000001000000000000000100000001000000020000002a
+; items for the plugin: leave out all slots, the uid and page 0, share page 1; and behind them a word of the caller's own
+.page 0 010000000200000000000000400000000200000002000000000000000100000000000000020000000000000001000000000000000100000001000000020000002a
 ; the page in common, with an item of page 0 that the plugin will use
 .page 1 0000000000000000000000000000000000000000000000000000000001000000
-caller: LI r2, 3
+caller: LI r2, 4
 SYS 16
 LI r8, 0
 ADDI r8, r8, -1
@@ -36,13 +38,16 @@ LI r2, 1
 SYS 6
 MOV r13, r0
 LI r5, 7
-STB r5, r1, 48
-; it makes a copy of itself, becomes another uid, and writes to slot 1, where the caller has the console
+STB r5, r1, 64
+; it makes a copy of itself, tries to become another uid and to open a file that only uid 0 may open, and writes to slot 1, where the caller has the console
 LI r2, 0
 SYS 16
 MOV r14, r0
 LI r1, 5
 SYS 9
+LI r1, 0
+SYS 1
+MOV r8, r0
 LI r1, 1
 LI r2, 4096
 LI r3, 1
@@ -58,10 +63,10 @@ STB r5, r6, 4096
 looks: LI r6, 4096
 wait: LDB r5, r6, 0
 JZ r5, wait
-LDW r7, r4, 48
+LDW r7, r4, 64
 SYS 8
 LI r1, 1
-LI r2, 48
+LI r2, 64
 LI r3, 1
 SYS 5
 HALT

@@ -2,14 +2,17 @@
 
 from __future__ import annotations
 
+import os
 import shutil
 import subprocess
 from pathlib import Path
 
 import pytest
 from conftest import TOOLS
+from lwcrun_tools.assembling import Reasons
 from lwcrun_tools.command import WorkFolder
-from lwcrun_tools.guest_source import Line, Reasons, Source, unmarked
+from lwcrun_tools.guest_source import Source
+from lwcrun_tools.source_line import Line
 
 HEAD = ".entry 0\n"
 
@@ -41,18 +44,8 @@ def test_parts_of_an_image() -> None:
     # The header has 28 bytes, an instruction 8, a page 4 + 4096, a file 12 and its bytes, a slot 8, an entry 4.
     source = source_of(".entry 0\n.slot 2 0\n.file 0 1 aabbcc\n.page 0 -\nHALT")
     with WorkFolder() as work:
-        found = [(begin, end, line.number) for begin, end, line in Reasons(source, work).parts()]
+        found = [(begin, end, line.number) for begin, end, line in Reasons("lwcrun", source, work).parts()]
     assert found == [(28, 36, 5), (36, 4136, 4), (4136, 4151, 3), (4151, 4159, 2), (4159, 4163, 1)]
-
-
-def test_marks_of_m4() -> None:
-    text = '#line 1 "mine.s.m4"\n.entry 0\nLI r1, 1\n#line 2\nLI r2, 2\n#line 1 "other.m4"\nHALT'
-    assert [(it.file, it.number, it.text) for it in unmarked(text, "mine.s.m4")] == [
-        ("mine.s.m4", 1, ".entry 0"),
-        ("mine.s.m4", 2, "LI r1, 1"),
-        ("mine.s.m4", 2, "LI r2, 2"),
-        ("other.m4", 1, "HALT"),
-    ]
 
 
 REFUSED = [
@@ -107,12 +100,123 @@ def test_the_image_lies_beside_the_source(program: str, tmp_path: Path) -> None:
     assert (tmp_path / "mine.lwc").read_bytes().hex() == "4c574331" + counts + "2500000000000000" + "00000000"
 
 
-def test_places_behind_m4(program: str, tmp_path: Path) -> None:
+@pytest.mark.parametrize(("mask", "mode"), [(0o022, 0o644), (0o077, 0o600), (0o002, 0o664)])
+def test_who_may_read_the_image(program: str, tmp_path: Path, mask: int, mode: int) -> None:
+    """An image is a file as any other that the user makes."""
+    assert program
+    before = os.umask(mask)
+    try:
+        assert assemble(tmp_path, "mine.s", HEAD + "HALT\n").returncode == 0
+    finally:
+        os.umask(before)
+    assert (tmp_path / "mine.lwc").stat().st_mode & 0o777 == mode
+
+
+def expanded(folder: Path, text: str, *words: str) -> subprocess.CompletedProcess[str]:
+    """Runs assemble on a source with macros."""
     if not shutil.which("m4"):
         pytest.skip("GNU m4 is not there")
+    return assemble(folder, "mine.s.m4", text, "-o", "-", *words)
+
+
+def test_places_behind_m4(program: str, tmp_path: Path) -> None:
     assert program
     text = ".entry 0\n.page 0 pages(share, 1, 2)\nSYS call(close)\nADDI r2, r99, refusal(BadFd)\nHALT\n"
-    done = assemble(tmp_path, "mine.s.m4", f"include(`lwc.m4')dnl\n{text}")
+    done = expanded(tmp_path, f"include(`lwc.m4')dnl\n{text}")
     assert done.returncode == 5
     shown = ["mine.s.m4:5:10: BadOperand: registers are r0 to r15", "    ADDI r2, r99, -3"]
     assert done.stderr.splitlines()[:2] == shown
+
+
+def test_places_in_an_included_file(program: str, tmp_path: Path) -> None:
+    assert program
+    (tmp_path / "parts").mkdir()
+    (tmp_path / "parts" / "one.m4").write_text("LI r1, 1\ninclude(`parts/two.m4')dnl\nLI r99, 4\n")
+    (tmp_path / "parts" / "two.m4").write_text("LI r2, 2\nLI r2, 3\n")
+    done = expanded(tmp_path, ".entry 0\ninclude(`parts/one.m4')dnl\nHALT\n")
+    assert done.stderr.splitlines()[0].startswith("parts/one.m4:3:4: BadOperand: registers are r0 to r15")
+    (tmp_path / "parts" / "one.m4").write_text("LI r1, 1\ninclude(`parts/two.m4')dnl\nLI r3, 4")
+    done = expanded(tmp_path, ".entry 0\ninclude(`parts/one.m4')\nHALT\n", "--listing")
+    assert done.returncode == 2
+    listed = assemble(tmp_path, "mine.s.m4", (tmp_path / "mine.s.m4").read_text(), "--listing").stdout
+    assert listed.splitlines() == [
+        "    0     LI r1, 1  parts/one.m4:1",
+        "    1     LI r2, 2  parts/two.m4:1",
+        "    2     LI r2, 3  parts/two.m4:2",
+        "    3     LI r3, 4  parts/one.m4:3",
+        "    4     HALT      mine.s.m4:3",
+    ]
+
+
+COMMANDS = [
+    "syscmd(`touch planted')",
+    "esyscmd(`touch planted')",
+    "builtin(`syscmd', `touch planted')",
+    "indir(`syscmd', `touch planted')",
+    "define(`f', defn(`syscmd'))f(`touch planted')",
+    "pushdef(`syscmd', `x')popdef(`syscmd')syscmd(`touch planted')",
+    "debugfile(`planted')",
+    "maketemp(`plantedXXXXXX')",
+    "mkstemp(`plantedXXXXXX')",
+    "undefine(`include')syscmd(`touch planted')",
+]
+
+
+@pytest.mark.parametrize("command", COMMANDS)
+def test_a_source_runs_no_command(program: str, tmp_path: Path, command: str) -> None:
+    assert program
+    done = expanded(tmp_path, f"{command}dnl\n.entry 0\nHALT\n")
+    assert done.stdout == "" or done.stdout.startswith("LWC1")
+    assert [it.name for it in tmp_path.iterdir()] == ["mine.s.m4"]
+
+
+READS = [
+    "include(`{secret}')dnl",
+    "include(`../secret.m4')dnl",
+    "include(`link.m4')dnl",
+    "include(`/etc/passwd')dnl",
+    "include(`/dev/zero')dnl",
+    "sinclude(`{secret}')dnl",
+    "undivert(`{secret}')dnl",
+    " include(`{secret}')dnl",
+    "builtin(`include', `{secret}')dnl",
+    "indir(`include', `{secret}')dnl",
+    "define(`f', `include(`{secret}')')f`'dnl",
+]
+
+
+@pytest.mark.parametrize("command", READS)
+def test_a_source_reads_no_file_of_others(program: str, tmp_path: Path, command: str) -> None:
+    assert program
+    folder, secret = tmp_path / "mine", tmp_path / "secret.m4"
+    folder.mkdir()
+    secret.write_text("LI r1, 4242\n")
+    (folder / "link.m4").symlink_to(secret)
+    done = expanded(folder, f".entry 0\n{command.format(secret=secret)}\nHALT\n")
+    assert "4242" not in done.stdout + done.stderr and "root:" not in done.stderr
+    assert done.returncode in (1, 5) and done.stderr.startswith("mine.s.m4:2:")
+
+
+def test_an_error_of_m4_has_its_column(program: str, tmp_path: Path) -> None:
+    assert program
+    done = expanded(tmp_path, ".entry 0\nLI r1, 2\n    SYS call(raed)\n")
+    shown = ["mine.s.m4:3:14: m4: there is no call raed", "        SYS call(raed)", "                 ^"]
+    assert (done.returncode, done.stderr.splitlines()) == (1, shown)
+    done = expanded(tmp_path, ".entry 0\nHALT\n  text(`x\n")
+    assert done.returncode == 1 and done.stderr.startswith("mine.s.m4:3:3: m4: ")
+
+
+@pytest.mark.parametrize(
+    ("text", "said"),
+    [
+        ("define(`a', `a')a\n", "m4 takes longer than 5 seconds"),
+        ("define(`a', `a`'a')a\n", "m4"),
+        ("format(`%0999999999d', 0)\n", "m4"),
+        ("include(`mine.s.m4')dnl\n", "includes are nested at most 16 deep"),
+    ],
+)
+def test_a_source_without_end(program: str, tmp_path: Path, text: str, said: str) -> None:
+    assert program
+    done = expanded(tmp_path, text)
+    assert done.returncode in (1, 5) and said in done.stderr and "Traceback" not in done.stderr
+    assert len(done.stderr) < 2000

@@ -177,6 +177,7 @@ def macros(tmp_path: Path, text: str) -> subprocess.CompletedProcess[str]:
         ("pages(share, 1, 3)", "00000000010000000100000003000000"),
         ("slots(leave_out, 0, size(slots))", "01000000020000000000000040000000"),
         ("uid(copy)", "02000000000000000000000001000000"),
+        ("closed()closed", "0100000002000000000000004000000002000000020000000000000001000000closed"),
         ("pages(read_only, 2748, 2749)", "0000000003000000bc0a0000bd0a0000"),
         ("pages(copy, 10, 11)pages(copy, 171, 172)", 16 * "0" + "0a0000000b000000" + 16 * "0" + "ab000000ac000000"),
         ("byte(10)half(258)word(4294967295)word(-1)zeros(2)", "0a02010000ffffffff00000000" + "f" * 16 + "0000"),

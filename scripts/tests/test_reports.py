@@ -102,7 +102,8 @@ def test_json_of_a_serve() -> None:
         {"status": "none", "code": None, "fault": None, "bytes": None},
     ]
     assert found["contexts"] == [{"name": "0.1", "pages": 1, "slots": 0, "uid": 0}]
-    assert (found["traps"], found["groups"], found["console"], found["peak"]) == ([], 0, "", 2)
+    assert (found["traps"], found["groups"], found["console"]) == ([], 0, "")
+    assert (found["used"], found["peak"], found["steps"]) == (1, 2, 26)
     assert json.loads(in_json(streamed(SERVE)).stdout) == found
 
 

@@ -6,7 +6,8 @@ import subprocess
 from pathlib import Path
 
 from conftest import TOOLS, TOP
-from lwcrun_tools.replayed_run import MONITOR, SERVE, VAULT, difference, in_order, kind_of, schedule_in
+from lwcrun_tools.replayed_run import MONITOR, SERVE, VAULT, in_order
+from lwcrun_tools.run_of_line import difference, kind_of, schedule_in
 from lwcrun_tools.run_report import read_report
 
 GUESTS = TOP / "guests"
@@ -85,7 +86,8 @@ def test_a_report_of_another_run_is_refused(program: str, tmp_path: Path) -> Non
     report.write_text(PLAIN_REPORT.replace("regs 0 0 7 7", "regs 0 0 7 8"))
     status, out, said = lines("trace", GUESTS / "store_load.lwc", report)
     assert (status, out) == (1, [])
-    assert said[0] == f"trace: {report} is not what the program makes of this image and these options:"
+    head = f"trace: {report} is not what the program makes of this image"
+    assert said[0] == f"{head}, whatever --frames and --budget are:"
     assert said[1].startswith("  as a plain run: the replay has `regs 0 0 7 7 ")
 
 

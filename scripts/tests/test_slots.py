@@ -3,7 +3,7 @@
 from __future__ import annotations
 
 from lwcrun_tools.known_slots import NO_KEYS, Keys, Slots, Value, all_keys
-from lwcrun_tools.machine_names import Item
+from lwcrun_tools.machine_words import Item
 
 SHARE_0 = Item(1, 1, 0, 1)
 LEAVE_ALL = Item(1, 2, 0, 64)

@@ -125,7 +125,7 @@ def test_a_vault(program: str) -> None:
     assert lines[0] == "23 <asking+2> switch(slot 63, argument 7) -> 0.1, slot 0 there"
     assert [line for line in lines if "NotCovered" in line] == [
         "39 <asking+18> overlay(slot 63, copy page 0) = -10 NotCovered",
-        "43 <asking+22> overlay(slot 63, 1 item at 0) = -10 NotCovered",
+        "43 <asking+22> overlay(slot 63, share page 0) = -10 NotCovered",
         "50 <asking+29> on_behalf(slot 63, memory, write(slot 1, address 0, length 16)) = -10 NotCovered",
     ]
 
@@ -188,13 +188,12 @@ def test_debug_shows_labels(program: str) -> None:
     ]
 
 
-def test_what_debug_cannot_show(program: str) -> None:
+def test_items_that_lie_over_two_pages(program: str, tmp_path: Path) -> None:
     assert program
-    words: list[str | Path] = [GUESTS / "monitor.s", GUESTS / "monitor.schedule", "--monitor"]
-    assert answers("page 0.0 0\nslot 0.0 3\n", *words) == [
-        "the program shows a page of a plain run alone, and this is a run under a monitor",
-        "the program shows a slot of a plain run alone, and this is a run under a monitor",
-    ]
+    items = "00000000" + "00000000" + "00000000" + "01000000"
+    pages = f".page 0 {'00' * 4088}{items[:16]}\n.page 1 {items[16:]}\n"
+    lines = traced(tmp_path, f".entry 0\n{pages}LI r1, 4088\nLI r2, 1\nSYS 16\nHALT\n", 2)
+    assert lines[0] == "2 create(copy page 0) = 2, 1.0 is made"
 
 
 @pytest.mark.parametrize(

@@ -2,6 +2,15 @@
 
 from __future__ import annotations
 
+from lwcrun_tools.machine import (
+    DEFAULT_BUDGET,
+    DEFAULT_FRAMES,
+    DEFAULT_WORKERS,
+    MOST_BUDGET,
+    MOST_FRAMES,
+    MOST_THREADS,
+)
+
 
 class LineError(Exception):
     """A line that the program does not accept, and why."""
@@ -26,9 +35,9 @@ class Option:
 RUNS = ["--frames", "--budget"]
 SERVES = [*RUNS, "--workers"]
 OPTIONS = {
-    "--frames": Option("F", 65536, 4096, "how many frames of 4096 bytes there are"),
-    "--budget": Option("B", 100000, 10000, "how many steps a thread, or a request, may make"),
-    "--workers": Option("W", 16, 4, "how many workers serve"),
+    "--frames": Option("F", MOST_FRAMES, DEFAULT_FRAMES, "how many frames of 4096 bytes there are"),
+    "--budget": Option("B", MOST_BUDGET, DEFAULT_BUDGET, "how many steps a thread, or a request, may make"),
+    "--workers": Option("W", MOST_THREADS, DEFAULT_WORKERS, "how many workers serve"),
 }
 MODES = {
     "run": Mode(["IMAGE"], RUNS, "runs the image's threads, each by itself to its end"),

@@ -4,7 +4,8 @@ it is read here."""
 import struct
 from dataclasses import dataclass
 
-PAGE = 4096
+from lwcrun_tools.machine import MOST_PAGES, PAGES_OF_FORM_ONE, PAGE_BYTES
+
 FIRST_INSTRUCTION = 28
 
 
@@ -16,13 +17,14 @@ class Image:
     text: list[bytes]
     pages: dict[int, bytes]
     slots: dict[int, int]
+    files: list[bytes]
     threads: int
     listing: list[tuple[str, list[str]]]
 
     @property
     def most_pages(self) -> int:
         """How many pages a context may have."""
-        return 16384 if self.magic == b"LWC2" else 1024
+        return MOST_PAGES if self.magic == b"LWC2" else PAGES_OF_FORM_ONE
 
     def at(self, place: int | None) -> tuple[str, list[str]]:
         """The name and the operands of an instruction; no name behind the last one."""
@@ -44,15 +46,18 @@ def read_image(data: bytes, source: str) -> Image:
     text = [data[at : at + 8] for at in range(FIRST_INSTRUCTION, FIRST_INSTRUCTION + 8 * instructions, 8)]
     at, of_page, of_slot = FIRST_INSTRUCTION + 8 * instructions, {}, {}
     for _ in range(pages):
-        of_page[int.from_bytes(data[at : at + 4], "little")] = data[at + 4 : at + 4 + PAGE]
-        at += 4 + PAGE
+        of_page[int.from_bytes(data[at : at + 4], "little")] = data[at + 4 : at + 4 + PAGE_BYTES]
+        at += 4 + PAGE_BYTES
+    contents = []
     for _ in range(files):
-        at += 12 + int.from_bytes(data[at + 8 : at + 12], "little")
+        end = at + 12 + int.from_bytes(data[at + 8 : at + 12], "little")
+        contents.append(data[at + 12 : end])
+        at = end
     for _ in range(slots):
         slot, file = struct.unpack_from("<2I", data, at)
         of_slot[slot] = file
         at += 8
-    return Image(data[:4], text, of_page, of_slot, threads, list_instructions(source))
+    return Image(data[:4], text, of_page, of_slot, contents, threads, list_instructions(source))
 
 
 def list_instructions(source: str) -> list[tuple[str, list[str]]]:
@@ -64,6 +69,6 @@ def list_instructions(source: str) -> list[tuple[str, list[str]]]:
 def read_vault(data: bytes) -> dict[int, bytes]:
     """The pages of a vault's file."""
     return {
-        int.from_bytes(data[at : at + 4], "little"): data[at + 4 : at + 4 + PAGE]
-        for at in range(4, len(data), 4 + PAGE)
+        int.from_bytes(data[at : at + 4], "little"): data[at + 4 : at + 4 + PAGE_BYTES]
+        for at in range(4, len(data), 4 + PAGE_BYTES)
     }

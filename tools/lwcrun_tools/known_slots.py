@@ -6,12 +6,14 @@ moves descriptors as they are. A slot that contexts have in common is one cell. 
 known, what they may have changed is not known either.
 """
 
+from __future__ import annotations
+
 from collections.abc import Iterable
-from dataclasses import dataclass
+from dataclasses import dataclass, replace
 
-from lwcrun_tools.machine_names import Item
+from lwcrun_tools.machine import SLOTS
+from lwcrun_tools.machine_words import Item
 
-SLOTS = 64
 CONTEXT = "context "
 
 
@@ -23,7 +25,7 @@ class Keys:
     slots: int
     uid: bool
 
-    def narrow(self, items: Iterable[Item]) -> "Keys":
+    def narrow(self, items: Iterable[Item]) -> Keys:
         """The keys that items name too."""
         pages = slots = 0
         uid = False
@@ -70,16 +72,26 @@ def runs(name: str, bits: int) -> list[str]:
 
 @dataclass(frozen=True)
 class Value:
-    """What a slot has: the words that `debug` has for it, up to a place in a file, and the keys of a context's
-    descriptor where they are known."""
+    """What a slot has: the words that `debug` has for it, without the place in a file or request; the keys of a
+    context's descriptor where they are known; and that place."""
 
     text: str
     keys: Keys | None = None
+    at: int = 0
 
     @property
     def context(self) -> str:
         """The context that a descriptor names, or no name."""
         return self.text.removeprefix(CONTEXT) if self.text.startswith(CONTEXT) else ""
+
+    @property
+    def whole(self) -> str:
+        """The words that `debug` has for it."""
+        return f"{self.text} at {self.at}" if self.text.startswith(("file ", "request ")) else self.text
+
+    def behind(self, count: int) -> Value:
+        """The same descriptor after so many bytes were read."""
+        return replace(self, at=self.at + count)
 
 
 NOT_KNOWN = Value("?")

@@ -10,9 +10,9 @@ import struct
 from dataclasses import dataclass
 
 from lwcrun_tools.images import Image
+from lwcrun_tools.machine import MOST_INSTRUCTIONS, MOST_THREADS
 from lwcrun_tools.run_report import Thread, read_report
 
-MOST_INSTRUCTIONS, MOST_THREADS = 65536, 16
 FIRST_SHARED, LI, LIH, ADDI, JMP, JNZ, HALT = 32, 1, 2, 16, 17, 19, 37
 # The lines that set the registers are one whole step of 256 private instructions: a loop of twice LOOPS, and 34
 # others.

@@ -10,12 +10,33 @@ import subprocess
 import sys
 from collections.abc import Callable, Iterable, Sequence
 from dataclasses import dataclass
+from typing import BinaryIO
 
-from lwcrun_tools.exits import NAME, give_up
+from lwcrun_tools.command import WorkFolder
+from lwcrun_tools.exits import CANNOT_READ, NAME, give_up
+from lwcrun_tools.machine import (
+    FIRST_SLOT,
+    MOST_COMMANDS,
+    MOST_DEBUGGED_STEPS,
+    MOST_FILE_BYTES,
+    MOST_IMAGE_BYTES,
+    MOST_REPORT_BYTES,
+    MOST_REQUESTS,
+    MOST_REQUEST_BYTES,
+    MOST_REQUEST_FILE_BYTES,
+    MOST_SCHEDULE_BYTES,
+    MOST_SCRIPT_BYTES,
+    MOST_SOURCE_BYTES,
+    MOST_STEPS,
+    MOST_VAULT_BYTES,
+    SLOTS,
+    VAULT_SLOT,
+)
 
 WIDE = 100
 REFUSAL = re.compile(r"lwcrun: (image|input) refused: (\w+) at (\d+)$")
 SCHEDULE, REQUESTS, SCRIPT, VAULT, IMAGE = "schedule", "requests", "script", "vault", "image"
+SOURCE, REPORT = "source", "report"
 # Which file a rule of an input is about, where the rule alone tells; TooLong is told by its offset, the most bytes
 # that the file may have.
 ROLES = {
@@ -33,26 +54,38 @@ ROLES = {
     "BadPage": VAULT,
     "SlotTaken": VAULT,
 }
-LONGEST = {16777216: SCHEDULE, 8390656: REQUESTS, 65536: SCRIPT, 262404: VAULT}
+# The most bytes of each file, as the program takes them. A source is read as an image may be, since an image may stand
+# in its place, and a report as a schedule.
+MOST_BYTES = {
+    SCHEDULE: MOST_SCHEDULE_BYTES,
+    REQUESTS: MOST_REQUEST_FILE_BYTES,
+    SCRIPT: MOST_SCRIPT_BYTES,
+    VAULT: MOST_VAULT_BYTES,
+    IMAGE: MOST_IMAGE_BYTES,
+    SOURCE: MOST_SOURCE_BYTES,
+    REPORT: MOST_REPORT_BYTES,
+}
+LONGEST = {MOST_BYTES[role]: role for role in (SCHEDULE, REQUESTS, SCRIPT, VAULT)}
+CHUNK = 1 << 20
 REASONS = {
-    "TooManySteps": "a schedule has at most 16000000 steps, and for debug 100000",
+    "TooManySteps": f"a schedule has at most {MOST_STEPS} steps, and for debug {MOST_DEBUGGED_STEPS}",
     "OddLength": "a request is pairs of hexadecimal digits, and the last digit of this line is alone",
-    "RequestTooLong": "a request has at most 4096 bytes, which are 8192 digits",
-    "TooManyRequests": "a request file has at most 1024 lines; tools/serve-many takes more",
-    "TooMuchWork": "requests * (budget + 1) + workers is above 16000000; lower --budget, or take fewer requests",
+    "RequestTooLong": f"a request has at most {MOST_REQUEST_BYTES} bytes, which are {2 * MOST_REQUEST_BYTES} digits",
+    "TooManyRequests": f"a request file has at most {MOST_REQUESTS} lines; tools/serve-many takes more",
+    "TooMuchWork": f"requests * (budget + 1) + workers is above {MOST_STEPS}; lower --budget or take fewer requests",
     "BadCommand": "no command of the debugger: its words are parted by one space, and a number has one to nine digits",
-    "TooManyCommands": "a script has at most 64 commands",
+    "TooManyCommands": f"a script has at most {MOST_COMMANDS} commands",
     "TooLong": "the file is longer than the program takes",
     "Truncated": "the file ends here, inside a part of it or before one that has to be there",
-    "SlotTaken": "the image has a file in slot 63, which the vault needs",
+    "SlotTaken": f"the image has a file in slot {VAULT_SLOT}, which the vault needs",
     "Trailing": "bytes follow the last entry of the image",
     "BadMagic": "an image begins with LWC1 or LWC2; a source has to be assembled first, as tools/assemble does",
     "BadCount": "a count of the header is out of its range",
     "BadInstruction": "these eight bytes are no instruction",
     "BadTarget": "a jump to an instruction behind the last one",
     "BadPage": "the page's number is too large, or does not rise, or begins a 65th run of pages",
-    "BadFile": "public is neither 0 nor 1, or the files have more than 1048576 bytes in all",
-    "BadSlot": "the slot is not one of 2 to 63, or does not rise, or the image has no file of this number",
+    "BadFile": f"public is neither 0 nor 1, or the files have more than {MOST_FILE_BYTES} bytes in all",
+    "BadSlot": f"the slot is none of {FIRST_SLOT} to {SLOTS - 1}, or does not rise, or the image has no such file",
     "BadEntry": "the entry is behind the last instruction of the image",
 }
 
@@ -68,13 +101,14 @@ class Refused(Exception):
 
 @dataclass
 class Input:
-    """A file that the program reads: what it is, its name for the user, where it lies, and from where in the user's
-    file it was taken."""
+    """A file that the program reads: what it is, its name for the user, where it lies, from where in the user's file
+    it was taken, and the bytes of that one, where they are others."""
 
     role: str
     name: str
     path: str = ""
     base: int = 0
+    whole: bytes | None = None
 
     def __post_init__(self) -> None:
         self.path = self.path or self.name
@@ -85,22 +119,40 @@ class Input:
 
     def read(self) -> bytes:
         """The bytes that the program reads."""
-        return read_file(self.path)
+        return read_file(self.path, self.role)
 
     def shown(self) -> bytes:
         """The bytes of the user's own file, in which a place is shown."""
-        return read_file(self.path if self.name == "-" or not self.base else self.name)
+        return self.read() if self.whole is None else self.whole
 
 
-def read_file(name: str) -> bytes:
-    """The bytes of a file, or of the standard input under the name `-`."""
+def read_file(name: str, role: str) -> bytes:
+    """The bytes of a file, or of the standard input under the name `-`; refuses one that has more than the program
+    takes, without reading on."""
     try:
         if name == "-":
-            return sys.stdin.buffer.read()
+            return read_most(sys.stdin.buffer, name, role)
         with open(name, "rb") as file:
-            return file.read()
+            return read_most(file, name, role)
     except OSError as error:
-        raise Refused(f"cannot read {name}: {error.strerror}", 3) from error
+        raise Refused(f"cannot read {name}: {error.strerror}", CANNOT_READ) from error
+
+
+def read_most(file: BinaryIO, name: str, role: str) -> bytes:
+    """All bytes of a file, which are at most those that the program takes of it."""
+    most, data = MOST_BYTES[role], bytearray()
+    while chunk := file.read(min(CHUNK, most + 1 - len(data))):
+        data += chunk
+        if len(data) > most:
+            status = 5 if role in (IMAGE, SOURCE) else 6
+            raise Refused(f"{name}: TooLong at {most}: a file of this kind has at most {most} bytes", status, True)
+    return bytes(data)
+
+
+def take(role: str, name: str, work: WorkFolder) -> Input:
+    """A file of the user, read once: what is asked about it later is asked about the bytes that were read, also where
+    the file changes or was a pipe."""
+    return Input(role, name, work.write(role, read_file(name, role)))
 
 
 def call_program(

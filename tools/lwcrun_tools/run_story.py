@@ -8,34 +8,28 @@ said to be.
 
 from dataclasses import dataclass, field
 
-from lwcrun_tools.images import PAGE
 from lwcrun_tools.known_memory import Memory
 from lwcrun_tools.known_slots import CONTEXT, NOT_KNOWN, NO_KEYS, Slots, Value
-from lwcrun_tools.machine_names import (
+from lwcrun_tools.machine import (
     BEHALF,
     CALLS,
     CLOSE,
     CREATE,
     DUP,
     EXIT,
-    ITEMS,
     MAP,
     OPEN,
     OVERLAY,
+    PAGE_BYTES,
     READ,
     RESTRICT,
     SWITCH,
     TRAP,
     UNMAP,
-    WORD,
-    answer,
-    arguments,
-    name_of,
-    number,
-    refusal_of,
-    status,
+    VAULT_SLOT,
 )
-from lwcrun_tools.replayed_run import SERVE, VAULT, VAULT_CONTEXT, VAULT_SLOT, Run
+from lwcrun_tools.machine_words import ITEMS, WORD, answer, arguments, name_of, number, refusal_of, status
+from lwcrun_tools.replayed_run import SERVE, VAULT, VAULT_CONTEXT, Run
 from lwcrun_tools.run_report import Context, Report
 from lwcrun_tools.step_states import Turn
 
@@ -68,7 +62,7 @@ class Story:
     """Follows a run from step to step."""
 
     def __init__(self, run: Run, first: Report) -> None:
-        self.run, self.image, self.memory = run, run.image, Memory(run)
+        self.run, self.image, self.memory = run, run.image, Memory(run, first)
         self.slots, self.doubts, self.made = Slots(run.image.most_pages), 0, dict[int, int]()
         files = {slot: Value(f"file {file}") for slot, file in run.image.slots.items()}
         console = {} if run.kind == SERVE else {0: Value("console"), 1: Value("console")}
@@ -115,6 +109,7 @@ class Story:
             1: Value(f"reply {request}"),
         }
         self.slots.add(name, values)
+        self.memory.pages.add(name, self.image.pages)
         return Step(
             f"begins request {request} in the new context {name}", f"begins request {request} in {name}", kind="begin"
         )
@@ -144,6 +139,7 @@ class Story:
         stop = turn.stop
         if stop is None:
             self.slots.forget(*list(self.slots.tables))
+            self.memory.pages.lose()
             return Step("does what the program cannot be asked: the image is too long", kind="unknown")
         if stop.is_pause:
             return Step("runs 256 private instructions and pauses", kind="pause")
@@ -164,8 +160,8 @@ class Story:
         register, base, offset = int(operands[0][1:]), int(operands[1][1:]), int(operands[2])
         address = (regs[base] + (offset - 2**32 if offset >= 2**31 else offset)) % WORD
         where, what = (
-            f"{number(address)} (page {address // PAGE})"
-            if address < PAGE * self.image.most_pages
+            f"{number(address)} (page {address // PAGE_BYTES})"
+            if address < PAGE_BYTES * self.image.most_pages
             else number(address),
             WORDS[name],
         )
@@ -181,7 +177,8 @@ class Story:
             )
         value = str(regs[register] % 256) if name == "STB" else number(regs[register])
         if not fails:
-            self.memory.note(address // PAGE, address // PAGE + 1)
+            stored = regs[register].to_bytes(8, "little")
+            self.memory.pages.store(turn.was.ctx, address, stored[:1] if name == "STB" else stored)
         return Step(
             f"stores the {what} {value} at {where}" + (" and fails" if fails else ""),
             f"store {what} {value} at {where}",
@@ -240,7 +237,7 @@ class Story:
             step.said += f" ({words}): slot {answered} gets a descriptor of {new}"
             step.line += f" = {answered}, {new} is made"
             self.slots.create(name, new, answered, turn.items)
-            self.memory.create(name, new)
+            self.memory.pages.create(name, new, turn.items)
         elif call == TRAP:
             trapped = self.trapped(turn)
             step.said += f" ({words}): {name} is the monitor of {trapped} from now on"
@@ -268,29 +265,35 @@ class Story:
         if call == RESTRICT:
             self.slots.restrict(name, regs[1], turn.items)
         elif call == OVERLAY:
+            value = self.slots.value(name, regs[1])
+            self.memory.pages.overlay(name, value.context if value else "", turn.items)
             self.slots.overlay(name, regs[1], turn.items)
         elif call == BEHALF:
             value = self.slots.value(name, regs[1])
-            target = (value.context if value and value is not NOT_KNOWN else "") if regs[2] & 2 else name
-            if target or regs[3] not in (OPEN, CLOSE, DUP):
-                self.plain(target or name, regs[3], [0, *regs[4:7]], turn.now.regs[0])
-            else:
+            target = value.context if value else ""
+            table, memory = target if regs[2] & 2 else name, target if regs[2] & 1 else name
+            if not table and regs[3] in (OPEN, CLOSE, DUP, READ):
                 self.slots.forget(*list(self.slots.tables))
+            if not memory and regs[3] in (READ, MAP, UNMAP):
+                self.memory.pages.lose()
+            self.plain(table, memory, regs[3], [0, *regs[4:7]], turn.now.regs[0])
         else:
-            self.plain(name, call, regs, turn.now.regs[0])
+            self.plain(name, name, call, regs, turn.now.regs[0])
 
-    def plain(self, name: str, call: int, regs: list[int], answered: int) -> None:
-        """One of the calls 1 to 9 in the slots of this context."""
+    def plain(self, name: str, memory: str, call: int, regs: list[int], answered: int) -> None:
+        """One of the calls 1 to 9 in the slots of one context and the memory of another one."""
         if call == OPEN:
             self.slots.put(name, answered, Value(f"file {regs[1]}"))
         elif call == CLOSE:
             self.slots.put(name, regs[1], None)
         elif call == DUP:
             self.slots.put(name, answered, self.slots.value(name, regs[1]))
-        elif call == READ and answered:
-            self.memory.note(regs[2] // PAGE, (regs[2] + answered - 1) // PAGE + 1)
-        elif call in (MAP, UNMAP):
-            self.memory.note(regs[1], regs[2])
+        elif call == READ:
+            self.memory.read_call(memory, self.slots, name, regs[1], regs[2], answered)
+        elif call == MAP:
+            self.memory.pages.map(memory, regs[1], regs[2])
+        elif call == UNMAP:
+            self.memory.pages.unmap(memory, regs[1], regs[2])
 
     # What is different in the report after it.
 
@@ -319,6 +322,7 @@ class Story:
     def compare(self, report: Report) -> None:
         """Compares what is told of slots with the report, by their numbers and by what is reached; forgets what
         differs."""
+        self.memory.compare(report)
         for name in [name for name in self.slots.tables if name not in report.contexts]:
             del self.slots.tables[name]
         for name, context in report.contexts.items():

@@ -8,9 +8,10 @@ from typing import TypeVar
 
 from lwcrun_tools import probes
 from lwcrun_tools.command import Progress
-from lwcrun_tools.machine_names import Item
+from lwcrun_tools.machine import MOST_COMMANDS
+from lwcrun_tools.machine_words import Item
 from lwcrun_tools.refusals import call_program
-from lwcrun_tools.replayed_run import MOST_COMMANDS, PLAIN, Run
+from lwcrun_tools.replayed_run import PLAIN, Run
 from lwcrun_tools.run_report import Report, Thread, thread_of
 
 JOBS = len(os.sched_getaffinity(0))

@@ -6,7 +6,7 @@ from pathlib import Path
 
 import pytest
 from lwcrun_tools.images import Image
-from lwcrun_tools.machine_names import Item, answer, arguments, number, read_items, refusals_in, registers_line, status
+from lwcrun_tools.machine_words import Item, answer, arguments, number, read_items, refusals_in, registers_line, status
 from lwcrun_tools.probes import probe_image, probe_schedule, room
 from lwcrun_tools.refusals import Input, refusal
 from lwcrun_tools.run_report import Thread
@@ -77,13 +77,13 @@ def test_a_place_in_a_report_whose_schedule_was_taken(tmp_path: Path) -> None:
     path, taken = tmp_path / "report", tmp_path / "taken"
     path.write_bytes(b"steps 2\nschedule 02\n")
     taken.write_bytes(b"02")
-    said = refusal(Input("schedule", str(path), str(taken), 17), "BadThread", 1)
+    said = refusal(Input("schedule", str(path), str(taken), 17, path.read_bytes()), "BadThread", 1)
     assert said.startswith(f"{path}:2:11: BadThread: ")
 
 
 def test_the_image_that_asks_where_a_step_went() -> None:
     text = [bytes.fromhex("0101000007000000"), bytes.fromhex("2300000100000000")]
-    image = Image(b"LWC1", text, {}, {}, 1, [("LI", ["r1", "7"]), ("STW", ["r1", "r0", "0"])])
+    image = Image(b"LWC1", text, {}, {}, [], 1, [("LI", ["r1", "7"]), ("STW", ["r1", "r0", "0"])])
     made = probe_image(image, [Thread("running", "0.0", 1, list(range(16)))])
     halt = bytes.fromhex("2500000000000000")
     # Two instructions, a HALT behind them, and 36 that set the registers.

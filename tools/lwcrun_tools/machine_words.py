@@ -1,67 +1,22 @@
-"""The names of calls, refusals, faults and items, as docs/FORMATS.md has them, and how values are written."""
+"""Calls, refusals, faults and items in words, as the tools write them."""
 
 from collections.abc import Sequence
 from dataclasses import dataclass
 
-WORD = 2**64
-REFUSALS = {
-    2: "BadCall",
-    3: "BadFd",
-    4: "WrongKind",
-    5: "BadAddress",
-    6: "BadRange",
-    7: "BadMode",
-    8: "Overlap",
-    9: "TooManyItems",
-    10: "NotCovered",
-    11: "TooManyContexts",
-    12: "NoSlot",
-    13: "NoSlotThere",
-    14: "NoFrame",
-    15: "NotPermitted",
-    16: "NoFile",
-    17: "TooManyGroups",
-    18: "TooManyRanges",
-    19: "ReplyFull",
-    20: "TooLong",
-    21: "ReadOnly",
-    22: "Trapped",
-    23: "NotFresh",
-}
-FAULTS = {1: "BadPc", 2: "BadLoad", 3: "BadStore", 4: "NoFrame", 5: "Budget", 6: "ReadOnly"}
-OPEN, CLOSE, DUP, READ, MAP, UNMAP, EXIT, CREATE, SWITCH, RESTRICT, OVERLAY, BEHALF, TRAP = (
-    1,
-    2,
-    3,
-    4,
-    6,
-    7,
-    10,
-    16,
-    17,
-    18,
-    19,
-    20,
-    21,
+from lwcrun_tools.machine import (
+    BEHALF,
+    CALLS,
+    CREATE,
+    FAULTS,
+    OVERLAY,
+    PAGE_ITEM,
+    REFUSALS,
+    RESTRICT,
+    SLOT_ITEM,
+    UID_ITEM,
 )
-CALLS = {
-    1: "open",
-    2: "close",
-    3: "dup",
-    4: "read",
-    5: "write",
-    6: "map",
-    7: "unmap",
-    8: "getuid",
-    9: "setuid",
-    10: "exit",
-    16: "create",
-    17: "switch",
-    18: "restrict",
-    19: "overlay",
-    20: "on_behalf",
-    21: "trap",
-}
+
+WORD = 2**64
 # The arguments of a call, by the registers that have them; those of items and of call 20 are written otherwise.
 ARGUMENTS = {
     1: "file {1}",
@@ -79,9 +34,8 @@ ARGUMENTS = {
 }
 # The registers of the address and of the number of items.
 ITEMS = {CREATE: (1, 2), RESTRICT: (2, 3), OVERLAY: (2, 3)}
-KINDS = {0: ("page", "pages"), 1: ("slot", "slots"), 2: ("uid", "uids")}
+KINDS = {PAGE_ITEM: ("page", "pages"), SLOT_ITEM: ("slot", "slots"), UID_ITEM: ("uid", "uids")}
 MODES = {0: "copy", 1: "share", 2: "leave out", 3: "read-only"}
-MOST_ITEMS = 32
 
 
 @dataclass(frozen=True)
@@ -100,7 +54,7 @@ class Item:
         one, many = KINDS[self.kind]
         keys = (
             one
-            if self.kind == 2
+            if self.kind == UID_ITEM
             else f"{one} {self.first}"
             if self.last == self.first + 1
             else f"{many} {self.first} to {self.last}"
