@@ -1,8 +1,9 @@
 """The kernel from Python: replays and serves of guests over bytes in memory, and runs that are made step by step.
 
-The shared library is the one that embed/build makes, or the one that the variable LWCRUN_LIBRARY names. A call that
-library answers with another status than 0 raises `LwcrunError`, which has the status and the program's message.
-Reports are read by the module of the tools, tools/lwcrun_tools/run_report.py.
+The shared library is the one that the variable LWCRUN_LIBRARY names; else the one that lies in this package, as in the
+wheel; else the one that embed/build makes. A call that library answers with another status than 0 raises
+`LwcrunError`, which has the status and the program's message. Reports are read by the module of the tools,
+tools/lwcrun_tools/run_report.py.
 """
 
 from __future__ import annotations
@@ -125,7 +126,11 @@ class _Slot(ctypes.Structure):
 
 def _load() -> ctypes.CDLL:
     """The library, with the types of its functions."""
-    library = ctypes.CDLL(os.environ.get("LWCRUN_LIBRARY", os.path.join(TOP, "embed", "out", "liblwcrun.so")))
+    packed, built = (
+        os.path.join(folder, "liblwcrun.so")
+        for folder in (os.path.dirname(os.path.realpath(__file__)), os.path.join(TOP, "embed", "out"))
+    )
+    library = ctypes.CDLL(os.environ.get("LWCRUN_LIBRARY") or (packed if os.path.exists(packed) else built))
     number, size, run = ctypes.c_uint32, ctypes.c_size_t, ctypes.c_uint64
     pointer = ctypes.POINTER
     types = {
