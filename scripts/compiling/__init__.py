@@ -1,0 +1,1 @@
+"""How the compiler for guests is checked: what `scripts/check-compile` runs."""
