@@ -1,7 +1,7 @@
 /* The calls of a guest of lwcrun in C and C++. docs/C.md is the page about it.
 
-   A call answers a number from 0 on, or a refusal, which is below 0: one of enum lwc_refusal. A refused call has changed
-   nothing. */
+   A call answers a number from 0 on, or a refusal, which is below 0: one of enum lwc_refusal. A refused call has
+   changed nothing. */
 #ifndef LWC_H
 #define LWC_H
 
@@ -82,27 +82,27 @@ extern char lwc_constants_begin[], lwc_constants_end[], lwc_data_begin[], lwc_da
 #define LWC_SHARED __attribute__((section(".lwc_shared"), aligned(4096)))
 
 /* A stack of so many pages for a context, with an absent page below it, and its end, where it begins to be used. */
-#define LWC_STACK(name, pages) \
+#define LWC_STACK(name, pages)                                                                                         \
   __attribute__((section(".lwc_stacks"), aligned(4096))) static char name[((pages) + 1) * 4096]
 #define LWC_TOP(stack) ((void *)((stack) + sizeof(stack)))
 
 /* A file of the image, whose owner is a uid, and the slot that has it at the start; none where that is 0. Only in C. */
-#define LWC_FILE(name, slot, owner, is_public, text) \
-  __attribute__((section(".lwc_files"), used, aligned(4))) static const struct { \
-    uint32_t slot_, owner_, public_, length_; \
-    char bytes_[sizeof(text) - 1]; \
+#define LWC_FILE(name, slot, owner, is_public, text)                                                                   \
+  __attribute__((section(".lwc_files"), used, aligned(4))) static const struct {                                       \
+    uint32_t slot_, owner_, public_, length_;                                                                          \
+    char bytes_[sizeof(text) - 1];                                                                                     \
   } name = {slot, owner, is_public, sizeof(text) - 1, text}
 
 /* The instruction of a call. Every call may change a0 to a4: a switch back, or a monitor, sets them. */
-#define LWC_CALL(number, a, b, c) \
-  ({ \
-    register long a0_ __asm__("a0") = (long)(a), a1_ __asm__("a1") = (long)(b), a2_ __asm__("a2") = (long)(c); \
-    long answer_; \
-    __asm__ volatile(".insn i 0x0b, 0, %0, x0, " #number \
-                     : "=r"(answer_), "+r"(a0_), "+r"(a1_), "+r"(a2_) \
-                     : \
-                     : "memory", "a3", "a4"); \
-    answer_; \
+#define LWC_CALL(number, a, b, c)                                                                                      \
+  ({                                                                                                                   \
+    register long a0_ __asm__("a0") = (long)(a), a1_ __asm__("a1") = (long)(b), a2_ __asm__("a2") = (long)(c);         \
+    long answer_;                                                                                                      \
+    __asm__ volatile(".insn i 0x0b, 0, %0, x0, " #number                                                               \
+                     : "=r"(answer_), "+r"(a0_), "+r"(a1_), "+r"(a2_)                                                  \
+                     :                                                                                                 \
+                     : "memory", "a3", "a4");                                                                          \
+    answer_;                                                                                                           \
   })
 #define LWC_NAME(call) lwc_##call
 #include "lwc_calls.h"
@@ -143,10 +143,7 @@ struct lwc_arrival {
 static inline long lwc_switch(long slot, long argument, struct lwc_arrival *arrival) {
   register long a0 __asm__("a0") = slot, a1 __asm__("a1") = argument;
   long answer;
-  __asm__ volatile(".insn i 0x0b, 0, %0, x0, 17"
-                   : "=r"(answer), "+r"(a0), "+r"(a1)
-                   :
-                   : "memory", "a2", "a3", "a4");
+  __asm__ volatile(".insn i 0x0b, 0, %0, x0, 17" : "=r"(answer), "+r"(a0), "+r"(a1) : : "memory", "a2", "a3", "a4");
   if (answer == 0) {
     arrival->slot = a0;
     arrival->argument = a1;
@@ -154,8 +151,8 @@ static inline long lwc_switch(long slot, long argument, struct lwc_arrival *arri
   return answer;
 }
 
-/* A call that a trapped context made: the slot of a descriptor of it, without a key, the call's number, and its first three
-   arguments. */
+/* A call that a trapped context made: the slot of a descriptor of it, without a key, the call's number, and its first
+   three arguments. */
 struct lwc_trapped_call {
   long slot, number, a, b, c;
 };
@@ -187,14 +184,11 @@ enum { LWC_RESUMED = -1 };
    slot of the new context, or a refusal; and LWC_RESUMED in the new context once somebody switches there, with who came
    in `arrival`. The stack of the thread has to be copied: no item may share it or leave it out. Refusals: TooManyItems,
    BadAddress, BadMode, BadRange, Overlap, TooManyContexts, NoSlot, TooManyGroups, TooManyRanges. */
-static inline long __attribute__((always_inline))
-lwc_snapshot(const struct lwc_item *items, long count, struct lwc_arrival *arrival) {
+static inline long __attribute__((always_inline)) lwc_snapshot(const struct lwc_item *items, long count,
+                                                               struct lwc_arrival *arrival) {
   register long a0 __asm__("a0") = (long)items, a1 __asm__("a1") = count;
   long answer;
-  __asm__ volatile(".insn i 0x0b, 0, %0, x0, 16"
-                   : "=r"(answer), "+r"(a0), "+r"(a1)
-                   :
-                   : "memory", "a2", "a3", "a4");
+  __asm__ volatile(".insn i 0x0b, 0, %0, x0, 16" : "=r"(answer), "+r"(a0), "+r"(a1) : : "memory", "a2", "a3", "a4");
   if (answer == LWC_RESUMED) {
     arrival->slot = a0;
     arrival->argument = a1;
@@ -202,8 +196,8 @@ lwc_snapshot(const struct lwc_item *items, long count, struct lwc_arrival *arriv
   return answer;
 }
 
-/* Makes a context that begins at a function, on the stack that ends at `top`: LWC_TOP(stack). The function gets who came
-   first, and must not return. Answers its slot, or a refusal as lwc_snapshot. */
+/* Makes a context that begins at a function, on the stack that ends at `top`: LWC_TOP(stack). The function gets who
+   came first, and must not return. Answers its slot, or a refusal as lwc_snapshot. */
 long lwc_create(const struct lwc_item *items, long count, void (*begin)(long slot, long argument), void *top);
 
 /* The items of a closed context: it has the pages that `count` kept items name, no other page, no slot, and the uid of

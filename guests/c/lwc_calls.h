@@ -1,6 +1,6 @@
 /* The calls of a guest as functions. lwc.h includes this once with LWC_NAME(call) as lwc_call, and lwc_trapped.h with
-   other names for a context that a monitor has trapped. LWC_CALL(number, a, b, c) makes a call of three arguments. There
-   is no guard against a second inclusion. */
+   other names for a context that a monitor has trapped. LWC_CALL(number, a, b, c) makes a call of three arguments.
+   There is no guard against a second inclusion. */
 
 /* Opens file number `file` of the image at its beginning. Answers its slot, or NoFile, NotPermitted, NoSlot. */
 static inline long LWC_NAME(open)(long file) { return LWC_CALL(1, file, 0, 0); }
@@ -11,8 +11,8 @@ static inline long LWC_NAME(close)(long slot) { return LWC_CALL(2, slot, 0, 0); 
 /* Copies a descriptor into the lowest empty slot. Answers that slot, or BadFd, NoSlot. */
 static inline long LWC_NAME(dup)(long slot) { return LWC_CALL(3, slot, 0, 0); }
 
-/* Reads up to `size` bytes, at most 4096, of a file or of a request. Answers how many there were, 0 at the end; or BadFd,
-   WrongKind, TooLong, BadAddress, ReadOnly, NoFrame, and then no byte was read. */
+/* Reads up to `size` bytes, at most 4096, of a file or of a request. Answers how many there were, 0 at the end; or
+   BadFd, WrongKind, TooLong, BadAddress, ReadOnly, NoFrame, and then no byte was read. */
 static inline long LWC_NAME(read)(long slot, void *to, long size) { return LWC_CALL(4, slot, to, size); }
 
 /* Appends `size` bytes, at most 4096, to the console or to a reply. Answers `size`, or BadFd, WrongKind, TooLong,
@@ -44,6 +44,6 @@ static inline long LWC_NAME(overlay)(long slot, const struct lwc_item *items, lo
   return LWC_CALL(19, slot, items, count);
 }
 
-/* Traps the context in a slot: from now on its calls come to this one. Only under `lwcrun monitor`. Answers 0, or BadCall
-   elsewhere, BadFd, WrongKind, NotCovered, Trapped, NotFresh. */
+/* Traps the context in a slot: from now on its calls come to this one. Only under `lwcrun monitor`. Answers 0, or
+   BadCall elsewhere, BadFd, WrongKind, NotCovered, Trapped, NotFresh. */
 static inline long LWC_NAME(trap)(long slot) { return LWC_CALL(21, slot, 0, 0); }

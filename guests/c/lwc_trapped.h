@@ -11,15 +11,15 @@ extern "C" {
 
 /* The answer of the monitor comes in a1, since it switches back with it as the argument. */
 #undef LWC_CALL
-#define LWC_CALL(number, a, b, c) \
-  ({ \
-    register long a0_ __asm__("a0") = (long)(a), a1_ __asm__("a1") = (long)(b), a2_ __asm__("a2") = (long)(c); \
-    long refusal_; \
-    __asm__ volatile(".insn i 0x0b, 0, %0, x0, " #number \
-                     : "=r"(refusal_), "+r"(a0_), "+r"(a1_), "+r"(a2_) \
-                     : \
-                     : "memory", "a3", "a4"); \
-    refusal_ == 0 ? a1_ : refusal_; \
+#define LWC_CALL(number, a, b, c)                                                                                      \
+  ({                                                                                                                   \
+    register long a0_ __asm__("a0") = (long)(a), a1_ __asm__("a1") = (long)(b), a2_ __asm__("a2") = (long)(c);         \
+    long refusal_;                                                                                                     \
+    __asm__ volatile(".insn i 0x0b, 0, %0, x0, " #number                                                               \
+                     : "=r"(refusal_), "+r"(a0_), "+r"(a1_), "+r"(a2_)                                                 \
+                     :                                                                                                 \
+                     : "memory", "a3", "a4");                                                                          \
+    refusal_ == 0 ? a1_ : refusal_;                                                                                    \
   })
 #define LWC_NAME(call) trapped_##call
 #include "lwc_calls.h"

@@ -1,5 +1,5 @@
-/* A monitor lets a plugin read its file and write the console, refuses all else, and counts both: run it by `monitor`. The
-   plugin tries six ways round it. */
+/* A monitor lets a plugin read its file and write the console, refuses all else, and counts both: run it by `monitor`.
+   The plugin tries six ways round it. */
 #include "lwc_trapped.h"
 #include <stdio.h>
 

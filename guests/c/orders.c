@@ -1,6 +1,6 @@
-/* A server that parses requests of several fields: an order in JSON, as {"item": "tea", "count": 3, "to": "Ada"}, by jsmn,
-   the parser of Debian's package libjsmn-dev. It replies with the price by its table; a request that is no order gets a
-   line that says why. */
+/* A server that parses requests of several fields: an order in JSON, as {"item": "tea", "count": 3, "to": "Ada"}, by
+   jsmn, the parser of Debian's package libjsmn-dev. It replies with the price by its table; a request that is no order
+   gets a line that says why. */
 #include "lwc.h"
 #include <stdio.h>
 #include <stdlib.h>

@@ -1,6 +1,7 @@
 /* A server of transactions: a request is commands of two bytes. +k and -k count in cell k; [0 begins a transaction, ]0
-   keeps it, !0 rolls it back: memory, stack and locals are what they were at [0, but for what the switch carries over. Any
-   other command ends the request with code 1, and f0 breaks it. Replies with the cells and the number of rollbacks. */
+   keeps it, !0 rolls it back: memory, stack and locals are what they were at [0, but for what the switch carries over.
+   Any other command ends the request with code 1, and f0 breaks it. Replies with the cells and the number of rollbacks.
+ */
 #include "lwc.h"
 
 static uint8_t request[256];

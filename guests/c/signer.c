@@ -1,5 +1,5 @@
-/* Who asks a signer: it enters a vault with a message and gets the check value back, and tries to get at the key. Run it by
-   `vault`, with sign.S and a vault whose entry is the number of `sign` (guests/c/README.md). */
+/* Who asks a signer: it enters a vault with a message and gets the check value back, and tries to get at the key. Run
+   it by `vault`, with sign.S and a vault whose entry is the number of `sign` (guests/c/README.md). */
 #include "lwc.h"
 #include <stdio.h>
 

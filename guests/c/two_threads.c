@@ -1,5 +1,5 @@
-/* Two threads in one context: a lock of Peterson's, of words of 8 bytes, guards a count, and each thread stores to an int
-   beside the other's. Compile it by --entry work --threads 2. */
+/* Two threads in one context: a lock of Peterson's, of words of 8 bytes, guards a count, and each thread stores to an
+   int beside the other's. Compile it by --entry work --threads 2. */
 #include "lwc.h"
 #include <stdio.h>
 

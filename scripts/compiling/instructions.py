@@ -115,12 +115,32 @@ def all_forms(chance: random.Random) -> Iterator[list[Form]]:
     for name in BRANCHES:
         yield [Form(name, lines) for lines in forms_of_branches(name)]
     yield both("cut", ["  slli a5, a0, 32\n  srli a5, a5, 32", "  mv a5, a1\n  slli a5, a5, 32\n  srli a5, a5, 32"])
+    yield both("chain", forms_of_chains(chance))
     constants = [*EDGES, *(chance.getrandbits(64) for _ in range(20))]
     yield [Form("li", f"  li a5, {constant}\n  xor a5, a5, a0") for constant in constants]
     for name, size in LOADS.items():
         yield both(name, forms_of_loads(name, size))
     for name, size in STORES.items():
         yield [Form(name, lines) for lines in forms_of_stores(name, size)]
+
+
+def forms_of_chains(chance: random.Random) -> Iterator[str]:
+    """Random instructions one after another, whose results may be asked for whole or not; half go through memory."""
+    for _ in range(40):
+        lines = ["  mv t0, a1", "  mv t1, a0", "  mv a5, a0"]
+        for _ in range(chance.randint(2, 8)):
+            made, left, right = chance.choice(("a5", "t0", "t1")), *chance.choices(("a0", "a1", "a5", "t0", "t1"), k=2)
+            kind = chance.randrange(4)
+            if kind == 0:
+                lines.append(f"  {chance.choice((*SHIFTS, *WORD_SHIFTS))} {made}, {left}, {chance.randint(0, 31)}")
+            elif kind == 1:
+                lines.append(f"  {chance.choice(OF_NUMBERS)} {made}, {left}, {chance.randint(-2048, 2047)}")
+            else:
+                lines.append(f"  {chance.choice(OF_REGISTERS)} {made}, {left}, {right}")
+        lines.append(chance.choice(("  addw a5, a5, t0", "  xor a5, a5, t0", "  subw a5, t0, t1")))
+        if chance.random() < 0.5:
+            lines.append(f"  sd a5, -8(sp)\n  {chance.choice(('ld', 'lw', 'lwu'))} a5, -8(sp)")
+        yield "\n".join(lines)
 
 
 def both(name: str, forms: Iterator[str] | Sequence[str]) -> list[Form]:

@@ -1,5 +1,6 @@
-/* The functions of <stdio.h> that guests have: guests/c/rt/print.c. They write to slot 1. A directive is %d, %i, %u, %x, %X,
-   %o, %c, %s, %p or %%, with -, 0, +, blank, #, a width, a precision, and h, hh, l, ll, z, t or j. Any other is fault 1. */
+/* The functions of <stdio.h> that guests have: guests/c/rt/print.c. They write to slot 1. A directive is %d, %i, %u,
+   %x, %X, %o, %c, %s, %p or %%, with -, 0, +, blank, #, a width, a precision, and h, hh, l, ll, z, t or j. Any other is
+   fault 1. */
 #ifndef LWC_STDIO_H
 #define LWC_STDIO_H
 #include <stdarg.h>

@@ -1,6 +1,6 @@
-/* A host of three plugins by different hands. A request is the number of a plugin, '0' to '2', and a text; the plugin gets
-   the text in a closed context, and the reply is what it made of it. A plugin that faults or loops ends its request, and
-   no other. Each request makes the context anew, so nothing of a plugin stays. */
+/* A host of three plugins by different hands. A request is the number of a plugin, '0' to '2', and a text; the plugin
+   gets the text in a closed context, and the reply is what it made of it. A plugin that faults or loops ends its
+   request, and no other. Each request makes the context anew, so nothing of a plugin stays. */
 #include "plugins.h"
 #include <stdio.h>
 #include <string.h>

@@ -9,7 +9,8 @@ struct desk {
 };
 extern struct desk desk;
 
-/* A plugin changes the text on the desk. Where it has its variables is up to it: it has its stack, and no data of others. */
+/* A plugin changes the text on the desk. Where it has its variables is up to it: it has its stack, and no data of
+ * others. */
 typedef void plugin(void);
 plugin capitals, reversed, greedy;
 #endif

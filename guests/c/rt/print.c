@@ -1,5 +1,5 @@
-/* Texts from a format: <stdio.h>. printf writes to slot 1, which has the console or a reply, with one call for up to 512
-   bytes. There is no floating point. */
+/* Texts from a format: <stdio.h>. printf writes to slot 1, which has the console or a reply, with one call for up to
+   512 bytes. There is no floating point. */
 #include "../lwc.h"
 #include <stdarg.h>
 #include <stdio.h>
@@ -65,6 +65,8 @@ static void put_number(struct sink *to, const struct directive *how, unsigned lo
   for (; value; value /= base)
     bytes[--at] = digits[value % base];
   if (is_zero && !(how->is_exact && how->precision == 0))
+    bytes[--at] = '0';
+  if (base == 8 && how->other && !(at < (long)sizeof bytes && bytes[at] == '0'))
     bytes[--at] = '0';
   const char *prefix = is_negative ? "-" : "";
   if (kind == 'd' && !is_negative)

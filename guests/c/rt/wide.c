@@ -47,13 +47,13 @@ wide __modti3(wide a, wide b) {
   return (wide)(a < 0 ? -remainder : remainder);
 }
 
-/* Each load and store is one step, in the order of the program, if it is of a word of 8 bytes or of a byte. A load of less
-   is a load of its word. */
-#define LOAD(size, type) \
-  type lwc_atomic_load_##size(const volatile type *at, int order) __asm__("__atomic_load_" #size); \
+/* Each load and store is one step, in the order of the program, if it is of a word of 8 bytes or of a byte. A load of
+   less is a load of its word. */
+#define LOAD(size, type)                                                                                               \
+  type lwc_atomic_load_##size(const volatile type *at, int order) __asm__("__atomic_load_" #size);                     \
   type lwc_atomic_load_##size(const volatile type *at, int order) { return *at; }
-#define STORE(size, type) \
-  void lwc_atomic_store_##size(volatile type *at, type value, int order) __asm__("__atomic_store_" #size); \
+#define STORE(size, type)                                                                                              \
+  void lwc_atomic_store_##size(volatile type *at, type value, int order) __asm__("__atomic_store_" #size);             \
   void lwc_atomic_store_##size(volatile type *at, type value, int order) { *at = value; }
 LOAD(1, unsigned char)
 LOAD(2, unsigned short)

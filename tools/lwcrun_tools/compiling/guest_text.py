@@ -13,6 +13,9 @@ class Label:
         self.place = -1
 
 
+# The address of an instruction that no instruction of RISC-V was translated to: code with which a thread begins, or what
+# fills a gap.
+BEGIN, PADDING = -1, -2
 Operand = str | int | Label
 
 
@@ -32,7 +35,7 @@ class GuestText:
     made: list[GuestInstruction] = field(default_factory=list)
     placed: list[Label] = field(default_factory=list)
     # The instruction of RISC-V that is being translated.
-    address: int = -1
+    address: int = BEGIN
 
     def emit(self, name: str, *operands: Operand) -> None:
         """Adds an instruction. A number in the place of a register is written `r`, so registers come by `reg`."""
@@ -46,7 +49,7 @@ class GuestText:
     def align(self) -> None:
         """The next instruction gets an even number."""
         if len(self.made) % 2:
-            self.emit("HALT")
+            self.made.append(GuestInstruction("HALT", (), PADDING))
 
     def take_back(self, begin: int) -> None:
         """Drops the instructions from a place on, which no label stands for."""

@@ -9,7 +9,7 @@ from dataclasses import dataclass
 
 from lwcrun_tools.compiling.elf import REFUSED, Elf
 from lwcrun_tools.compiling.guest_memory import GuestMemory
-from lwcrun_tools.compiling.guest_text import GuestInstruction, GuestText, Label
+from lwcrun_tools.compiling.guest_text import BEGIN, PADDING, GuestInstruction, GuestText, Label
 from lwcrun_tools.compiling.program_code import ProgramCode
 from lwcrun_tools.compiling.translation import Translator
 from lwcrun_tools.refusals import Refused
@@ -67,7 +67,9 @@ class MadeSource:
         """Of each instruction its number, the function and the line of the program."""
         begins = sorted((label.place, label.name) for label in self.starts)
         for place, it in enumerate(self.text.made):
-            if it.address < 0:
+            if it.address == PADDING:
+                yield place, "", ""
+            elif it.address == BEGIN:
                 found = bisect.bisect_right(begins, (place, "~")) - 1
                 yield place, begins[found][1] if found >= 0 else "", ""
             else:
@@ -94,6 +96,7 @@ def make_source(elf: Elf, entries: list[str], by_words: bool | None) -> MadeSour
     translator = Translator(code, text, memory.threads == 1 if by_words is None else by_words)
     translator.translate()
     if any(label.place == len(text.made) for label in text.placed):
+        text.address = PADDING
         text.emit("HALT")
     count = len(text.made)
     if count > MOST_INSTRUCTIONS:

@@ -25,10 +25,19 @@ def add_options(parser: argparse.ArgumentParser) -> None:
         metavar="FUNCTION",
         help="the function at which a thread begins, given once for each thread; main if left out",
     )
-    parser.add_argument(
+    stores = parser.add_mutually_exclusive_group()
+    stores.add_argument(
         "--word-stores",
+        dest="by_words",
         action="store_true",
-        help="store 4 bytes by a load and a store of 8 also where there are several threads",
+        default=None,
+        help="store 4 bytes by a load and a store of 8, 2 steps; so it is if left out where there is one thread",
+    )
+    stores.add_argument(
+        "--byte-stores",
+        dest="by_words",
+        action="store_false",
+        help="store 4 bytes by 4 stores of a byte, 4 steps; so it is if left out where there are several threads",
     )
     parser.add_argument("--listing", action="store_true", help="print each instruction with its place and its line")
     parser.add_argument("--keep-source", action="store_true", help="write the image's source too, with .s for .lwc")
@@ -39,7 +48,7 @@ def add_options(parser: argparse.ArgumentParser) -> None:
 def write_made(elf: Elf, given: argparse.Namespace, name: str, work: WorkFolder) -> None:
     """Makes the image of a linked program, and writes it and what else is asked for."""
     name = given.image or name
-    made = make_source(elf, given.entry or ["main"], given.word_stores or None)
+    made = make_source(elf, given.entry or ["main"], given.by_words)
     source = made.source()
     path = work.write("made.s", source)
     image = call_program([find_program(given.program), "asm", "--", path], [Input(IMAGE, name, path)])
