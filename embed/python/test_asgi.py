@@ -38,7 +38,9 @@ bad: LDW r6, r4, 1
 """
 
 
-def ask(app: App, method: str, path: str, body: bytes = b"", query: bytes = b"") -> tuple[int, dict[bytes, bytes], bytes]:
+def ask(
+    app: App, method: str, path: str, body: bytes = b"", query: bytes = b""
+) -> tuple[int, dict[bytes, bytes], bytes]:
     """The status, the headers and the body of the answer to a request."""
     sent: list[Any] = []
     parts = [body[:10], body[10:]]
@@ -98,5 +100,7 @@ def test_requests_that_wait_are_all_answered(echo: App) -> None:
         return await asyncio.gather(*(echo.reply(b"Z" if i % 10 == 0 else b"%d" % i) for i in range(100)))
 
     replies = asyncio.run(all_at_once())
-    expected = ["fault 2 -" if i % 10 == 0 else f"done 0 {(b'200' + bytes([10]) + b'%d' % i).hex()}" for i in range(100)]
+    expected = [
+        "fault 2 -" if i % 10 == 0 else f"done 0 {(b'200' + bytes([10]) + b'%d' % i).hex()}" for i in range(100)
+    ]
     assert replies == expected

@@ -38,6 +38,9 @@ enum lwc_refusal {
   LWC_NOT_FRESH = -23,
 };
 
+/* The functions of this header count as the line that calls them, for trace and its kin. */
+#define LWC_INLINE static inline __attribute__((nodebug))
+
 enum { LWC_PAGE_SIZE = 4096, LWC_SLOTS = 64, LWC_REPLY_SIZE = 4096, LWC_MOST_ITEMS = 32 };
 
 /* In a serve slot 0 has the request and slot 1 the reply; in a run both have the console. */
@@ -52,22 +55,22 @@ struct lwc_item {
 };
 
 /* The number of the page of an address. */
-static inline uint32_t lwc_page(const void *address) { return (uint32_t)((uintptr_t)address / LWC_PAGE_SIZE); }
+LWC_INLINE uint32_t lwc_page(const void *address) { return (uint32_t)((uintptr_t)address / LWC_PAGE_SIZE); }
 
 /* The pages that have the bytes from `begin` up to and without `end`. */
-static inline struct lwc_item lwc_pages(enum lwc_mode mode, const void *begin, const void *end) {
+LWC_INLINE struct lwc_item lwc_pages(enum lwc_mode mode, const void *begin, const void *end) {
   struct lwc_item item = {LWC_KIND_PAGES, (uint32_t)mode, lwc_page(begin), lwc_page((const char *)end - 1) + 1};
   return item;
 }
 
 /* The slots `from` up to and without `to`. */
-static inline struct lwc_item lwc_slots(enum lwc_mode mode, uint32_t from, uint32_t to) {
+LWC_INLINE struct lwc_item lwc_slots(enum lwc_mode mode, uint32_t from, uint32_t to) {
   struct lwc_item item = {LWC_KIND_SLOTS, (uint32_t)mode, from, to};
   return item;
 }
 
 /* The uid. */
-static inline struct lwc_item lwc_uid(enum lwc_mode mode) {
+LWC_INLINE struct lwc_item lwc_uid(enum lwc_mode mode) {
   struct lwc_item item = {LWC_KIND_UID, (uint32_t)mode, 0, 1};
   return item;
 }
@@ -109,20 +112,20 @@ extern char lwc_constants_begin[], lwc_constants_end[], lwc_data_begin[], lwc_da
 #undef LWC_NAME
 
 /* Ends the thread with a code; a request ends with its reply as it is. It does not return. */
-static inline void __attribute__((noreturn)) lwc_exit(long code) {
+LWC_INLINE void __attribute__((noreturn)) lwc_exit(long code) {
   (void)LWC_CALL(10, code, 0, 0);
   __builtin_unreachable();
 }
 
 /* Ends the thread with code 0. */
-static inline void __attribute__((noreturn)) lwc_halt(void) {
+LWC_INLINE void __attribute__((noreturn)) lwc_halt(void) {
   __asm__ volatile(".insn i 0x0b, 1, x0, x0, 0");
   __builtin_unreachable();
 }
 
 /* Makes call 1 to 9 with the memory (bit 1 of the mask), the slots (2) or the uid (4) of the context in a slot. Answers
    what that call does, or BadFd, WrongKind, BadMode, NotCovered, BadCall; under a monitor Trapped too. */
-static inline long lwc_on_behalf(long slot, long mask, long number, long a, long b, long c) {
+LWC_INLINE long lwc_on_behalf(long slot, long mask, long number, long a, long b, long c) {
   register long a0 __asm__("a0") = slot, a1 __asm__("a1") = mask, a2 __asm__("a2") = number;
   register long a3 __asm__("a3") = a, a4 __asm__("a4") = b, a5 __asm__("a5") = c;
   long answer;
@@ -140,7 +143,7 @@ struct lwc_arrival {
 
 /* Goes to the context in a slot with an argument. It comes back when somebody switches here, answers 0 and fills
    `arrival`; or BadFd, WrongKind, NoSlotThere, and under a monitor Trapped. */
-static inline long lwc_switch(long slot, long argument, struct lwc_arrival *arrival) {
+LWC_INLINE long lwc_switch(long slot, long argument, struct lwc_arrival *arrival) {
   register long a0 __asm__("a0") = slot, a1 __asm__("a1") = argument;
   long answer;
   __asm__ volatile(".insn i 0x0b, 0, %0, x0, 17" : "=r"(answer), "+r"(a0), "+r"(a1) : : "memory", "a2", "a3", "a4");
@@ -159,7 +162,7 @@ struct lwc_trapped_call {
 
 /* In a monitor: goes to the trapped context in a slot, whose call answers `answer` there, and comes back with its next
    call. Answers 0, or a refusal as lwc_switch. */
-static inline long lwc_resume(long slot, long answer, struct lwc_trapped_call *call) {
+LWC_INLINE long lwc_resume(long slot, long answer, struct lwc_trapped_call *call) {
   register long a0 __asm__("a0") = slot, a1 __asm__("a1") = answer;
   register long a2 __asm__("a2"), a3 __asm__("a3"), a4 __asm__("a4");
   long refusal;
@@ -184,8 +187,8 @@ enum { LWC_RESUMED = -1 };
    slot of the new context, or a refusal; and LWC_RESUMED in the new context once somebody switches there, with who came
    in `arrival`. The stack of the thread has to be copied: no item may share it or leave it out. Refusals: TooManyItems,
    BadAddress, BadMode, BadRange, Overlap, TooManyContexts, NoSlot, TooManyGroups, TooManyRanges. */
-static inline long __attribute__((always_inline)) lwc_snapshot(const struct lwc_item *items, long count,
-                                                               struct lwc_arrival *arrival) {
+LWC_INLINE long __attribute__((always_inline)) lwc_snapshot(const struct lwc_item *items, long count,
+                                                            struct lwc_arrival *arrival) {
   register long a0 __asm__("a0") = (long)items, a1 __asm__("a1") = count;
   long answer;
   __asm__ volatile(".insn i 0x0b, 0, %0, x0, 16" : "=r"(answer), "+r"(a0), "+r"(a1) : : "memory", "a2", "a3", "a4");

@@ -26,12 +26,12 @@ extern "C" {
 #undef LWC_NAME
 
 /* Asks the monitor something that is no call of the kernel. */
-static inline long trapped_ask(long a, long b, long c) { return LWC_CALL(0, a, b, c); }
+LWC_INLINE long trapped_ask(long a, long b, long c) { return LWC_CALL(0, a, b, c); }
 
 /* Makes a context, switches, or makes a call for another context: the monitor sees call 16, 17 or 20. */
-static inline long trapped_create(const struct lwc_item *items, long count) { return LWC_CALL(16, items, count, 0); }
-static inline long trapped_switch(long slot, long argument) { return LWC_CALL(17, slot, argument, 0); }
-static inline long trapped_on_behalf(long slot, long mask, long number) { return LWC_CALL(20, slot, mask, number); }
+LWC_INLINE long trapped_create(const struct lwc_item *items, long count) { return LWC_CALL(16, items, count, 0); }
+LWC_INLINE long trapped_switch(long slot, long argument) { return LWC_CALL(17, slot, argument, 0); }
+LWC_INLINE long trapped_on_behalf(long slot, long mask, long number) { return LWC_CALL(20, slot, mask, number); }
 
 #undef LWC_CALL
 

@@ -14,7 +14,7 @@ struct lwc_web {
 };
 
 /* Reads the request. Answers 0; or -1 where it has no line as the form says, and then all texts are empty. */
-static inline long lwc_web_read(struct lwc_web *web) {
+LWC_INLINE long lwc_web_read(struct lwc_web *web) {
   long size = lwc_read(LWC_REQUEST, web->bytes, LWC_REPLY_SIZE);
   web->bytes[size > 0 ? size : 0] = 0;
   web->method = web->path = web->query = web->body = "";
@@ -38,9 +38,10 @@ static inline long lwc_web_read(struct lwc_web *web) {
   return 0;
 }
 
-/* The value of a field of the query or of a form, as `tea` of `item=tea&count=2`, into `value` with a zero byte behind it:
+/* The value of a field of the query or of a form, as `tea` of `item=tea&count=2`, into `value` with a zero byte behind
+   it:
    + is a blank, and %20 a byte by its digits. Answers its length, or -1 where there is no such field or no room. */
-static inline long lwc_web_field(const char *fields, const char *name, char *value, long room) {
+LWC_INLINE long lwc_web_field(const char *fields, const char *name, char *value, long room) {
   size_t length = strlen(name);
   while (fields && !(strncmp(fields, name, length) == 0 && fields[length] == '=')) {
     fields = strchr(fields, '&');

@@ -31,8 +31,8 @@ class CheckFailed(Exception):
 
 @dataclass
 class Workshop:
-    """Where programs are made: the program lwcrun, a folder for files, and the folder of the tools, which may be a copy
-    with a fault in it."""
+    """Where programs are made: the program lwcrun, a folder for files, and the folder of the tools, which may be a
+    copy with a fault in it."""
 
     program: str
     work: WorkFolder

@@ -32,20 +32,41 @@ WAYS_OF_STORES = (["--word-stores"], ["--byte-stores"])
 FAULTS = [
     Fault("sequences.py", "text.add_number(rd, ZERO, -1)", "text.add_number(rd, ZERO, -2)", ("div", "divw")),
     Fault("sequences.py", "signed(plus - SIGN, 32)", "signed(plus - SIGN + (plus == 2047), 32)", ("addiw",)),
-    Fault("sequences.py", "text.load_high(SECOND, 1 << (31 - count))", "text.load_high(SECOND, 1 << (30 - count))", ("srai",)),
-    Fault("sequences.py", 'with_number(text, "AND", SCRATCH, rb, 31)', 'with_number(text, "AND", SCRATCH, rb, 63)', ("sraw",)),
-    Fault("sequences.py", "    text.load_low(ZERO, 0)\n    text.move(rd, SECOND)", "    text.move(rd, SECOND)", ("mulhu",)),
-    Fault("sequences.py", 'text.three("ADD", SCRATCH, rb, SCRATCH)', 'text.three("SUB", SCRATCH, rb, SCRATCH)', ("blt",)),
+    Fault(
+        "sequences.py",
+        "text.load_high(SECOND, 1 << (31 - count))",
+        "text.load_high(SECOND, 1 << (30 - count))",
+        ("srai",),
+    ),
+    Fault(
+        "sequences.py",
+        'with_number(text, "AND", SCRATCH, rb, 31)',
+        'with_number(text, "AND", SCRATCH, rb, 63)',
+        ("sraw",),
+    ),
+    Fault(
+        "sequences.py",
+        "    text.load_low(ZERO, 0)\n    text.move(rd, SECOND)",
+        "    text.move(rd, SECOND)",
+        ("mulhu",),
+    ),
+    Fault(
+        "sequences.py", 'text.three("ADD", SCRATCH, rb, SCRATCH)', 'text.three("SUB", SCRATCH, rb, SCRATCH)', ("blt",)
+    ),
     Fault("arithmetic.py", "2: (True, False)", "2: (True, True)", ("mulhsu",)),
     Fault("arithmetic.py", "5: signed(right >> shift, 32)", "5: signed(low >> shift, 32)", ("sraiw",)),
     Fault("memory_access.py", "text.load_low(SECOND, 6)", "text.load_low(SECOND, 4)", ("lh",)),
     Fault("memory_access.py", "with_four = at.offset % 8 == 4", "with_four = False", ("lw",)),
     Fault("memory_access.py", "at.modulo == 6", "at.modulo >= 4", ("lhu",)),
-    Fault("memory_access.py", 'text.three("XOR", SCRATCH, SECOND, rb)', 'text.three("OR", SCRATCH, SECOND, rb)', ("sw",)),
+    Fault(
+        "memory_access.py", 'text.three("XOR", SCRATCH, SECOND, rb)', 'text.three("OR", SCRATCH, SECOND, rb)', ("sw",)
+    ),
     Fault("memory_access.py", "at.offset + i)", "at.offset + (i ^ (i == 3)))", ("sw",)),
     Fault("demand.py", "(7, 0), (0, 1))", "(7, 0), (0, 1), (5, 0))", ("chain",)),
     Fault("demand.py", "return asked | ({it.rs1, it.rs2} if it.f3 == 3 else {it.rs1})", "return asked", ("chain",)),
-    Fault("translation.py", "offset & 7 if it.rs1 == 2 else None", "offset & 3 if it.rs1 == 2 else None", ("lw", "sw")),
+    Fault(
+        "translation.py", "offset & 7 if it.rs1 == 2 else None", "offset & 3 if it.rs1 == 2 else None", ("lw", "sw")
+    ),
     Fault("translation.py", "is_equal)\n", "not is_equal)\n", ("beq",)),
 ]
 

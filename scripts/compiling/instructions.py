@@ -1,4 +1,5 @@
-"""Each instruction of RISC-V against qemu: in every pattern of equal registers, on numbers at edges and random ones."""
+"""Each instruction of RISC-V against qemu: in every pattern of equal registers, on numbers at edges and random
+ones."""
 
 from __future__ import annotations
 
@@ -19,7 +20,18 @@ BRANCHES = "beq bne blt bge bltu bgeu".split()
 LOADS = {"lb": 1, "lbu": 1, "lh": 2, "lhu": 2, "lw": 4, "lwu": 4, "ld": 8}
 STORES = {"sb": 1, "sh": 2, "sw": 4, "sd": 8}
 SMALL = [0, 1, 2, 3, 7, 31, 32, 33, 63, 64, 127, 128, 255, 32767, 32768, 65535]
-EDGES = SMALL + [2**31 - 1, 2**31, 2**31 + 1, 2**32 - 1, 2**32, 2**63 - 1, 2**63, 2**63 + 1, 2**64 - 1, 2**64 - 2]
+EDGES = SMALL + [
+    2**31 - 1,
+    2**31,
+    2**31 + 1,
+    2**32 - 1,
+    2**32,
+    2**63 - 1,
+    2**63,
+    2**63 + 1,
+    2**64 - 1,
+    2**64 - 2,
+]
 EDGES += [2**64 - 2**31, 2**64 - 2**31 - 1, 2**64 - 2**32]
 # How a result goes into a sum: whole, or its low half alone, so that its high half need not be right.
 WHOLE = "  xor t2, t2, a5\n"
@@ -96,7 +108,8 @@ def forms_of_stores(name: str, size: int) -> Iterator[str]:
             area = f"{fill}  la t0, area\n  sd t1, 0(t0)\n  sd t1, 8(t0)\n"
             for before in (0, 8, 20):
                 # A label makes the translator forget what t0 is.
-                yield f"{area}  addi t0, t0, {offset - before}\n  beq a2, a2, 9f\n9: {name} {value}, {before}(t0)\n{look}"
+                forget = f"{area}  addi t0, t0, {offset - before}\n  beq a2, a2, 9f\n9:"
+                yield f"{forget} {name} {value}, {before}(t0)\n{look}"
             yield f"{area}  {name} {value}, {offset}(t0)\n{look}"
             stack = f"{fill}  sd t1, -16(sp)\n  sd t1, -8(sp)\n  {name} {value}, {offset - 16}(sp)\n"
             yield f"{stack}  ld a5, -16(sp)\n  ld t1, -8(sp)\n{shown}"
@@ -180,7 +193,8 @@ def compare(shop: Workshop, forms: Sequence[Form], numbers: Sequence[int]) -> li
 
 
 def check(shop: Workshop, chance: random.Random, only: Sequence[str] = ()) -> tuple[int, int, list[Form]]:
-    """How many forms and operands were compared, and the forms that differ. With names, of those instructions alone."""
+    """How many forms and operands were compared, and the forms that differ. With names, of those instructions
+    alone."""
     count, pairs, wrong = 0, 0, list[Form]()
     for group in all_forms(chance):
         if only and group[0].name not in only:

@@ -136,9 +136,12 @@ def check_program(shop: Workshop, chance: random.Random, name: str, count: int) 
 def check_objects(shop: Workshop) -> Compared:
     """C++ with virtual functions, pointers to members and constructors, against this machine."""
     file = os.path.join(PROGRAMS, "objects.cc")
-    native = shop.write(shop.path(".cc"), f'#include "{PROGRAMS}/native.h"\n#define LWC_H\nenum {{ LWC_CONSOLE = 1 }};\n'
-                        + read(file).replace('#include "lwc.h"', ""))
-    expected = run_native(shop.native([native]), b"")
+    native = shop.write(
+        shop.path(".cc"),
+        f'#include "{PROGRAMS}/native.h"\n#define LWC_H\nenum {{ LWC_CONSOLE = 1 }};\n'
+        + read(file).replace('#include "lwc.h"', ""),
+    )
+    expected = run_native(shop.native([native], "-fno-rtti"), b"")
     wrong = sum(shop.run_guest(shop.compile([file], f"-O{level}")) != ("done 0", expected) for level in LEVELS)
     return Compared("objects.cc", len(LEVELS), wrong, 0)
 

@@ -9,9 +9,7 @@ from compiling.bench_tools import PROGRAMS, Workshop
 
 # What csmith leaves out: packed structs, whose misaligned accesses fault in a guest, and floating point. Programs are
 # small, since a guest has 100000 steps.
-SHAPE = (
-    "--no-argc --concise --no-packed-struct --no-float --max-funcs 4 --max-block-depth 2 --max-array-len-per-dim 4"
-)
+SHAPE = "--no-argc --concise --no-packed-struct --no-float --max-funcs 4 --max-block-depth 2 --max-array-len-per-dim 4"
 
 
 def program(seed: int) -> bytes:
@@ -46,4 +44,6 @@ def run(shop: Workshop, seed: int, level: str) -> str:
     end, console = shop.run_guest(image)
     if end == "fault 5":
         return "out of budget"
-    return "equal" if (end, console) == ("done 0", expected.stdout) and expected.returncode == 0 else f"{end}, other sum"
+    return (
+        "equal" if (end, console) == ("done 0", expected.stdout) and expected.returncode == 0 else f"{end}, other sum"
+    )

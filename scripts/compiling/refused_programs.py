@@ -24,7 +24,12 @@ class Case:
 
 FIVE = 5
 CASES = [
-    Case("floating.c", "double x = 1;\nint main(void) {\n  return x * 3 > 2;\n}\n", FIVE, r"floating\.c:3: in main: .*floating point"),
+    Case(
+        "floating.c",
+        "double x = 1;\nint main(void) {\n  return x * 3 > 2;\n}\n",
+        FIVE,
+        r"floating\.c:3: in main: .*floating point",
+    ),
     Case(
         "atomic.c",
         "long n;\nint main(void) {\n  return __atomic_fetch_add(&n, 1, 5);\n}\n",
@@ -37,11 +42,14 @@ CASES = [
         FIVE,
         r"local\.c:3: in main: n is a thread-local variable",
     ),
-    Case("missing.c", "int f(void);\nint main(void) {\n  return f();\n}\n", FIVE, r"missing\.c:3: in main: f: no file"),
+    Case(
+        "missing.c", "int f(void);\nint main(void) {\n  return f();\n}\n", FIVE, r"missing\.c:3: in main: f: no file"
+    ),
     Case("large.c", "char all[70 << 20];\nint main(void) {\n  return all[5];\n}\n", FIVE, r"64 MB: \d+ too many"),
     Case(
         "long.c",
-        "#define A x = x * 3 + y; y ^= x >> 7; x += z; z = z * 5 ^ y;\n#define B A A A A A A A A\n#define C B B B B B B B B\n"
+        "#define A x = x * 3 + y; y ^= x >> 7; x += z; z = z * 5 ^ y;\n"
+        "#define B A A A A A A A A\n#define C B B B B B B B B\n"
         "long x, y, z;\nint main(void) {\n  volatile long *p = &x;\n"
         "#define D *p = x; C *p = y; C\n  D D D D D D D D D D D D D D D D D D D D D D D D D D\n"
         "  D D D D D D D D D D D D D D D D D D D D D D D D D D\n  return x;\n}\n",

@@ -57,7 +57,12 @@ def request_of(chance: random.Random, number: int) -> tuple[str, str, str, str]:
     if kind == 1:
         item = chance.choice([*PRICES, "gold"])
         good = item in PRICES
-        return f"/price?n={number}&item={item}", "", "200" if good else "404", f"{PRICES[item]}\n" if good else "no such item\n"
+        return (
+            f"/price?n={number}&item={item}",
+            "",
+            "200" if good else "404",
+            f"{PRICES[item]}\n" if good else "no such item\n",
+        )
     if kind == 2:
         numbers = [chance.randint(-1000, 1000) for _ in range(chance.randint(1, 300))]
         return "/sum", " ".join(map(str, numbers)), "200", f"{sum(numbers)}\n"
@@ -80,16 +85,27 @@ def check(shop: Workshop, chance: random.Random, count: int) -> list[str]:
         took = time.monotonic() - began
         long = shop.write(shop.path(".body"), b"1" * 4097)
         form = ["-s", "-o", os.devnull, "-w", "%{http_code} %header{lwcrun-fault}"]
-        ends = [shop.call(["curl", *form, f"{address}{path}", *more]).decode().strip() for path, more in
-                (("/sum", ["--data-binary", f"@{long}"]), ("/break", []), ("/", []))]
+        ends = [
+            shop.call(["curl", *form, *words]).decode().strip()
+            for words in (
+                [f"{address}/sum", "--data-binary", f"@{long}"],
+                [f"{address}/break"],
+                [f"{address}/"],
+            )
+        ]
         load = load_of(shop, address, count)
     status = dict(line.rsplit(" ", 1) for line in said.decode().splitlines())
-    wrong = [f"{path}: status {status.get(name)}, and not {code}" for (path, _, code, body), name in zip(requests, made)
-             if status.get(name) != code or content_of(name) != body]
+    wrong = [
+        f"{path}: status {status.get(name)}, and not {code}"
+        for (path, _, code, body), name in zip(requests, made)
+        if status.get(name) != code or content_of(name) != body
+    ]
     if ends != ["413", "500 3", "200"]:
         wrong.append(f"a long request, a fault and the first page have {ends}")
     codes = ", ".join(f"{number} of status {code}" for code, number in sorted(Counter(status.values()).items()))
-    print(f"{count} requests by curl, {AT_ONCE} at once, in {took:.1f} s: {codes}; {len(wrong)} wrong{load}", flush=True)
+    print(
+        f"{count} requests by curl, {AT_ONCE} at once, in {took:.1f} s: {codes}; {len(wrong)} wrong{load}", flush=True
+    )
     return wrong
 
 
@@ -97,7 +113,9 @@ def load_of(shop: Workshop, address: str, count: int) -> str:
     """What the load tool hey measures, where it is there."""
     if not shutil.which("hey"):
         return ""
-    said = shop.call(["hey", "-n", str(count // AT_ONCE * AT_ONCE), "-c", str(AT_ONCE), f"{address}/price?item=tea"]).decode()
+    said = shop.call(
+        ["hey", "-n", str(count // AT_ONCE * AT_ONCE), "-c", str(AT_ONCE), f"{address}/price?item=tea"]
+    ).decode()
     rate = next((line.split()[1] for line in said.splitlines() if "Requests/sec" in line), "none")
     good = next((line.split()[1] for line in said.splitlines() if "[200]" in line), "0")
     return f"; by hey {rate} requests a second, {good} of status 200"

@@ -7,6 +7,7 @@ from collections.abc import Sequence
 from dataclasses import dataclass, replace
 
 from lwcrun_tools.command import WorkFolder
+from lwcrun_tools.compiling.line_file import LineFile
 from lwcrun_tools.guest_source import Source
 from lwcrun_tools.images import Image
 from lwcrun_tools.refusals import SCRIPT, Input, Refused, call_program
@@ -27,7 +28,8 @@ class Run:
     options: list[str]
     work: WorkFolder
     image: Image
-    source: Source | None
+    # What names places of the text: a source, or the file of lines of a compiled image.
+    source: Source | LineFile | None
     steps: str = ""
 
     @property

@@ -15,6 +15,7 @@ from lwcrun_tools.assembling import assemble, compare
 from lwcrun_tools.command import WorkFolder
 from lwcrun_tools.command_line import OPTIONS
 from lwcrun_tools.exits import say
+from lwcrun_tools.compiling.line_file import read_lines
 from lwcrun_tools.guest_source import Source, is_image, read_source, source_of
 from lwcrun_tools.images import Image, read_image
 from lwcrun_tools.machine import TRAP
@@ -37,7 +38,8 @@ from lwcrun_tools.run_report import Report, ReportError, read_report
 
 FILES = """IMAGE is an image, or a source, which is assembled first. SCHEDULE is a schedule, or a report of a run of
 the image: its line `schedule` is taken, and the end of the run is compared with it. A report tells what it is a run
-of. A schedule alone does not: give --monitor, --vault FILE or --requests FILE where it is no plain run.
+of. A schedule alone does not: give --monitor, --vault FILE or --requests FILE where it is no plain run. Places have
+the labels of a source; of an image that tools/compile made they have functions and lines, by the file beside it.
 
 Status 0: success; 1: the run cannot be shown; 2: the line is not accepted; 3 to 7: as the program's."""
 
@@ -145,6 +147,7 @@ def open_run(given: argparse.Namespace, work: WorkFolder) -> Run:
     image_file, source = open_image(given, program, work)
     listing = call_program([program, "dis", "--", image_file.path], [image_file]).decode()
     image = read_image(image_file.read(), listing)
+    names = source or read_lines(given.image, image_file.read())
     files = {"image": image_file}
     files |= {
         kind: take(role, name, work)
@@ -154,7 +157,7 @@ def open_run(given: argparse.Namespace, work: WorkFolder) -> Run:
     written, report, files["schedule"] = read_schedule(given.schedule, work)
     differ: list[str] = []
     for kind in kinds_to_try(given, image, report):
-        run = Run(program, files, kind, options_of(given, kind, report), work, image, source)
+        run = Run(program, files, kind, options_of(given, kind, report), work, image, names)
         text = run.text_of(files["schedule"].path)
         if report and in_order(text) != in_order(written):
             found = found_options(run, written, report)

@@ -1,4 +1,5 @@
-"""A web application whose handler is a guest: `app = lwcrun.asgi.App("image.lwc")`, for any server of ASGI, as uvicorn.
+"""A web application whose handler is a guest: `app = lwcrun.asgi.App("image.lwc")`, for any server of ASGI, as
+uvicorn.
 
 A request goes to the guest as its method, a blank, its path with its query, a line feed, and its body:
 
@@ -11,10 +12,10 @@ The guest replies with a status, and if it likes a blank and a type, a line feed
     <h1>Tea</h1>
 
 Each request is answered in a fresh copy of the guest, with a budget of its own; no header of it goes to the guest. A
-fault is status 500, with its number in the header `lwcrun-fault`; another code than 0 is status 500 with `lwcrun-exit`;
-a reply without a status line is 500 with `lwcrun-error`. A request of more than 4096 bytes in this form is status 413,
-and no guest sees it. A reply has at most 4096 bytes: the guest's write of more is refused, and what it wrote before goes
-out.
+fault is status 500, with its number in the header `lwcrun-fault`; another code than 0 is status 500 with
+`lwcrun-exit`; a reply without a status line is 500 with `lwcrun-error`. A request of more than 4096 bytes in this form
+is status 413, and no guest sees it. A reply has at most 4096 bytes: the guest's write of more is refused, and what it
+wrote before goes out.
 
 Requests that wait at the same time are served together, by the program that `program` or LWCRUN names, or else by the
 library (embed/build). Nothing of this module is proved; what is proved is the serve.
@@ -33,6 +34,7 @@ from typing import Any
 from urllib.parse import quote
 
 import lwcrun
+from lwcrun.run_report import read_report
 
 REQUEST_BYTES = 4096
 MOST_AT_ONCE = 1024
@@ -117,7 +119,11 @@ class App:
             except (OSError, lwcrun.LwcrunError) as error:
                 LOG.error("the serve failed: %s", error)
                 answer = failure("the serve failed", status=503)
-        headers = [(b"content-type", answer.kind), (b"content-length", str(len(answer.body)).encode()), *answer.headers]
+        headers = [
+            (b"content-type", answer.kind),
+            (b"content-length", str(len(answer.body)).encode()),
+            *answer.headers,
+        ]
         await send({"type": "http.response.start", "status": answer.status, "headers": headers})
         await send({"type": "http.response.body", "body": answer.body})
 
@@ -183,7 +189,7 @@ async def serve_by_program(app: App, program: str, image: bytes, requests: Seque
             raise
     if process.returncode != 0:
         raise OSError(f"status {process.returncode}: {said.decode(errors='replace').strip()}")
-    report = lwcrun.read_report(output.decode("ascii"))
+    report = read_report(output.decode("ascii"))
     return list(report.replies)
 
 

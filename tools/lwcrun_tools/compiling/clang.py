@@ -21,7 +21,9 @@ from lwcrun_tools.toolchain import sum_of
 VERSION = "19"
 PACKAGES = {"clang": f"clang-{VERSION}", "ld.lld": f"lld-{VERSION}"}
 LIBRARY = os.path.join(GUESTS, "c")
-RUNTIME = [os.path.join(LIBRARY, "rt", f"{name}.c") for name in ("context", "memory", "numbers", "heap", "print", "wide")]
+RUNTIME = [
+    os.path.join(LIBRARY, "rt", f"{name}.c") for name in ("context", "memory", "numbers", "heap", "print", "wide")
+]
 TARGET = ["--target=riscv64-unknown-elf", "-march=rv64em", "-mabi=lp64e", "-mno-relax", "-mcmodel=medlow", "-fno-pic"]
 # Sections for each function, so that what is not called takes no place; no tables, since a load is a step.
 CODE = ["-ffunction-sections", "-fdata-sections", "-fno-jump-tables", "-fno-asynchronous-unwind-tables"]
@@ -50,14 +52,25 @@ def find_tools() -> dict[str, str]:
 
 def add_options(parser: argparse.ArgumentParser) -> None:
     """The options that say how files are compiled."""
-    parser.add_argument("-O", dest="level", default="2", metavar="LEVEL", help="0, 1, 2, 3 or s, as clang's; 2 if left out")
+    parser.add_argument(
+        "-O", dest="level", default="2", metavar="LEVEL", help="0, 1, 2, 3 or s, as clang's; 2 if left out"
+    )
     parser.add_argument("-I", dest="folders", action="append", default=[], metavar="FOLDER", help="as clang's")
     parser.add_argument("-D", dest="defined", action="append", default=[], metavar="NAME[=VALUE]", help="as clang's")
     parser.add_argument(
-        "--clang", dest="flags", action="append", default=[], metavar="FLAG", help="one more flag for clang, as --clang=-Wall"
+        "--clang",
+        dest="flags",
+        action="append",
+        default=[],
+        metavar="FLAG",
+        help="one more flag for clang, as --clang=-Wall",
     )
-    parser.add_argument("--threads", type=int, metavar="N", help="so many threads: as many as --entry, or 1, if left out")
-    parser.add_argument("--stack", type=int, default=4, metavar="PAGES", help="the pages of a thread's stack; 4 if left out")
+    parser.add_argument(
+        "--threads", type=int, metavar="N", help="so many threads: as many as --entry, or 1, if left out"
+    )
+    parser.add_argument(
+        "--stack", type=int, default=4, metavar="PAGES", help="the pages of a thread's stack; 4 if left out"
+    )
 
 
 class Compiler:
@@ -93,8 +106,10 @@ class Compiler:
         if not os.path.isdir(kept):
             new = self.work.path("library")
             os.makedirs(new)
-            words = [[self.tools["clang"], *ALWAYS, *IN_LIBRARY, file, "-o", os.path.join(new, name)]
-                     for file, name in zip(RUNTIME, names)]
+            words = [
+                [self.tools["clang"], *ALWAYS, *IN_LIBRARY, file, "-o", os.path.join(new, name)]
+                for file, name in zip(RUNTIME, names)
+            ]
             run_side_by_side(words)
             kept = keep(new, kept)
         return [os.path.join(kept, name) for name in names]
@@ -105,7 +120,8 @@ class Compiler:
         words = [self.tools["ld.lld"], "-m", "elf64lriscv", "--emit-relocs", "--gc-sections", "-static", "--no-relax"]
         words += [f"--defsym=lwc_given_threads={threads}", f"--defsym=lwc_given_stack_pages={self.given.stack}"]
         words += ["-T", os.path.join(LIBRARY, "lwc.ld"), *(f"--undefined={name}" for name in entries)]
-        # The library's members are taken as they are needed, so a program may have functions of its own of these names.
+        # The library's members are taken as they are needed, so a program may have functions of its own of these
+        # names.
         words += [*self.objects(files), "--start-lib", *self.library(), "--end-lib", "-o", made]
         ran = subprocess.run(words, stdin=subprocess.DEVNULL, capture_output=True, check=False)
         if ran.returncode != 0:
@@ -159,7 +175,9 @@ def explain(said: str) -> str:
         function = re.search(r":\((?:\.text\.)?(\w+)", thing or place)
         where = f"{re.sub(r' [(].*', '', place)}: in {function[1]}" if function else place
         if ATOMIC.match(symbol):
-            why = "an atomic read-modify-write, which no guest has: order threads by 8-byte flags that one thread stores"
+            why = (
+                "an atomic read-modify-write, which no guest has: order threads by 8-byte flags that one thread stores"
+            )
         elif FLOATING.match(symbol):
             why = "floating point, which no guest has: compute with integers"
         else:

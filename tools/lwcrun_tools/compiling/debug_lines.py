@@ -57,7 +57,9 @@ class LineTable:
     """The lines of a program: at each address at which one begins, the file and the line."""
 
     def __init__(self, elf: Elf) -> None:
-        self.texts = {name: found.data if (found := elf.section(name)) else b"" for name in (".debug_line_str", ".debug_str")}
+        self.texts = {
+            name: found.data if (found := elf.section(name)) else b"" for name in (".debug_line_str", ".debug_str")
+        }
         self.rows: list[tuple[int, str, int]] = []
         section = elf.section(".debug_line")
         if section:

@@ -83,7 +83,9 @@ class Elf:
         return [
             Section(
                 self._text(table + fields[0]),
-                *fields[1:4],
+                fields[1],
+                fields[2],
+                fields[3],
                 fields[5],
                 fields[7],
                 b"" if fields[1] == NO_BITS else self.data[fields[4] : fields[4] + fields[5]],

@@ -1,4 +1,5 @@
-"""Where a program's data lies in the guest: its pages, its stacks, its files, and the code with which threads begin."""
+"""Where a program's data lies in the guest: its pages, its stacks, its files, and the code with which threads
+begin."""
 
 from __future__ import annotations
 
@@ -59,7 +60,9 @@ class GuestMemory:
             )
         lowest = min((section for section in self.sections), key=lambda it: it.address, default=None)
         if lowest and lowest.address < self.top_of(self.threads - 1):
-            raise Refused(f"{self.elf.name}: {lowest.name} lies where the stacks are: link it by guests/c/lwc.ld", REFUSED)
+            raise Refused(
+                f"{self.elf.name}: {lowest.name} lies where the stacks are: link it by guests/c/lwc.ld", REFUSED
+            )
 
     def top_of(self, thread: int) -> int:
         """The end of a thread's stack. Below each is an absent page, for the first one page 0."""
@@ -100,7 +103,9 @@ class GuestMemory:
         if self.threads > 1:
             return {thread: [self.stack_of(thread)] for thread in range(self.threads)}
         pointed = {address // PAGE for address, _, _ in self.code.pointers}
-        zeros = {page for page, data in self.pages(dict.fromkeys(self.code.labels.values(), 0)).items() if not any(data)}
+        zeros = {
+            page for page, data in self.pages(dict.fromkeys(self.code.labels.values(), 0)).items() if not any(data)
+        }
         return {0: runs((zeros - pointed) | set(self.stack_of(0)))}
 
     def image_pages(self, numbers: dict[Label, int]) -> dict[int, bytes]:
@@ -135,7 +140,9 @@ class GuestMemory:
         for thread in range(self.threads):
             name = self.entries[min(thread, len(self.entries) - 1)]
             if name not in values:
-                raise Refused(f"{self.elf.name}: no function is called {name}, at which thread {thread} begins", REFUSED)
+                raise Refused(
+                    f"{self.elf.name}: no function is called {name}, at which thread {thread} begins", REFUSED
+                )
             starts.append(Label(f"start{thread}"))
             text.place(starts[-1])
             for part in self.mapped[thread]:

@@ -13,8 +13,8 @@ class Label:
         self.place = -1
 
 
-# The address of an instruction that no instruction of RISC-V was translated to: code with which a thread begins, or what
-# fills a gap.
+# The address of an instruction that no instruction of RISC-V was translated to: code with which a thread begins, or
+# what fills a gap.
 BEGIN, PADDING = -1, -2
 Operand = str | int | Label
 

@@ -1,4 +1,5 @@
-"""The file of lines beside an image that was made of a program: which function and which line each instruction is of."""
+"""The file of lines beside an image that was made of a program: which function and which line each instruction is
+of."""
 
 from __future__ import annotations
 

@@ -49,7 +49,9 @@ class MadeSource:
             lines.append(f".page {page} {data.rstrip(bytes(1)).hex() or '-'}")
         files = self.memory.files()
         lines += [f".file {it.owner} {it.is_public} {it.content.hex() or '-'}" for it in files]
-        lines += [f".slot {slot} {number}" for slot, number in sorted((it.slot, i) for i, it in enumerate(files)) if slot]
+        lines += [
+            f".slot {slot} {number}" for slot, number in sorted((it.slot, i) for i, it in enumerate(files)) if slot
+        ]
         return "\n".join(lines) + "\n"
 
     def line_table(self, image: bytes) -> str:

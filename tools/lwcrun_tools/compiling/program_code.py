@@ -53,7 +53,7 @@ class ProgramCode:
     def _names(self) -> dict[int, str]:
         """The functions by their addresses, each with a name of its own that a source takes."""
         found: dict[int, str] = {}
-        taken = set()
+        taken: set[str] = set()
         for symbol in sorted(self.elf.functions(), key=lambda it: it.kind, reverse=True):
             if symbol.value in found:
                 continue
@@ -86,7 +86,10 @@ class ProgramCode:
     def _check(self, it: Instruction, kind: int, name: str) -> None:
         """Refuses a relocation of code that the translator does not know."""
         if kind in THREAD_LOCALS:
-            self.refuse(it.address, f"{name} is a thread-local variable, and the guest has none: give each thread its own place in an array")
+            self.refuse(
+                it.address,
+                f"{name} is a thread-local variable, and no guest has any: give each thread its own place in an array",
+            )
         if kind not in OF_CODE:
             self.refuse(it.address, f"the relocation {kind} of {name}: compile it with -fno-pic -mcmodel=medlow")
 

@@ -4,8 +4,8 @@ from __future__ import annotations
 
 from dataclasses import dataclass
 
-# The guest's registers: a0 to a5 are r1 to r6, where calls take their arguments. Code for no system uses neither gp nor
-# tp, and x0 needs no register of its own as long as nothing else is kept in r15. So three are free for sequences.
+# The guest's registers: a0 to a5 are r1 to r6, where calls take their arguments. Code for no system uses neither gp
+# nor tp, and x0 needs no register of its own as long as nothing else is kept in r15. So three are free for sequences.
 REGISTERS = {0: 15, 1: 7, 2: 8, 5: 9, 6: 10, 7: 11, 8: 12, 9: 13, **{10 + i: 1 + i for i in range(6)}}
 # Two scratch registers, and one that is 0 between instructions of RISC-V.
 SCRATCH, SECOND, ZERO = 0, 14, 15

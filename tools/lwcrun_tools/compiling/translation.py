@@ -112,7 +112,9 @@ class Translator:
     def _refuse(self, it: Instruction) -> None:
         why = f"the instruction {it.word:08x}, which no guest has"
         if it.opcode == ATOMIC:
-            why = "an atomic read-modify-write, which no guest has: order threads by 8-byte flags that one thread stores"
+            why = (
+                "an atomic read-modify-write, which no guest has: order threads by 8-byte flags that one thread stores"
+            )
         elif it.opcode in FLOATING:
             why = "floating point, which no guest has: compute with integers"
         elif it.word & 3 != 3:
