@@ -8,7 +8,7 @@ import re
 from collections.abc import Iterator, Sequence
 from dataclasses import dataclass
 
-from compiling.bench_tools import MOST_STEPS, Workshop
+from compiling.bench_tools import MOST_STEPS, CheckFailed, Workshop
 
 OF_REGISTERS = (
     "add sub mul mulh mulhu mulhsu div divu rem remu and or xor sll srl sra slt sltu addw subw mulw divw divuw remw "
@@ -51,6 +51,11 @@ class Form:
     @property
     def is_memory(self) -> bool:
         return self.name in LOADS or self.name in STORES
+
+    @property
+    def steps(self) -> int:
+        """At most how many steps a round of the block makes."""
+        return 9 if self.is_memory else 6 if self.name == "chain" else 3
 
     def block(self, number: int) -> str:
         """The form for all operands, or for all pairs of them; its sum goes to its place in what is written."""
@@ -187,6 +192,8 @@ def compare(shop: Workshop, forms: Sequence[Form], numbers: Sequence[int]) -> li
     """The forms of which the guest and qemu have different sums."""
     ours_end, ours = shop.run_guest(shop.assemble(source(forms, numbers, True)))
     theirs = shop.run_by_qemu(source(forms, numbers, False))
+    if ours_end == "fault 5":
+        raise CheckFailed(f"the forms of {forms[0].name} take more than {MOST_STEPS} steps")
     if ours_end != "done 0":
         return list(forms)
     return [form for i, form in enumerate(forms) if ours[8 * i : 8 * i + 8] != theirs[8 * i : 8 * i + 8]]
@@ -201,8 +208,7 @@ def check(shop: Workshop, chance: random.Random, only: Sequence[str] = ()) -> tu
             continue
         for at in range(0, len(group), AT_ONCE):
             forms = group[at : at + AT_ONCE]
-            each = 9 if forms[0].is_memory else 3
-            most = MOST_STEPS // (each * len(forms))
+            most = (MOST_STEPS - 1000) // (forms[0].steps * len(forms))
             numbers = operands(chance, min(60, most) if forms[0].is_memory else min(60, int(most**0.5)))
             wrong += compare(shop, forms, numbers)
             count += len(forms)

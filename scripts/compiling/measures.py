@@ -1,12 +1,12 @@
-"""What a program in C costs as a guest: guest instructions for each of RISC-V, steps, and the time beside this machine and
-qemu."""
+"""What a program in C costs as a guest: guest instructions for each of RISC-V, steps, and the processor time beside
+this machine and qemu."""
 
 from __future__ import annotations
 
 import os
 import random
+import resource
 import subprocess
-import time
 from collections.abc import Sequence
 
 from compiling.bench_tools import MOST_STEPS, PROGRAMS, QEMU, VERSION, Workshop
@@ -39,12 +39,13 @@ HEADER += "long lwc_write(long, const void *, long);\nvoid *memcpy(void *, const
 
 
 def seconds(words: Sequence[str], given: bytes) -> float:
-    """The least time of three runs of a command."""
+    """The least processor time of three runs of a command."""
     best = float("inf")
     for _ in range(3):
-        began = time.perf_counter()
+        before = resource.getrusage(resource.RUSAGE_CHILDREN)
         subprocess.run(words, input=given, stdout=subprocess.DEVNULL, check=True)
-        best = min(best, time.perf_counter() - began)
+        after = resource.getrusage(resource.RUSAGE_CHILDREN)
+        best = min(best, after.ru_utime + after.ru_stime - before.ru_utime - before.ru_stime)
     return best
 
 
@@ -78,5 +79,5 @@ def measure(shop: Workshop, chance: random.Random) -> list[str]:
     return [
         f"SHA-256 of {SIZE} bytes at -O2: {of_riscv} instructions of RISC-V, {made} of the guest, "
         f"{made / of_riscv:.2f} for each, {steps} steps",
-        f"its time: {1e6 * by_guest:.0f} microseconds as a guest, {1e6 * by_qemu:.0f} by qemu, {1e6 * by_native:.1f} here",
+        f"its processor time: {1e6 * by_guest:.0f} microseconds as a guest, {1e6 * by_qemu:.0f} by qemu, {1e6 * by_native:.1f} here",
     ]

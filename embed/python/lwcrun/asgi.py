@@ -18,7 +18,8 @@ is status 413, and no guest sees it. A reply has at most 4096 bytes: the guest's
 wrote before goes out.
 
 Requests that wait at the same time are served together, by the program that `program` or LWCRUN names, or else by the
-library (embed/build). Nothing of this module is proved; what is proved is the serve.
+library, if embed/build has made it, or else by this checkout's program. Nothing of this module is proved; what is
+proved is the serve.
 """
 
 from __future__ import annotations
@@ -38,6 +39,7 @@ from lwcrun.run_report import read_report
 
 REQUEST_BYTES = 4096
 MOST_AT_ONCE = 1024
+LAUNCHER = os.path.join(lwcrun.TOP, "lwcrun")
 STATUS_LINE = re.compile(rb"([2-5][0-9][0-9])(?: ([\x21-\x7e][\x20-\x7e]*))?\n")
 PLAIN = b"text/plain; charset=utf-8"
 LOG = logging.getLogger("lwcrun.asgi")
@@ -77,6 +79,12 @@ def failure(why: str, *headers: tuple[bytes, bytes], status: int = 500) -> Answe
     return Answer(status, PLAIN, why.encode() + b"\n", headers)
 
 
+def has_library() -> bool:
+    """Whether there is a library to call."""
+    made = os.path.join(lwcrun.TOP, "embed", "out", "liblwcrun.so")
+    return os.path.exists(os.environ.get("LWCRUN_LIBRARY", made))
+
+
 @dataclass
 class App:
     """An application of ASGI. `image` is the name of an image, or its bytes; the settings are those of a serve, and
@@ -92,7 +100,7 @@ class App:
     _serves: set[asyncio.Task[None]] = field(default_factory=set, init=False, repr=False)
 
     def __post_init__(self) -> None:
-        self.program = self.program or os.environ.get("LWCRUN")
+        self.program = self.program or os.environ.get("LWCRUN") or (None if has_library() else LAUNCHER)
         if isinstance(self.image, str):
             with open(self.image, "rb") as file:
                 self.image = file.read()
