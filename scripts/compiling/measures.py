@@ -9,7 +9,8 @@ import resource
 import subprocess
 from collections.abc import Sequence
 
-from compiling.bench_tools import MOST_STEPS, PROGRAMS, QEMU, VERSION, Workshop
+from compiling.bench_tools import MOST_STEPS, PROGRAMS, QEMU, Workshop
+from lwcrun_tools.compiling.clang import VERSION
 
 SIZE, REQUESTS = 1024, 100
 # How often the program computes its sum natively and by qemu, so that their starts count for little.
@@ -79,5 +80,6 @@ def measure(shop: Workshop, chance: random.Random) -> list[str]:
     return [
         f"SHA-256 of {SIZE} bytes at -O2: {of_riscv} instructions of RISC-V, {made} of the guest, "
         f"{made / of_riscv:.2f} for each, {steps} steps",
-        f"its processor time: {1e6 * by_guest:.0f} microseconds as a guest, {1e6 * by_qemu:.0f} by qemu, {1e6 * by_native:.1f} here",
+        f"its processor time: {1e6 * by_guest:.0f} microseconds as a guest, {1e6 * by_qemu:.0f} by qemu, "
+        f"{1e6 * by_native:.1f} here",
     ]

@@ -13,8 +13,8 @@ import sys
 
 from lwcrun_tools.checkout import GUESTS, TOP
 from lwcrun_tools.command import WorkFolder
-from lwcrun_tools.compiling.elf import REFUSED, Elf
-from lwcrun_tools.refusals import Refused, read_file
+from lwcrun_tools.compiling.elf import REFUSED, Elf, read_elf
+from lwcrun_tools.refusals import Refused
 from lwcrun_tools.toolchain import sum_of
 
 # RV64E came with version 18; 19 is the one that everything was tried with.
@@ -126,7 +126,7 @@ class Compiler:
         ran = subprocess.run(words, stdin=subprocess.DEVNULL, capture_output=True, check=False)
         if ran.returncode != 0:
             raise Refused(explain(ran.stderr.decode(errors="replace")), REFUSED, True)
-        return Elf(os.path.basename(files[0]), read_file(made))
+        return read_elf(made, os.path.basename(files[0]))
 
 
 def run_side_by_side(lines: list[list[str]]) -> None:

@@ -5,6 +5,7 @@ from __future__ import annotations
 import struct
 from dataclasses import dataclass
 
+from lwcrun_tools.exits import CANNOT_READ
 from lwcrun_tools.refusals import Refused
 
 REFUSED = 5
@@ -150,3 +151,12 @@ class Elf:
             and self.is_code(symbol.value)
             and (symbol.kind == FUNCTION or (symbol.kind == NO_TYPE and not symbol.name.startswith((".L", "$"))))
         ]
+
+
+def read_elf(path: str, name: str = "") -> Elf:
+    """The program in a file, with its name for the user."""
+    try:
+        with open(path, "rb") as file:
+            return Elf(name or path, file.read())
+    except OSError as error:
+        raise Refused(f"cannot read {path}: {error.strerror}", CANNOT_READ) from error

@@ -11,14 +11,14 @@ from lwcrun_tools.compiling.elf import REFUSED, Section
 from lwcrun_tools.compiling.guest_text import GuestText, Label
 from lwcrun_tools.compiling.program_code import ProgramCode
 from lwcrun_tools.compiling.riscv import ARGUMENT, REGISTERS, STACK
-from lwcrun_tools.images import PAGE
+from lwcrun_tools.machine import EXIT, MAP, MOST_PAGES, MOST_THREADS, PAGES_OF_FORM_ONE
+from lwcrun_tools.machine import PAGE_BYTES as PAGE
 from lwcrun_tools.refusals import Refused
 
 # Sections from this address on are no memory of the guest.
 OUTSIDE = 0x40000000
-PAGES_OF_FORM, MOST_THREADS, DEFAULT_STACK_PAGES = {1: 1024, 2: 16384}, 16, 4
+DEFAULT_STACK_PAGES = 4
 STACKS, FILES, CONSTRUCTORS = ".lwc_stacks", ".lwc_files", ".init_array"
-MAP, EXIT = 6, 10
 
 
 @dataclass(frozen=True)
@@ -42,7 +42,7 @@ class GuestMemory:
             raise Refused(f"an image has 1 to {MOST_THREADS} threads, and this would have {self.threads}", 2)
         self.sections = [section for section in self.elf.memory if section.address < OUTSIDE]
         self.last = max((section.address + section.size - 1) // PAGE for section in [*self.sections, self._stacks()])
-        self.form = 1 if self.last < PAGES_OF_FORM[1] else 2
+        self.form = 1 if self.last < PAGES_OF_FORM_ONE else 2
         self._check_room()
         self.mapped = self._mapped()
 
@@ -51,11 +51,11 @@ class GuestMemory:
         return Section("the stacks", 0, 0, 0, self.top_of(self.threads - 1), 0, b"")
 
     def _check_room(self) -> None:
-        most = PAGES_OF_FORM[2]
-        if self.last >= most:
+        if self.last >= MOST_PAGES:
             raise Refused(
-                f"{self.elf.name}: its data and stacks reach to page {self.last}, and an image has at most {most} "
-                f"pages, which are 64 MB: {self.last + 1 - most} too many. Make the arrays or the stacks smaller",
+                f"{self.elf.name}: its data and stacks reach to page {self.last}, and an image has at most "
+                f"{MOST_PAGES} pages, which are 64 MB: {self.last + 1 - MOST_PAGES} too many. Make the arrays or the "
+                "stacks smaller",
                 REFUSED,
             )
         lowest = min((section for section in self.sections), key=lambda it: it.address, default=None)

@@ -12,9 +12,8 @@ from lwcrun_tools.compiling.guest_memory import GuestMemory
 from lwcrun_tools.compiling.guest_text import BEGIN, PADDING, GuestInstruction, GuestText, Label
 from lwcrun_tools.compiling.program_code import ProgramCode
 from lwcrun_tools.compiling.translation import Translator
+from lwcrun_tools.machine import MOST_INSTRUCTIONS
 from lwcrun_tools.refusals import Refused
-
-MOST_INSTRUCTIONS = 65536
 
 
 @dataclass

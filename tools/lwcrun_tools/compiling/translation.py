@@ -186,7 +186,7 @@ class Translator:
         return Place(self._register(it, it.rs1), offset, offset & 7 if it.rs1 == 2 else None)
 
     def _load(self, it: Instruction) -> None:
-        if any(self.code.elf.is_code(its.value) for its in self.code.elf.relocations.get(it.address, [])):
+        if self.code.pointed_at(it) is not None:
             self.code.refuse(it.address, "a load from code, which is not in the guest's memory")
         if it.f3 == 7:
             self._refuse(it)

@@ -11,7 +11,7 @@ from lwcrun_tools.command import WorkFolder
 from lwcrun_tools.compiling.elf import Elf
 from lwcrun_tools.compiling.line_file import lines_name
 from lwcrun_tools.compiling.made_source import MadeSource, make_source, written
-from lwcrun_tools.guest_source import plural
+from lwcrun_tools.assembling import plural
 from lwcrun_tools.program import find_program
 from lwcrun_tools.refusals import IMAGE, Input, Refused, call_program
 
