@@ -67,7 +67,7 @@ FAULTS = [
     Fault(
         "translation.py", "offset & 7 if it.rs1 == 2 else None", "offset & 3 if it.rs1 == 2 else None", ("lw", "sw")
     ),
-    Fault("translation.py", "is_equal)\n", "not is_equal)\n", ("beq",)),
+    Fault("translation.py", "else a, is_equal, label)", "else a, not is_equal, label)", ("beq",)),
 ]
 
 
@@ -101,4 +101,5 @@ def find_faults(shop: Workshop, chance: random.Random) -> tuple[int, list[str]]:
         shop.made = broken.made
         if not found:
             missed.append(fault.name)
+        print(f"{'found' if found else 'NOT FOUND'}: {fault.name}", flush=True)
     return len(FAULTS), missed
