@@ -14,9 +14,11 @@ from collections.abc import Iterable, Mapping, Sequence
 from dataclasses import dataclass
 from enum import IntEnum
 
-from lwcrun.run_report import Report, read_report
-
 TOP = os.path.dirname(os.path.dirname(os.path.dirname(os.path.dirname(os.path.realpath(__file__)))))
+# In a checkout the module of reports is that of the tools; the wheel has a copy of it.
+__path__.append(os.path.join(TOP, "tools", "lwcrun_tools"))
+
+from lwcrun.run_report import Report, read_report  # noqa: E402
 
 PAGE_BYTES = 4096
 MOST_STEPS = 16_000_000

@@ -1,1 +1,0 @@
-../../../tools/lwcrun_tools/run_report.py
