@@ -46,6 +46,11 @@ WHILE_A_GROUP_LIVES = {
 }
 # An overlay of a slot may cut links, so that a reap might search among all contexts.
 OVERLAY_OF_A_SLOT = f"MOV r1, r11\nLI r2, {900 * 4096 + 16}\nLI r3, 1\nSYS 19\n"
+# Six steps that make a context, and another one in it, and drop both at once, for which a reap searches all contexts.
+DROP_OF_TWO = (
+    "LI r2, 0\nSYS 16\nADDI r9, r0, 1\nJZ r9, inner\nMOV r12, r0\nMOV r1, r0\nLI r2, 0\nSYS 17\nSYS 2\n"
+    "MOV r1, r12\nSYS 2\nJMP loop\ninner: MOV r10, r1\nLI r2, 0\nSYS 16\nMOV r1, r10\nLI r2, 0\nSYS 17\n"
+)
 # How many threads make how many contexts each, of how many ranges.
 LIVING = {
     "4 contexts": (1, 3, 2),
@@ -168,5 +173,7 @@ class Kinds:
         for kind, body in WHILE_A_GROUP_LIVES.items():
             for beside, numbers in LIVING.items():
                 yield f"{kind} beside {beside} while a group lives", self.step_beside(*numbers, body)
-        slot = self.step_beside(*LIVING["497 contexts"], OVERLAY_OF_A_SLOT)
-        yield "an overlay of one slot beside 497 contexts while a group lives", slot
+        for beside in ("4 contexts", "497 contexts"):
+            slot = self.step_beside(*LIVING[beside], OVERLAY_OF_A_SLOT)
+            yield f"an overlay of one slot beside {beside} while a group lives", slot
+        yield "a step that makes or drops two contexts beside 465", self.step_beside(16, 29, 2, DROP_OF_TWO)
