@@ -44,7 +44,7 @@ impl PageCells {
       states_of,
     };
     ghost use Rattle.cow_space.specs.Frames.{HasFrame, HasLoneFrame};
-    ghost use Rattle.cow_space.specs.Seen.{cells, frames_of, free_nodes, rights};
+    ghost use Rattle.cow_space.specs.Seen.{cells, frames_of, free_nodes, node_steps, rights};
     ghost use Rattle.cow_space.specs.Tags.{is_parting, own_values, used};
 
     /// This number of places without pages, over this number of frames. The only error is out of memory.
@@ -55,6 +55,7 @@ impl PageCells {
         ensures rights { IfOk result (λ opened. rights opened ≡ replicate places all_write) }
         ensures frames { IfOk result (λ opened. frames_of opened ≡ frames) }
         ensures nodes { IfOk result (λ opened. free_nodes opened ≡ TREE_NODES * places + FREE_NODES) }
+        ensures no_step { IfOk result (λ opened. node_steps opened ≡ 0) }
     {
         let rows = Rows::open(alloc, frames, places)?;
         let kinds = LateRows::open(alloc, places)?;

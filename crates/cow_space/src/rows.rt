@@ -38,7 +38,7 @@ impl Rows {
     ghost use Rattle.page_tree.specs.Pages.{page};
     ghost use Rattle.lwc_types.specs.declared.limits.TheConstants.{MOST_PAGE_PLACES};
     ghost use Rattle.cow_space.specs.Maps.{no_pages, row_of};
-    ghost use Rattle.cow_space.specs.RowSeen.{frames_of, free_nodes, maps, HasNoTree};
+    ghost use Rattle.cow_space.specs.RowSeen.{frames_of, free_nodes, maps, node_steps, HasNoTree};
     ghost use Rattle.cow_space.specs.RowFrames.{LeadsAlone};
     ghost use Rattle.cow_space.specs.Tags.{parts, row_tags};
 
@@ -50,6 +50,7 @@ impl Rows {
         ensures frames { IfOk result (λ opened. frames_of opened ≡ frames) }
         ensures nodes { IfOk result (λ opened. free_nodes opened ≡ TREE_NODES * rows + FREE_NODES) }
         ensures empty { IfOk result (λ opened. (i : ℕ) → HasNoTree opened i) }
+        ensures no_step { IfOk result (λ opened. node_steps opened ≡ 0) }
     {
         let store = Store::open(alloc, frames, TREE_NODES * rows + FREE_NODES)?;
         let trees = empty_trees(alloc, rows)?;

@@ -14,10 +14,11 @@ impl World for LazyWorld {
     ghost use Rattle.lwc_base.specs.Modes.{IsSpec};
     ghost use Rattle.lwc_base.specs.Overlay.{overlay, ranges_after_overlay};
     ghost use Rattle.lwc_base.specs.Sharing.{clone_context, needs_group, ranges_after_clone};
-    ghost use Rattle.lwc_base.specs.World.{next_context};
-    ghost use Rattle.world_face.specs.Calls.{AreFew, HasGroupPlace, HasPlace, IsLive, MayName};
+    ghost use Rattle.lwc_base.specs.World.{empty_world, next_context};
+    ghost use Rattle.world_face.specs.Calls.{AreFew, HasGroupPlace, HasPlace, IsLive, IsSize, MayName};
     ghost use Rattle.lazy_world.specs.Costs.{CloneSteps, CloneStore, OverlaySteps, OverlayStore};
     ghost use Rattle.lazy_world.specs.Lazy as lazy;
+    ghost use Rattle.lazy_world.specs.Seen.{node_steps};
 
     ghost seen = { lazy.seen_lazy };
 
@@ -28,7 +29,11 @@ impl World for LazyWorld {
         true
     }
 
-    fn open(alloc: Global, world_size: &WorldSize) -> Result<LazyWorld, OutOfMemory> {
+    fn open(alloc: Global, world_size: &WorldSize) -> Result<LazyWorld, OutOfMemory>
+        requires { IsSize world_size.now }
+        ensures opened { IfOk result (λ w. lazy.seen_lazy w ≡ empty_world world_size.now) }
+        ensures no_step { IfOk result (λ w. node_steps (lazy.placed w).places ≡ 0) }
+    {
         Ok(LazyWorld {
             world: PlacedWorld::open(alloc, world_size)?,
             cached_roots: ArrayVec::new(),

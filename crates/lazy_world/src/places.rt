@@ -66,7 +66,7 @@ impl Places {
     ghost use Rattle.lazy_world.specs.Kept.{target_of};
     ghost use Rattle.lwc_types.specs.declared.limits.TheConstants.{MOST_PAGE_PLACES};
     ghost use Rattle.lazy_world.specs.KeyValues.{HasSlot, group_in, key_in, value_in};
-    ghost use Rattle.lazy_world.specs.Seen.{KeepsStore, count, frame_count, rights, rows};
+    ghost use Rattle.lazy_world.specs.Seen.{KeepsStore, count, frame_count, node_steps, rights, rows};
 
     /// This number of places with nothing in them, over this number of frames. The only error is out of
     /// memory.
@@ -77,6 +77,7 @@ impl Places {
         ensures rights { IfOk result (λ opened. rights opened ≡ λ i. all_write) }
         ensures count { IfOk result (λ opened. count opened ≡ places) }
         ensures frames { IfOk result (λ opened. frame_count opened ≡ frames) }
+        ensures no_step { IfOk result (λ opened. node_steps opened ≡ 0) }
     {
         let uids = no_uids(alloc, places)?;
         let slots = Slots::open(alloc, places)?;

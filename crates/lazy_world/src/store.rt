@@ -236,24 +236,6 @@ impl PlacedWorld {
         }
     }
 
-    /// Stores bytes in the context's memory from the address `at` on, if they are in one page, which is its
-    /// own, may be stored to and does not part, and tells whether it did. If it did not, nothing changes.
-    #[inline(always)]
-    pub(crate) fn store_in_place(&mut self, context: Name, at: u32, piece: &[u8]) -> bool
-        requires live { IsLive (seen self.old) context }
-        requires within { at + length piece.now ≤ (seen self.old).size.pages * PAGE_BYTES }
-        ensures done { result ≡ true → (job : ℕ) → store (seen self.old) context job
-            (record { at = at; bytes = piece.now }) ≡ stores.Done (seen self.new) }
-        ensures same { result ≡ false → seen self.new ≡ seen self.old }
-    {
-        let i = self.place(context);
-        let pages = touched_pages(at as usize, piece.len());
-        if pages.to - pages.from != 1 {
-            return false;
-        }
-        self.places.write_in_place(i, pages.from, at, piece)
-    }
-
     /// Stores bytes in the context's memory from the address `at` on, for a job.
     ///
     /// # Errors

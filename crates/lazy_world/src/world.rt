@@ -3,7 +3,7 @@ ghost use Rattle.std.specs.FinMap as fm;
 ghost use Rattle.std.proofs.Props.{props};
 ghost use Rattle.ctx_table.specs.NameTables.{ArePlaced};
 ghost use Rattle.world_face.specs.Calls.{IsSize};
-ghost use Rattle.lazy_world.specs.Seen.{count, frame_count, rights, rows};
+ghost use Rattle.lazy_world.specs.Seen.{count, frame_count, node_steps, rights, rows};
 ghost use Rattle.lazy_world.specs.Sound.{IsSound, named_cell-prop};
 ghost use Rattle.lwc_base.specs.World.{nothing_counted};
 
@@ -90,7 +90,8 @@ impl PlacedWorld {
     /// A world of this size in which nothing is live. The only error is out of memory.
     pub(crate) fn open(alloc: Global, world_size: &WorldSize) -> Result<PlacedWorld, OutOfMemory>
         requires { IsSize world_size.now }
-        ensures { IfOk result (λ w. seen w ≡ empty_world world_size.now) }
+        ensures world { IfOk result (λ w. seen w ≡ empty_world world_size.now) }
+        ensures no_step { IfOk result (λ w. node_steps w.places ≡ 0) }
     {
         let (registers, counts) = nothing_kept(alloc, world_size)?;
         let (contexts, groups) = no_names(alloc, world_size)?;

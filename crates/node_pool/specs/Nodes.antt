@@ -14,9 +14,13 @@ pub record Nodes : Type 0 where
   pub all : List Node
   pub steps : ℕ
 
--- one step more: the count stays at the largest number of 64 bits
+-- the steps that are counted: at this number the count stays
+abbrev pub MOST_COUNTED : ℕ
+MOST_COUNTED = 2 ^ 64 - 1
+
+-- one step more, below that number
 abbrev pub next_step : ℕ → ℕ
-next_step steps = min (steps + 1) (2 ^ 64 - 1)
+next_step steps = min (steps + 1) MOST_COUNTED
 
 -- a node whose entries are all 0
 abbrev pub empty_node : ℕ → ℕ → Node

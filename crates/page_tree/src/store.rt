@@ -48,6 +48,7 @@ impl Store {
         ensures frames { IfOk result
             (λ store. store.frames ≡ replicate frames (zero_frame 0 (record { job = 0; k = 0 }))) }
         ensures free { IfOk result (λ store. free_of store.nodes.all ≡ nodes) }
+        ensures no_step { IfOk result (λ store. store.nodes.steps ≡ 0) }
     {
         let frames = Pool::open(alloc, frames)?;
         let nodes = NodePool::open(alloc, nodes)?;

@@ -34,3 +34,6 @@ returns-clause-count c = ap length c.in_ok-pages.ensures.cells ∙ length-replic
 pub returns-clause-frames : goal.returns-clause-frames
 unfolding frame_count
 returns-clause-frames c = c.in_ok-pages.ensures.frames
+
+pub returns-clause-no_step : goal.returns-clause-no_step
+returns-clause-no_step c = c.in_ok-pages.ensures.no_step

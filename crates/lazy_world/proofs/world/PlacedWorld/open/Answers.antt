@@ -26,9 +26,9 @@ invariant_of-result c =
           (sound-opened size c.requires c.in_ok-registers.registers c.in_ok-registers.ensures.registers);
     }
 
-pub returns : goal.returns
+pub returns-clause-world : goal.returns-clause-world
 unfolding seen parts
-returns c =
+returns-clause-world c =
     let size = c.args.world_size.now in
     ap world_of
     (λ e. record {
@@ -41,3 +41,6 @@ returns c =
       counts = c.in_ok-registers.ensures.counts e;
     })
     ∙ world-opened size c.requires c.in_ok-registers.registers c.in_ok-registers.ensures.registers
+
+pub returns-clause-no_step : goal.returns-clause-no_step
+returns-clause-no_step c = c.in_ok-places.ensures.no_step
