@@ -1,5 +1,5 @@
 //! The workers in threads of their own, and the caller beside them.
-ghost use Rattle.std.specs.Prelude.{◌≡◌, List, All, length, map};
+ghost use Rattle.std.specs.Prelude.{◌≡◌, ◌≤◌, List, All, length, map};
 ghost use Rattle.lwc_io.specs.Outside.{SinkView};
 ghost use Rattle.lwc_stream.specs.Workers.{HaveServed, IsFresh};
 ghost use Rattle.lwc_stream.specs.Streams.{HasShown};
@@ -183,6 +183,7 @@ pub(crate) fn serve_beside<'a, R: Threads + Wait + Sync, W: World, G: Gate, O: S
     collector: Collector<'a>,
     workers: Vec<Worker<'a, W>>,
 ) -> (Vec<Worker<'a, W>>, Collector<'a>)
+    requires never_full { All (λ e. length process.now.name.inputs.requests ≤ e.queue.slots) collector.takes.items }
     requires fresh { All (λ w. IsFresh process.now w.pass w.turns.turns w.turns.puts) workers.items }
     ensures served { HaveServed (λ w. w.pass)
         (λ w. w.turns.puts) process.now workers.entry.items result.0.items }

@@ -1,5 +1,5 @@
 //! The two ends of a worker's queue, and the rule that ties them.
-ghost use Rattle.std.specs.Prelude.{◌≡◌, ◌++◌, ◌∷◌, [], IfOk, IsNone, IfSome, MatchOption};
+ghost use Rattle.std.specs.Prelude.{◌≡◌, ◌≤◌, ◌++◌, ◌∷◌, [], IfOk, IsNone, IfSome, MatchOption};
 ghost use Rattle.lwc_stream.specs.Queues.{end_of, joined_of};
 
 use crossbeam_queue::protocol::{Join, Lesson, Outcome, Protocol, Split};
@@ -91,6 +91,7 @@ pub(crate) fn open_queue<'a>(
     ensures queue { IfOk result (λ q. q.0.queue ≡ q.1.queue) }
     ensures unput { IfOk result (λ q. q.0.values ≡ []) }
     ensures untaken { IfOk result (λ q. q.1.values ≡ []) }
+    ensures room { IfOk result (λ q. replies ≤ q.1.queue.slots) }
 {
     let (queue, mut pass) = Queue::<'a>::ruled(alloc, replies.max(1))?;
     let taking = queue.another::<Apart>(&mut pass);

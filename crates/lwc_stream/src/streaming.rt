@@ -94,6 +94,7 @@ fn open_stream<'a, W: World>(
     ensures unturned { IfOk result (λ s. All (λ w. w.turns.turns ≡ 0) s.0.items) }
     ensures unput { IfOk result (λ s. All (λ w. w.turns.puts.values ≡ []) s.0.items) }
     ensures untaken { IfOk result (λ s. All (λ e. e.values ≡ []) s.1.takes.items) }
+    ensures never_full { IfOk result (λ s. All (λ e. requests ≤ e.queue.slots) s.1.takes.items) }
     ensures waiting { IfOk result (λ s. s.1.waiting ≡ record { places = replicate requests None; next = 0 }) }
     ensures writer { IfOk result (λ s. s.1.writer ≡ false) }
     ensures none_left { IfOk result (λ s. s.2.items ≡ []) }
@@ -127,6 +128,7 @@ fn open_queues<'a>(
     ensures unturned { IfOk result (λ q. All (λ o. o.turns ≡ 0) q.0.items) }
     ensures unput { IfOk result (λ q. All (λ o. o.puts.values ≡ []) q.0.items) }
     ensures untaken { IfOk result (λ q. All (λ e. e.values ≡ []) q.1.items) }
+    ensures room { IfOk result (λ q. All (λ e. room ≤ e.queue.slots) q.1.items) }
 {
     let mut outboxes = Vec::new(alloc);
     let mut takes = Vec::new(alloc);

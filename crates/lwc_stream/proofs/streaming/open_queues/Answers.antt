@@ -1,4 +1,4 @@
-use Rattle.std.proofs.Common.{◌≡◌, ◌∙◌, [], All, map, sym, ap, subst, arith}
+use Rattle.std.proofs.Common.{◌≡◌, ◌∙◌, ◌≤◌, [], All, map, sym, ap, subst, arith}
 use Rattle.std.proofs.lemmas.List.Elements.{All-push}
 use Rattle.lwc_stream.proofs.Lists.{map_push, push_map}
 use Rattle.lwc_stream.specs.Queues.{End}
@@ -17,5 +17,6 @@ queues-preserved c =
           (ap (map (λ x. x.queue)) takes ∙ push_map (λ x. x.queue) c.queues.takes.items taking) (ap (λ (e : End). e.queue) same ∙ c.in_ok-putting.ensures.queue);
       unturned = subst (λ l. All (λ x. x.turns ≡ 0) l) (sym outboxes) (All-push (λ x. x.turns ≡ 0) c.queues.outboxes.items outbox inv.unturned c.new.ensures.turns);
       unput = subst (λ l. All (λ x. x.puts.values ≡ []) l) (sym outboxes) (All-push (λ x. x.puts.values ≡ []) c.queues.outboxes.items outbox inv.unput (ap (λ (e : End). e.values) same ∙ c.in_ok-putting.ensures.unput));
+      room = subst (λ l. All (λ x. c.args.room ≤ x.queue.slots) l) (sym takes) (All-push (λ x. c.args.room ≤ x.queue.slots) c.queues.takes.items taking inv.room c.in_ok-putting.ensures.room);
       untaken = subst (λ l. All (λ x. x.values ≡ []) l) (sym takes) (All-push (λ x. x.values ≡ []) c.queues.takes.items taking inv.untaken c.in_ok-putting.ensures.untaken);
     }

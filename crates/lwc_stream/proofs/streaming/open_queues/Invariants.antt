@@ -1,4 +1,4 @@
-use Rattle.std.proofs.Common.{◌≡◌, [], All, length, map}
+use Rattle.std.proofs.Common.{◌≡◌, ◌≤◌, [], All, length, map}
 use Rattle.lwc_stream.proofs.streaming.open_queues.Given as goal
 
 abbrev pub invariant-queues : goal.invariant-queues
@@ -8,4 +8,5 @@ invariant-queues l = record {
   unturned : All (λ o. o.turns ≡ 0) l.outboxes.items;
   unput : All (λ o. o.puts.values ≡ []) l.outboxes.items;
   untaken : All (λ e. e.values ≡ []) l.takes.items;
+  room : All (λ e. l.room ≤ e.queue.slots) l.takes.items;
 }
