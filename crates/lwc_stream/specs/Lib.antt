@@ -1,3 +1,4 @@
+pub mod Blocks
 pub use Rattle.kernel_core.specs.Histories
 pub use Rattle.kernel_core.specs.Machine
 pub use Rattle.kernel_core.specs.Start

@@ -1,5 +1,6 @@
 //! Memory in which a worker keeps the bytes of its replies.
-ghost use Rattle.std.specs.Prelude.{◌≡◌, ◌<◌, ◌^◌};
+ghost use Rattle.std.specs.Prelude.{◌≡◌, ◌<◌, ◌^◌, All, IfOk};
+ghost use Rattle.lwc_stream.specs.Blocks.{HaveRoom};
 
 use lwc_base::{MOST_REPLY_BYTES, OutOfMemory};
 use snapshot_host::{Finished, FinishedView};
@@ -10,25 +11,40 @@ use std::thread;
 /// How many blocks a worker has.
 pub(crate) const BLOCKS: usize = 5;
 
-/// Blocks for this many workers, one worker's after another's: a small one, larger ones, and one with room for the
-/// bytes of this many replies, however long each is. It touches no memory. The only error is out of memory.
+/// The largest of them.
+pub(crate) const LAST: usize = BLOCKS - 1;
+
+/// Blocks for each of this many workers, with room for the bytes of this many replies. It touches no memory. The only
+/// error is out of memory.
 pub(crate) fn open_blocks(
     alloc: Global,
     workers: usize,
     replies: usize,
-) -> Result<Vec<Vec<u8>>, OutOfMemory>
+) -> Result<Vec<[Vec<u8>; BLOCKS]>, OutOfMemory>
     requires { replies < 2 ^ 32 }
+    ensures room { IfOk result (λ b. All (HaveRoom replies) b.items) }
 {
-    let whole = replies * MOST_REPLY_BYTES;
     let mut blocks = Vec::new(alloc);
     'workers: for _ in 0..workers {
-        blocks.push(Vec::with_capacity(alloc, whole / 1024)?)?;
-        blocks.push(Vec::with_capacity(alloc, whole / 128)?)?;
-        blocks.push(Vec::with_capacity(alloc, whole / 16)?)?;
-        blocks.push(Vec::with_capacity(alloc, whole / 4)?)?;
-        blocks.push(Vec::with_capacity(alloc, whole)?)?;
+        blocks.push(blocks_for(alloc, replies)?)?;
     }
     Ok(blocks)
+}
+
+/// The blocks of a worker: a small one, larger ones, and one with room for the bytes of this many replies, however long
+/// each is. The only error is out of memory.
+fn blocks_for(alloc: Global, replies: usize) -> Result<[Vec<u8>; BLOCKS], OutOfMemory>
+    requires { replies < 2 ^ 32 }
+    ensures room { IfOk result (HaveRoom replies) }
+{
+    let whole = replies * MOST_REPLY_BYTES;
+    Ok([
+        Vec::with_capacity(alloc, whole / 1024)?,
+        Vec::with_capacity(alloc, whole / 128)?,
+        Vec::with_capacity(alloc, whole / 16)?,
+        Vec::with_capacity(alloc, whole / 4)?,
+        Vec::with_capacity(alloc, whole)?,
+    ])
 }
 
 /// What is left of the block that is in use, and the blocks that are not. A block is touched when it comes into use.

@@ -3,6 +3,7 @@ ghost use Rattle.std.specs.Prelude.{◌≡◌, ◌<◌, ◌≤◌, ◌^◌, [], 
 ghost use Rattle.std.specs.Prelude.{length, map, replicate, vec_capacity};
 ghost use Rattle.kernel_core.specs.Machine.{has_ended};
 ghost use Rattle.lwc_io.specs.Outside.{SinkView};
+ghost use Rattle.lwc_stream.specs.Blocks.{HaveRoom};
 ghost use Rattle.lwc_stream.specs.Replies.{AreShown, IsWritten, finished_by, lines_of};
 ghost use Rattle.lwc_stream.specs.Streams.{HasShown};
 ghost use Rattle.process_core.specs.Running.{AreAllOf};
@@ -85,9 +86,10 @@ fn open_stream<'a, W: World>(
     alloc: Global,
     passes: ProcessPasses<W>,
     requests: usize,
-    blocks: &'a mut [Vec<u8>],
+    blocks: &'a mut [[Vec<u8>; BLOCKS]],
     signal: &Arc<Signal>,
 ) -> Result<(Vec<Worker<'a, W>>, Collector<'a>, Vec<Outbox<'a>>), OutOfMemory>
+    requires room { All (HaveRoom requests) blocks.old }
     ensures passes { IfOk result (λ s. map (λ w. w.pass) s.0.items ≡ passes.items) }
     ensures queues { IfOk result (λ s. map (λ w. w.turns.puts.queue) s.0.items
         ≡ map (λ e. e.queue) s.1.takes.items) }
@@ -120,7 +122,7 @@ fn open_queues<'a>(
     alloc: Global,
     count: usize,
     room: usize,
-    mut blocks: &'a mut [Vec<u8>],
+    mut blocks: &'a mut [[Vec<u8>; BLOCKS]],
     signal: &Arc<Signal>,
 ) -> Result<(Vec<Outbox<'a>>, Vec<Takes<'a>>), OutOfMemory>
     ensures count { IfOk result (λ q. length q.0.items ≡ count) }
@@ -134,7 +136,10 @@ fn open_queues<'a>(
     let mut takes = Vec::new(alloc);
     'queues: for _ in 0..count {
         let (putting, taking) = open_queue(alloc, room)?;
-        let store = Store::new(blocks.split_off_mut(..BLOCKS).unwrap_or_default());
+        let store = match blocks.split_off_first_mut() {
+            Some(of_one) => Store::new(of_one.as_mut_slice()),
+            None => Store::new(&mut []),
+        };
         let signal = Arc::try_clone(signal)?;
         outboxes.push(Outbox::new(putting, store, signal))?;
         takes.push(taking)?;

@@ -6,6 +6,7 @@ use Rattle.std.proofs.lemmas.Simd.{map-map}
 use Rattle.kernel_core.specs.Machine.{has_ended}
 use Rattle.lwc_stream.proofs.Lists.{map_all}
 use Rattle.lwc_stream.proofs.Shown.{opens}
+use Rattle.lwc_stream.specs.Blocks.{HaveRoom}
 use Rattle.lwc_stream.specs.Replies.{AreShown, finished_by}
 use Rattle.lwc_stream.specs.Streams.{HasShown, Held}
 use Rattle.process_core.proofs.Carrying.{all_made, still_all}
@@ -86,3 +87,6 @@ returns-clause-written g c =
       subst (λ l. AreShown l c.args.requests written.0) lists (subst (λ n. AreShown (map (λ w. w.turns.puts.values) after) n written.0) count written.1),
       written.2,
     )
+
+pub open_stream-requires-clause-room : goal.open_stream-requires-clause-room
+open_stream-requires-clause-room g c κs within = subst (All (HaveRoom c.args.requests)) (sym c.as_mut_slice.ensures.value) c.in_ok-blocks.ensures.room
