@@ -555,6 +555,7 @@ headline_of o (commands.Replay image schedule requests settings) bytes work text
       accepted = record { guest = guest; scheduled = schedule_found _ _ (bytes schedule) steps.0 steps.1; requested = asked.1 };
       alone = each_alone inputs steps_kept can;
       spared = none_short inputs steps_kept can;
+      restored = λ workers job rest. restored inputs workers can job steps_kept rest;
       confined = run_confined inputs can steps_kept;
       text = taken ∙ ap (appended o.out.taken) (let P : Work → Type 0 = λ w. IsText w text in subst P asked.2 is);
     }

@@ -34,7 +34,8 @@ use Rattle.lwcrun_line.specs.Lines.{Command}
 use Rattle.lwcrun_line.specs.Lines as commands
 use Rattle.lwcrun_inputs.specs.Ends.{Outside}
 use Rattle.lwcrun_inputs.specs.Inputs.{serve_steps}
-use Rattle.request_isolation.specs.Restored.{IsRestored}
+use Rattle.kernel_core.specs.declared.settings.Job.TheVariants as jobs
+use Rattle.request_isolation.specs.Restored.{AllRest, IsRestored}
 
 -- the bytes are an image, whose pages fit the frames
 pub record IsFitting (settings : Settings) (bytes : List ℕ) (x : Image) : Type 0 where
@@ -119,8 +120,15 @@ pub record WroteServe (tell : Inputs → List ℕ → List ℕ) (o : Outside) (i
   pub listed : IsListed inputs steps
   pub text : Wrote o (tell inputs steps)
 
+-- in a serve of which no worker serves a request after these steps, nothing is left of the requests
+abbrev pub RestoresAtRest : Inputs → List ℕ → Type 0
+RestoresAtRest inputs steps =
+    (workers : ℕ) → inputs.settings.job ≡ jobs.Serve workers → AllRest (run (start inputs) steps)
+    → IsRestored inputs (run (start inputs) steps)
+
 -- `replay`: the files are accepted, and the report of the steps that are kept was written; of these steps each is
--- confined, and in a serve, with enough frames, replies are those of the requests alone and no step finds too few
+-- confined, and in a serve, with enough frames, replies are those of the requests alone and no step finds too few; at
+-- rest nothing is left of the requests
 pub record WroteReplay
     (o : Outside) (bytes : List ℕ → List ℕ) (image schedule : List ℕ) (requests : Option (List ℕ))
     (settings : Settings) : Type 0 where
@@ -130,6 +138,7 @@ pub record WroteReplay
   pub accepted : IsReplay bytes image schedule requests settings guest steps asked
   pub alone : let inputs = inputs_of guest asked settings in RepliesAreAlone inputs (kept_of inputs steps)
   pub spared : let inputs = inputs_of guest asked settings in NoneIsShort inputs (kept_of inputs steps)
+  pub restored : let inputs = inputs_of guest asked settings in RestoresAtRest inputs (kept_of inputs steps)
   pub confined : let inputs = inputs_of guest asked settings in IsConfinedRun inputs (kept_of inputs steps)
   pub text : Wrote o (report_of_schedule (inputs_of guest asked settings) steps)
 
