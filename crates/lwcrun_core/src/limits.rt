@@ -7,6 +7,8 @@ ghost use Rattle.lwc_types.specs.declared.limits.TheConstants.{MOST_FILE_BYTES, 
 ghost use Rattle.lwc_types.specs.declared.limits.TheConstants.{MOST_GROUPS_OF_JOB, MOST_IMAGE_BYTES};
 ghost use Rattle.lwc_types.specs.declared.limits.TheConstants.{MOST_IMAGE_SLOTS, MOST_INSTRUCTIONS};
 ghost use Rattle.lwc_types.specs.declared.limits.TheConstants.{MOST_ITEMS, MOST_JOBS, MOST_PAGES, MOST_RANGES};
+ghost use Rattle.lwc_types.specs.declared.limits.TheConstants.{MOST_KEPT_ROOTS, MOST_PAGE_PLACES};
+ghost use Rattle.lwc_types.specs.declared.limits.TheConstants.{MOST_PAGE_RUNS, MOST_SLOT_PLACES};
 ghost use Rattle.lwc_types.specs.declared.limits.TheConstants.{MOST_REPLY_BYTES, MOST_REQUESTS};
 ghost use Rattle.lwc_types.specs.declared.limits.TheConstants.{MOST_REQUEST_BYTES, MOST_REQUEST_FILE_BYTES};
 ghost use Rattle.lwc_types.specs.declared.limits.TheConstants.{MOST_ROOTS, MOST_SCHEDULE_BYTES};
@@ -62,6 +64,10 @@ pub fn limits_are_as_documented()
     ensures requests { MOST_REQUESTS ≡ 1024 }
     ensures request_bytes { MOST_REQUEST_BYTES ≡ 4096 }
     ensures schedule_bytes { MOST_SCHEDULE_BYTES ≡ 2 ^ 24 }
+    ensures page_places { MOST_PAGE_PLACES ≡ 1980 }
+    ensures slot_places { MOST_SLOT_PLACES ≡ 65536 }
+    ensures page_runs { MOST_PAGE_RUNS ≡ 193 }
+    ensures kept_roots { MOST_KEPT_ROOTS ≡ 64 }
     ensures create { LW_CREATE ≡ 16 }
     ensures switch { LW_SWITCH ≡ 17 }
     ensures restrict { LW_RESTRICT ≡ 18 }
