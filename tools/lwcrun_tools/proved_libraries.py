@@ -98,4 +98,6 @@ def link_library(kit: str, out: str, archive: str) -> None:
     # One archive, so that a program links one file.
     added = "".join(f"addlib {it}\n" for it in (archive, *system))
     call(["ar", "-M"], given=f"create {whole}\n{added}addmod {layer}\nsave\nend\n".encode())
-    call([*compiler, "-shared", "-o", os.path.join(out, "liblwcrun.so"), layer, archive, *system, "-pthread"])
+    # A library that lacks a function fails here, and not where it is used.
+    shared = [*compiler, "-shared", "-Wl,-z,defs", "-o", os.path.join(out, "liblwcrun.so")]
+    call([*shared, layer, archive, *system, "-pthread"])
