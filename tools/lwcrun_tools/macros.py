@@ -98,7 +98,8 @@ class Expansion:
     def expand(self) -> list[Line]:
         """The lines that m4 makes, each with the place of the user's line that made it."""
         out, said = (self.work.path(name) for name in ("expanded", "said"))
-        words = ["m4", "-s", "-L", str(MOST_CALLS), self.work.write("closed.m4", CLOSED), *([MACROS] if os.path.exists(MACROS) else [])]
+        words = ["m4", "-s", "-L", str(MOST_CALLS), self.work.write("closed.m4", CLOSED)]
+        words += [MACROS] if os.path.exists(MACROS) else []
         settings = {"PATH": os.environ.get("PATH", os.defpath), "LC_ALL": "C", "TMPDIR": self.work.folder}
         with open(out, "wb") as output, open(said, "wb") as errors:
             try:
