@@ -37,9 +37,9 @@ def libraries_of_gate(names: list[str]) -> dict[str, str] | None:
 
 
 def libraries_of_launcher(names: list[str]) -> dict[str, str]:
-    """The libraries of these crates, proved where they have to be, with the program, which stands on them too."""
+    """The libraries of these crates, proved where they have to be, with the program, which stands on most of them."""
     libraries = {name: os.path.join(LIBRARIES, f"{name}.rlib") for name in names}
-    if not prove_and_build() or not all(map(os.path.exists, libraries.values())):
+    if not prove_and_build(names) or not all(map(os.path.exists, libraries.values())):
         give_up(f"{NAME}: the crates were not proved", FAILED)
     return libraries
 
