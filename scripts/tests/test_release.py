@@ -2,6 +2,9 @@
 
 from __future__ import annotations
 
+import os
+import re
+import shutil
 import subprocess
 from pathlib import Path
 
@@ -22,8 +25,29 @@ def test_a_release_has_what_its_commit_has(tmp_path: Path, monkeypatch: pytest.M
 
 
 def test_each_part_of_a_release_is_there() -> None:
-    for part in [*release.PAGES, "lwcrun", "embed/c/embed.c", "docs", "guests", "tools"]:
+    for part in release.PARTS:
         assert release.kept_files([part])
+
+
+def test_the_pages_of_a_release_lead_to_what_it_has() -> None:
+    files = release.kept_files(release.PARTS)
+    for page in (name for name in files if name.endswith(".md")):
+        links = re.findall(r"\]\((?!https?:)([^)#\s]+)", Path(release.TOP, page).read_text(encoding="utf-8"))
+        for link in links:
+            led = os.path.normpath(os.path.join(os.path.dirname(page), link))
+            assert any(file == led or file.startswith(f"{led}/") for file in files), f"{page} leads to {link}"
+
+
+def test_each_tool_of_a_release_starts(tmp_path: Path) -> None:
+    tools = [tmp_path / name for name in release.kept_files(["tools", "guests"])]
+    for tool in tools:
+        tool.parent.mkdir(parents=True, exist_ok=True)
+        shutil.copy(Path(release.TOP, tool.relative_to(tmp_path)), tool)
+    commands = [tool for tool in tools if tool.parent == tmp_path / "tools"]
+    assert len(commands) > 8
+    for command in commands:
+        done = subprocess.run([command, "--help"], capture_output=True, text=True, check=False)
+        assert (done.returncode, done.stderr) == (0, "") and done.stdout.startswith("usage: ")
 
 
 def test_an_image_beside_its_source_is_no_change() -> None:
