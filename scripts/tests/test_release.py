@@ -9,6 +9,7 @@ import subprocess
 from pathlib import Path
 
 import pytest
+from lwcrun_tools.command_line import MODES
 from test_pages import script
 
 release = script("release")
@@ -36,6 +37,13 @@ def test_the_pages_of_a_release_lead_to_what_it_has() -> None:
         for link in links:
             led = os.path.normpath(os.path.join(os.path.dirname(page), link))
             assert any(file == led or file.startswith(f"{led}/") for file in files), f"{page} leads to {link}"
+
+
+def test_the_man_page_has_the_modes_and_the_formats() -> None:
+    text = release.man_text()
+    for mode in MODES:
+        assert re.search(rf"^      {mode} ", text, re.M)
+    assert text.startswith("# NAME\n\nlwcrun - ") and "## Image" in text and "](" not in text
 
 
 def test_each_tool_of_a_release_starts(tmp_path: Path) -> None:
