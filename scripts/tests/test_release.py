@@ -10,6 +10,7 @@ from pathlib import Path
 
 import pytest
 from lwcrun_tools.command_line import MODES
+from lwcrun_tools.proved_libraries import link_library
 from test_pages import script
 
 release = script("release")
@@ -56,6 +57,19 @@ def test_each_tool_of_a_release_starts(tmp_path: Path) -> None:
     for command in commands:
         done = subprocess.run([command, "--help"], capture_output=True, text=True, check=False)
         assert (done.returncode, done.stderr) == (0, "") and done.stdout.startswith("usage: ")
+
+
+def test_a_library_that_lacks_a_function_is_not_made(tmp_path: Path, capfd: pytest.CaptureFixture[str]) -> None:
+    if not shutil.which("cc"):
+        pytest.skip("no C compiler is there")
+    (tmp_path / "c").mkdir()
+    archive = tmp_path / "liblwcrun_c.a"
+    for empty in (archive, tmp_path / "c" / "liblibc_c.a", tmp_path / "c" / "libos_c.a"):
+        empty.write_bytes(b"!<arch>\n")
+    with pytest.raises(SystemExit) as ended:
+        link_library(str(tmp_path), str(tmp_path), str(archive))
+    assert ended.value.code == 1 and "lwcrun_c_line" in capfd.readouterr().err
+    assert not (tmp_path / "liblwcrun.so").exists()
 
 
 def test_an_image_beside_its_source_is_no_change() -> None:
