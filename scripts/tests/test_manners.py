@@ -89,7 +89,8 @@ def test_ctrl_c_waits_for_the_first_import(entry: Path) -> None:
 @pytest.mark.parametrize("entry", [TOP / "lwcrun", TOOLS / "trace"], ids=lambda entry: str(entry.name))
 def test_ctrl_c_while_python_starts(entry: Path) -> None:
     for moment in range(20):
-        with subprocess.Popen([entry, "--help"], stdout=subprocess.DEVNULL, stderr=subprocess.PIPE, text=True) as begun:
+        out, err = subprocess.DEVNULL, subprocess.PIPE
+        with subprocess.Popen([entry, "--help"], stdout=out, stderr=err, text=True) as begun:
             time.sleep(moment / 200)
             begun.send_signal(signal.SIGINT)
             _, said = begun.communicate(timeout=60)

@@ -45,8 +45,8 @@ def libraries_of_launcher(names: list[str]) -> dict[str, str]:
 
 
 def libraries_below(name: str, only_if_proved: bool) -> dict[str, str]:
-    """The proved libraries of the crates below this one. Gives up where the program is not proved, if that is not to be
-    done; the few crates on which the program does not stand are proved all the same."""
+    """The proved libraries of the crates below this one. Gives up where the program is not proved, if that is not to
+    be done; the few crates on which the program does not stand are proved all the same."""
     names = sorted(below_of(name, uses_of_crates()))
     libraries = libraries_of_gate(names)
     if libraries is None:
