@@ -1,4 +1,5 @@
-"""Stands for the package of the tools, by whose name the scripts import its modules: they lie in tools/lwcrun_tools."""
+"""Stands for the package of the tools, by whose name the scripts import its modules: they lie in
+tools/lwcrun_tools."""
 
 import os
 

@@ -206,6 +206,21 @@ def test_an_error_of_m4_has_its_column(program: str, tmp_path: Path) -> None:
     assert done.returncode == 1 and done.stderr.startswith("mine.s.m4:3:3: m4: ")
 
 
+def test_calls_in_each_other_without_end(program: str, tmp_path: Path) -> None:
+    assert program
+    done = expanded(tmp_path, "define(`f', `f(f(1))')dnl\n.entry 0\n  f(1)\nHALT\n")
+    shown = ["mine.s.m4:3:3: m4: recursion limit of 1000 exceeded", "      f(1)", "      ^"]
+    assert (done.returncode, done.stderr.splitlines()) == (1, shown)
+
+
+def test_no_pipe_is_included(program: str, tmp_path: Path) -> None:
+    assert program
+    os.mkfifo(tmp_path / "pipe.m4")
+    done = expanded(tmp_path, ".entry 0\ninclude(`pipe.m4')dnl\nHALT\n")
+    said = "mine.s.m4:2:10: m4: pipe.m4 is no plain file, and only such are included"
+    assert (done.returncode, done.stderr.splitlines()[0]) == (1, said)
+
+
 @pytest.mark.parametrize(
     ("text", "said"),
     [

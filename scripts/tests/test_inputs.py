@@ -91,6 +91,41 @@ def test_pipes_are_read(program: str) -> None:
         assert done.stdout.splitlines() == [f"reply {i} {'fault 2 -' if i == 2 else 'done 0 01'}" for i in range(4)]
 
 
+@pytest.mark.parametrize(
+    "words",
+    [
+        ["assemble", "PIPE", "-o", "-"],
+        ["trace", "PIPE", LOADING[1]],
+        ["trace", LOADING[0], "PIPE"],
+        ["trace", *HANDLER[:1], LOADING[1], "--requests", "PIPE"],
+        ["trace", *LOADING, "--vault", "PIPE"],
+        ["trace", *LOADING, "--source", "PIPE"],
+        ["report-json", "PIPE"],
+        ["serve-many", "PIPE", *HANDLER[1:]],
+        ["serve-many", *HANDLER[:1], "PIPE"],
+    ],
+)
+def test_a_pipe_that_nobody_writes_to(program: str, tmp_path: Path, words: list[str | Path]) -> None:
+    assert program
+    pipe = tmp_path / "pipe"
+    os.mkfifo(pipe)
+    done = run(*(pipe if word == "PIPE" else word for word in words))
+    if "not there" in done.stderr:
+        pytest.skip("GNU parallel is not there")
+    assert (done.returncode, done.stdout) == (3, "")
+    assert done.stderr == f"{words[0]}: cannot read {pipe}: it is a pipe, and nobody writes to it\n"
+
+
+def test_a_named_pipe_is_waited_for_while_it_is_written(program: str, tmp_path: Path) -> None:
+    assert program
+    pipe = tmp_path / "pipe"
+    os.mkfifo(pipe)
+    late = f"exec >'{pipe}'; sleep 1; cat '{LOADING[0]}'"
+    with subprocess.Popen(["sh", "-c", late]) as writer:
+        done = run("trace", pipe, LOADING[1])
+    assert writer.returncode == 0 and done.stdout.splitlines()[1:] == ["3 t0 0.0 3  halt"]
+
+
 def test_a_file_is_read_once(tmp_path: Path) -> None:
     """What is shown is of the bytes that were read first, whatever becomes of the file."""
     file = tmp_path / "image"

@@ -80,6 +80,23 @@ def test_ctrl_c_while_modules_are_imported() -> None:
     assert (done.returncode, done.stderr) == (-signal.SIGINT, "")
 
 
+@pytest.mark.parametrize("entry", ENTRIES, ids=lambda entry: str(entry.name))
+def test_ctrl_c_waits_for_the_first_import(entry: Path) -> None:
+    first = entry.read_text().splitlines()[0]
+    assert first.startswith("#!/usr/bin/env -S --block-signal=INT python3")
+
+
+@pytest.mark.parametrize("entry", [TOP / "lwcrun", TOOLS / "trace"], ids=lambda entry: str(entry.name))
+def test_ctrl_c_while_python_starts(entry: Path) -> None:
+    for moment in range(20):
+        out, err = subprocess.DEVNULL, subprocess.PIPE
+        with subprocess.Popen([entry, "--help"], stdout=out, stderr=err, text=True) as begun:
+            time.sleep(moment / 200)
+            begun.send_signal(signal.SIGINT)
+            _, said = begun.communicate(timeout=60)
+        assert begun.returncode in (0, -signal.SIGINT) and said == ""
+
+
 @pytest.mark.parametrize("name", NAMES)
 def test_help(name: str) -> None:
     done = ended(name, "--help", LWCRUN="/nowhere")

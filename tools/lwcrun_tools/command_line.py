@@ -66,8 +66,8 @@ STATUSES = {
 MOST_DIGITS = 9
 
 
-def help_text() -> str:
-    """What --help prints."""
+def help_text(can_prove: bool) -> str:
+    """What --help prints: in a checkout, which can prove its program, or in a download."""
     lines = ["usage: ./lwcrun MODE FILE .. [OPTION ..]", ""]
     lines += ["Modes, and what each does. Reports go to standard output.", ""]
     for mode, it in MODES.items():
@@ -80,7 +80,8 @@ def help_text() -> str:
         lines.append(f"{'':16}of {modes_with(option)}")
     lines += [f"  {'--':14}what follows are files, also where one begins with a dash"]
     lines += [f"  {'-h, --help':14}this text", f"  {'--version':14}which sources, which toolchain and which program"]
-    lines += [f"  {'--prove':14}alone in its line: proves and builds the program, which every line then runs"]
+    if can_prove:
+        lines += [f"  {'--prove':14}alone in its line: proves and builds the program, which every line then runs"]
     lines += ["", "Statuses:", "", *(f"  {status:<5}{means}" for status, means in STATUSES.items())]
     lines += ["", "docs/FORMATS.md has all of this in full, and docs/USES.md lines to type."]
     return "\n".join(lines) + "\n"
@@ -119,6 +120,12 @@ def files_of_line(words: list[str]) -> list[str]:
     if not is_number(files[0], 100):
         raise LineError(f"gen takes a number from 1 to 100, and not {files[0]!r}")
     return []
+
+
+def image_of_line(words: list[str]) -> str:
+    """The image that an accepted line names; no name where it names none."""
+    places, _ = split_line(words)
+    return places[1] if MODES[places[0]].files[0] == "IMAGE" else ""
 
 
 def split_line(words: list[str]) -> tuple[list[str], dict[str, str]]:

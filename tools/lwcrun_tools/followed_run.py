@@ -35,7 +35,7 @@ class Followed:
         story = Story(self.run, self.run.report(0))
         for turn in self.turns_to(place):
             story.follow(turn)
-        story.compare(self.run.report(place))
+        story.known.compare(self.run.report(place))
         return story
 
     def answers(self, words: list[str], last: int) -> Iterator[str]:
@@ -50,18 +50,18 @@ class Followed:
 def answer_of(story: Story, words: list[str]) -> str:
     """What `debug` would answer to `page J.K P` or `slot J.K N`, by what followed; or that it is not told."""
     kind, name, number = words[0], words[1], int(words[2])
-    if name not in story.slots.tables:
+    if name not in story.known.slots.tables:
         return "no context"
     if kind == "page":
         if number >= story.image.most_pages:
             return "no page"
-        if story.memory.pages.lost:
+        if story.known.memory.pages.lost:
             return "not told: what this page has does not follow from the steps"
-        data = story.memory.pages.page(name, number)
+        data = story.known.memory.pages.page(name, number)
         return f"page {name} {number} {'absent' if data is None else data.hex()}"
     if number >= SLOTS:
         return "no slot"
-    value = story.slots.value(name, number)
+    value = story.known.slots.value(name, number)
     if value is NOT_KNOWN:
         return "not told: what this slot has does not follow from the steps"
     return f"slot {name} {number} {value.whole if value else 'empty'}"

@@ -26,6 +26,8 @@ MARK = re.compile(r'#line (\d+)(?: "(.*)")?$')
 SAID = re.compile(r"(?:m4:)?(.+?):(\d+): (?:m4: )?(.*)")
 QUOTED = re.compile(r"`([^`']+)'|(\w+)$")
 MOST_NESTED = 16
+# How deep calls of macros may stand in each other's arguments. Where m4's own stack ends it names no line.
+MOST_CALLS = 1000
 MOST_SECONDS, MOST_MEMORY = 5, 1 << 30
 # What m4 reads first.
 CLOSED = """divert(-1)
@@ -83,6 +85,9 @@ class Expansion:
         """The file of a name, which lies below the source's folder or guests/."""
         for root in self.roots:
             path = os.path.realpath(os.path.join(root, name))
+            if os.path.exists(path) and not os.path.isfile(path):
+                reason = f"{name} is no plain file, and only such are included"
+                raise Refused(line.at(column, "m4", reason), FAILED, True)
             if os.path.isfile(path):
                 if any(path.startswith(it + os.sep) for it in self.roots):
                     return path
@@ -93,7 +98,8 @@ class Expansion:
     def expand(self) -> list[Line]:
         """The lines that m4 makes, each with the place of the user's line that made it."""
         out, said = (self.work.path(name) for name in ("expanded", "said"))
-        words = ["m4", "-s", self.work.write("closed.m4", CLOSED), *([MACROS] if os.path.exists(MACROS) else [])]
+        words = ["m4", "-s", "-L", str(MOST_CALLS), self.work.write("closed.m4", CLOSED)]
+        words += [MACROS] if os.path.exists(MACROS) else []
         settings = {"PATH": os.environ.get("PATH", os.defpath), "LC_ALL": "C", "TMPDIR": self.work.folder}
         with open(out, "wb") as output, open(said, "wb") as errors:
             try:
@@ -123,9 +129,9 @@ class Expansion:
         for text in said.splitlines():
             found = SAID.fullmatch(text)
             if found and found[1] == self.path and 0 < int(found[2]) <= len(self.lines):
-                line = self.lines[int(found[2]) - 1]
-                raise Refused(line.at(column_of(line.text, found[3]), "m4", found[3]), FAILED, True)
-        raise Refused(said.strip()[:1000] or f"{self.name}: m4 ends with status {status}", FAILED, True)
+                line, reason = self.lines[int(found[2]) - 1], found[3].removesuffix(", use -L<N> to change it")
+                raise Refused(line.at(column_of(line.text, reason), "m4", reason), FAILED, True)
+        raise Refused(f"{self.name}: {said.strip()[:1000] or f'm4 ends with status {status}'}", FAILED, True)
 
     def unmarked(self, text: str) -> list[Line]:
         """The lines that m4 writes, each with the place that its marks tell."""

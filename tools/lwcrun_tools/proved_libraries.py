@@ -37,16 +37,16 @@ def libraries_of_gate(names: list[str]) -> dict[str, str] | None:
 
 
 def libraries_of_launcher(names: list[str]) -> dict[str, str]:
-    """The libraries of these crates, proved where they have to be, with the program, which stands on them too."""
+    """The libraries of these crates, proved where they have to be, with the program, which stands on most of them."""
     libraries = {name: os.path.join(LIBRARIES, f"{name}.rlib") for name in names}
-    if not prove_and_build() or not all(map(os.path.exists, libraries.values())):
+    if not prove_and_build(names) or not all(map(os.path.exists, libraries.values())):
         give_up(f"{NAME}: the crates were not proved", FAILED)
     return libraries
 
 
 def libraries_below(name: str, only_if_proved: bool) -> dict[str, str]:
-    """The proved libraries of the crates below this one. Gives up where they would have to be proved first, if no
-    proof is to be begun."""
+    """The proved libraries of the crates below this one. Gives up where the program is not proved, if that is not to
+    be done; the few crates on which the program does not stand are proved all the same."""
     names = sorted(below_of(name, uses_of_crates()))
     libraries = libraries_of_gate(names)
     if libraries is None:
@@ -98,4 +98,6 @@ def link_library(kit: str, out: str, archive: str) -> None:
     # One archive, so that a program links one file.
     added = "".join(f"addlib {it}\n" for it in (archive, *system))
     call(["ar", "-M"], given=f"create {whole}\n{added}addmod {layer}\nsave\nend\n".encode())
-    call([*compiler, "-shared", "-o", os.path.join(out, "liblwcrun.so"), layer, archive, *system, "-pthread"])
+    # A library that lacks a function fails here, and not where it is used.
+    shared = [*compiler, "-shared", "-Wl,-z,defs", "-o", os.path.join(out, "liblwcrun.so")]
+    call([*shared, layer, archive, *system, "-pthread"])

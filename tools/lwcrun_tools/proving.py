@@ -224,7 +224,7 @@ class Build:
 
     def run(self) -> Crate | None:
         """Proves the crates. Answers one that was not proved, if there is one."""
-        looks, progress = looks_of(self.crates), Progress(len(self.crates))
+        looks, progress = looks_of(crates_of_program(uses_of_crates())), Progress(len(self.crates))
         try:
             while self.waiting or self.running:
                 self.start_ready()
@@ -252,11 +252,12 @@ def lock_home() -> int:
     return lock
 
 
-def prove_and_build() -> bool:
-    """Proves and builds the program where it has to be. Answers whether it is there."""
+def prove_and_build(beside: Iterable[str] = ()) -> bool:
+    """Proves and builds the program where it has to be, and crates that are wanted beside those that it stands on.
+    Answers whether all is there."""
     lock = lock_home()
     failed = None
-    if not is_built():
+    if beside or not is_built():
         try:
             kit = needed_kit()
         except NotMade as error:
@@ -264,7 +265,8 @@ def prove_and_build() -> bool:
             return False
         uses = uses_of_crates()
         os.makedirs(LIBRARIES, exist_ok=True)
-        failed = Build({it: Crate(it, uses, kit) for it in crates_of_program(uses)}, lock).run()
+        names = dict.fromkeys([*crates_of_program(uses), *beside])
+        failed = Build({it: Crate(it, uses, kit) for it in names}, lock).run()
     os.close(lock)
     if failed:
         why = "changed while it was proved" if failed.was_proved() else f"not proved or built; its log is {failed.log}"

@@ -5,11 +5,14 @@ The grammar of every file is the program's alone. What is added here is a senten
 the offset.
 """
 
+import os
 import re
+import stat
 import subprocess
 import sys
 from collections.abc import Callable, Iterable, Sequence
 from dataclasses import dataclass
+from io import BufferedReader
 from typing import BinaryIO
 
 from lwcrun_tools.command import WorkFolder
@@ -128,19 +131,34 @@ class Input:
 
 def read_file(name: str, role: str) -> bytes:
     """The bytes of a file, or of the standard input under the name `-`; refuses one that has more than the program
-    takes, without reading on."""
+    takes, without reading on, and a pipe that nobody writes to, without waiting."""
     try:
         if name == "-":
-            return read_most(sys.stdin.buffer, name, role)
-        with open(name, "rb") as file:
-            return read_most(file, name, role)
+            return read_most(sys.stdin.buffer, name, role, b"")
+        with open(name, "rb", opener=open_at_once) as file:
+            return read_most(file, name, role, first_byte(file, name))
     except OSError as error:
         raise Refused(f"cannot read {name}: {error.strerror}", CANNOT_READ) from error
 
 
-def read_most(file: BinaryIO, name: str, role: str) -> bytes:
-    """All bytes of a file, which are at most those that the program takes of it."""
-    most, data = MOST_BYTES[role], bytearray()
+def open_at_once(name: str, flags: int) -> int:
+    """Opens a file, and of a pipe does not wait for its writer."""
+    return os.open(name, flags | os.O_NONBLOCK)
+
+
+def first_byte(file: BufferedReader, name: str) -> bytes:
+    """The first byte of a file that was opened without waiting, if it is there yet; from then on reads wait. Refuses a
+    pipe that nobody writes to."""
+    begin = file.raw.read(1)
+    if begin == b"" and stat.S_ISFIFO(os.fstat(file.fileno()).st_mode):
+        raise Refused(f"cannot read {name}: it is a pipe, and nobody writes to it", CANNOT_READ)
+    os.set_blocking(file.fileno(), True)
+    return begin or b""
+
+
+def read_most(file: BinaryIO, name: str, role: str, begin: bytes) -> bytes:
+    """All bytes of a file whose first one may have been read, which are at most those that the program takes of it."""
+    most, data = MOST_BYTES[role], bytearray(begin)
     while chunk := file.read(min(CHUNK, most + 1 - len(data))):
         data += chunk
         if len(data) > most:

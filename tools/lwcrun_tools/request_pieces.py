@@ -9,6 +9,7 @@ from typing import BinaryIO
 
 from lwcrun_tools.command import WorkFolder
 from lwcrun_tools.machine import MOST_REQUESTS, MOST_REQUEST_BYTES, MOST_STEPS
+from lwcrun_tools.refusals import first_byte, open_at_once
 
 # The digits of the longest request, and what ends a line.
 MOST_LINE_BYTES = 2 * MOST_REQUEST_BYTES + 2
@@ -41,7 +42,8 @@ def kept(path: str, work: WorkFolder) -> str:
     """A file that can be read again: the same one, or a copy of what is a pipe."""
     if stat.S_ISREG(os.stat(path).st_mode):
         return path
-    with open(path, "rb") as file, open(work.path("requests"), "wb") as copy:
+    with open(path, "rb", opener=open_at_once) as file, open(work.path("requests"), "wb") as copy:
+        copy.write(first_byte(file, path))
         copy.writelines(lines_of(file))
     return work.path("requests")
 

@@ -1,36 +1,17 @@
 """What each step of a run did, by the program's answers: reports before and after it, where it came to, and the
 registers there.
 
-Nothing here runs an instruction. What the slots of contexts have follows from the calls, and is compared with the
-number of slots of each context in each report, and with the contexts that live. What does not follow is left out, and
-said to be.
+Nothing here runs an instruction. What does not follow is left out, and said to be.
 """
 
 from dataclasses import dataclass, field
 
-from lwcrun_tools.known_memory import Memory
-from lwcrun_tools.known_slots import CONTEXT, NOT_KNOWN, NO_KEYS, Slots, Value
-from lwcrun_tools.machine import (
-    BEHALF,
-    CALLS,
-    CLOSE,
-    CREATE,
-    DUP,
-    EXIT,
-    MAP,
-    OPEN,
-    OVERLAY,
-    PAGE_BYTES,
-    READ,
-    RESTRICT,
-    SWITCH,
-    TRAP,
-    UNMAP,
-    VAULT_SLOT,
-)
+from lwcrun_tools.known_run import Known
+from lwcrun_tools.known_slots import CONTEXT, NO_KEYS, Value
+from lwcrun_tools.machine import CALLS, CREATE, EXIT, PAGE_BYTES, SWITCH, TRAP
 from lwcrun_tools.machine_words import ITEMS, WORD, answer, arguments, name_of, number, refusal_of, status
-from lwcrun_tools.replayed_run import SERVE, VAULT, VAULT_CONTEXT, Run
-from lwcrun_tools.run_report import Context, Report
+from lwcrun_tools.replayed_run import Run
+from lwcrun_tools.run_report import Report
 from lwcrun_tools.step_states import Turn
 
 WORDS = {"LDB": "byte", "STB": "byte", "LDW": "word", "STW": "word"}
@@ -62,16 +43,7 @@ class Story:
     """Follows a run from step to step."""
 
     def __init__(self, run: Run, first: Report) -> None:
-        self.run, self.image, self.memory = run, run.image, Memory(run, first)
-        self.slots, self.doubts, self.made = Slots(run.image.most_pages), 0, dict[int, int]()
-        files = {slot: Value(f"file {file}") for slot, file in run.image.slots.items()}
-        console = {} if run.kind == SERVE else {0: Value("console"), 1: Value("console")}
-        for name in first.contexts:
-            self.slots.add(name, {**console, **files})
-        if run.kind == VAULT:
-            self.slots.add(VAULT_CONTEXT, {})
-            self.slots.put("0.0", VAULT_SLOT, Value(CONTEXT + VAULT_CONTEXT, NO_KEYS))
-        self.compare(first)
+        self.image, self.made, self.known = run.image, dict[int, int](), Known(run, first)
 
     def follow(self, turn: Turn) -> Step:
         """What a step did; notes what the slots have then."""
@@ -86,7 +58,7 @@ class Story:
             step.more.append(f"it ends: {turn.now.status}")
         if turn.before and turn.after:
             step.more += self.changes(step, turn.before, turn.after)
-            self.compare(turn.after)
+            self.known.compare(turn.after)
         return step
 
     @staticmethod
@@ -103,13 +75,7 @@ class Story:
             return Step("finds no request left, and ends", kind="end")
         name = turn.now.ctx
         request = int(name.split(".")[0]) - 1
-        values = {
-            **{slot: Value(f"file {file}") for slot, file in self.image.slots.items()},
-            0: Value(f"request {request}"),
-            1: Value(f"reply {request}"),
-        }
-        self.slots.add(name, values)
-        self.memory.pages.add(name, self.image.pages)
+        self.known.begin(name, request)
         return Step(
             f"begins request {request} in the new context {name}", f"begins request {request} in {name}", kind="begin"
         )
@@ -138,8 +104,7 @@ class Story:
         """The step of a running thread: a pause, or the shared instruction that ended it."""
         stop = turn.stop
         if stop is None:
-            self.slots.forget(*list(self.slots.tables))
-            self.memory.pages.lose()
+            self.known.lose()
             return Step("does what the program cannot be asked: the image is too long", kind="unknown")
         if stop.is_pause:
             return Step("runs 256 private instructions and pauses", kind="pause")
@@ -178,7 +143,7 @@ class Story:
         value = str(regs[register] % 256) if name == "STB" else number(regs[register])
         if not fails:
             stored = regs[register].to_bytes(8, "little")
-            self.memory.pages.store(turn.was.ctx, address, stored[:1] if name == "STB" else stored)
+            self.known.memory.pages.store(turn.was.ctx, address, stored[:1] if name == "STB" else stored)
         return Step(
             f"stores the {what} {value} at {where}" + (" and fails" if fails else ""),
             f"store {what} {value} at {where}",
@@ -199,7 +164,7 @@ class Story:
         was, now = turn.was, turn.now
         monitor = turn.before.traps.get(was.ctx) if turn.before and call != EXIT else None
         if call in ITEMS and turn.items is None:
-            turn.items = self.memory.items(turn, call, regs)
+            turn.items = self.known.memory.items(turn, call, regs)
         words = arguments(call, regs, turn.items)
         said = f"makes call {call}, {CALLS.get(call, 'which is none')}"
         step = Step(said, f"{name_of(call)}({words})", kind="call")
@@ -207,7 +172,7 @@ class Story:
             step.said += f" ({words})"
         elif now.status == "idle":
             # A reply for want of budget: what the call answered is not told.
-            self.slots.forget(was.ctx)
+            self.known.slots.forget(was.ctx)
         elif (refusal := refusal_of(now.regs[0])) and now.ctx == was.ctx and not (call == SWITCH and refusal == 0):
             step.is_refused = True
             step.said += (
@@ -218,7 +183,7 @@ class Story:
             step.said += f"{f' ({words})' if words else ''}, which goes to its monitor {now.ctx}: "
             step.said += f"slot {now.regs[1]} there gets a descriptor of {was.ctx}"
             step.line += f" -> its monitor {now.ctx}, slot {now.regs[1]} there"
-            self.slots.put(now.ctx, now.regs[1], Value(CONTEXT + was.ctx, NO_KEYS))
+            self.known.slots.put(now.ctx, now.regs[1], Value(CONTEXT + was.ctx, NO_KEYS))
         else:
             self.accepted(step, turn, call, regs, words)
         return step
@@ -231,13 +196,13 @@ class Story:
             step.said += f", from {name} to {turn.now.ctx} with the argument {number(regs[2])}: "
             step.said += f"{there} gets a descriptor of {name}"
             step.line += f" -> {turn.now.ctx}, {there}"
-            self.slots.put(turn.now.ctx, turn.now.regs[1], Value(CONTEXT + name, NO_KEYS))
+            self.known.slots.put(turn.now.ctx, turn.now.regs[1], Value(CONTEXT + name, NO_KEYS))
         elif call == CREATE:
             new = self.new_context(turn)
             step.said += f" ({words}): slot {answered} gets a descriptor of {new}"
             step.line += f" = {answered}, {new} is made"
-            self.slots.create(name, new, answered, turn.items)
-            self.memory.pages.create(name, new, turn.items)
+            self.known.slots.create(name, new, answered, turn.items)
+            self.known.memory.pages.create(name, new, turn.items)
         elif call == TRAP:
             trapped = self.trapped(turn)
             step.said += f" ({words}): {name} is the monitor of {trapped} from now on"
@@ -245,7 +210,7 @@ class Story:
         else:
             step.said += f"{f' ({words})' if words else ''}, which answers {number(answered)}"
             step.line += f" = {number(answered)}"
-            self.note(name, turn, call, regs)
+            self.known.note(name, turn, call, regs)
 
     def new_context(self, turn: Turn) -> str:
         """The name of the context that the step made."""
@@ -259,41 +224,6 @@ class Story:
         """The context that the step trapped."""
         old, new = (turn.before.traps, turn.after.traps) if turn.before and turn.after else ({}, {})
         return next((name for name in new if name not in old), "?")
-
-    def note(self, name: str, turn: Turn, call: int, regs: list[int]) -> None:
-        """Notes what the slots have after a call of this context, and which pages it may have changed."""
-        if call == RESTRICT:
-            self.slots.restrict(name, regs[1], turn.items)
-        elif call == OVERLAY:
-            value = self.slots.value(name, regs[1])
-            self.memory.pages.overlay(name, value.context if value else "", turn.items)
-            self.slots.overlay(name, regs[1], turn.items)
-        elif call == BEHALF:
-            value = self.slots.value(name, regs[1])
-            target = value.context if value else ""
-            table, memory = target if regs[2] & 2 else name, target if regs[2] & 1 else name
-            if not table and regs[3] in (OPEN, CLOSE, DUP, READ):
-                self.slots.forget(*list(self.slots.tables))
-            if not memory and regs[3] in (READ, MAP, UNMAP):
-                self.memory.pages.lose()
-            self.plain(table, memory, regs[3], [0, *regs[4:7]], turn.now.regs[0])
-        else:
-            self.plain(name, name, call, regs, turn.now.regs[0])
-
-    def plain(self, name: str, memory: str, call: int, regs: list[int], answered: int) -> None:
-        """One of the calls 1 to 9 in the slots of one context and the memory of another one."""
-        if call == OPEN:
-            self.slots.put(name, answered, Value(f"file {regs[1]}"))
-        elif call == CLOSE:
-            self.slots.put(name, regs[1], None)
-        elif call == DUP:
-            self.slots.put(name, answered, self.slots.value(name, regs[1]))
-        elif call == READ:
-            self.memory.read_call(memory, self.slots, name, regs[1], regs[2], answered)
-        elif call == MAP:
-            self.memory.pages.map(memory, regs[1], regs[2])
-        elif call == UNMAP:
-            self.memory.pages.unmap(memory, regs[1], regs[2])
 
     # What is different in the report after it.
 
@@ -318,47 +248,3 @@ class Story:
         if before.console != after.console:
             found.append(f"the console gets {short(after.console[len(before.console):])}")
         return found
-
-    def compare(self, report: Report) -> None:
-        """Compares what is told of slots with the report, by their numbers and by what is reached; forgets what
-        differs."""
-        self.memory.compare(report)
-        for name in [name for name in self.slots.tables if name not in report.contexts]:
-            del self.slots.tables[name]
-        for name, context in report.contexts.items():
-            self.count(name, context)
-        whole = all(map(self.slots.is_whole, report.contexts))
-        reached = self.reached(report)
-        if reached - report.contexts.keys() or (whole and reached != report.contexts.keys()):
-            self.doubt(*report.contexts)
-
-    def count(self, name: str, context: Context) -> None:
-        """Compares what is told of a context's slots with their number. Where all that are in use are told, the others
-        are empty."""
-        if name not in self.slots.tables:
-            self.slots.add(name, dict.fromkeys(range(64), NOT_KNOWN))
-        told = len(self.slots.known(name))
-        if told > context.slots or (self.slots.is_whole(name) and told != context.slots):
-            self.doubt(name)
-        elif told == context.slots:
-            for cell in self.slots.tables[name]:
-                cell.value = None if cell.value is NOT_KNOWN else cell.value
-
-    def doubt(self, *names: str) -> None:
-        """Forgets what followed, as the report says otherwise."""
-        self.doubts += 1
-        self.slots.forget(*names)
-
-    def reached(self, report: Report) -> set[str]:
-        """The contexts to which slots lead from those that threads are in, and from homes: a context lives exactly if
-        it is one."""
-        new = {thread.ctx for thread in report.threads}
-        if self.run.kind == SERVE:
-            new |= {name for name in report.contexts if name.startswith("0.")}
-        reached: set[str] = set()
-        while new:
-            reached |= new
-            new = {
-                value.context for name in new for value in self.slots.known(name).values() if value.context
-            } - reached
-        return reached

@@ -1,5 +1,6 @@
 """The first import of every command: it says in one line what is missing, and has Ctrl-C end the command in silence
-until `run_script` does. It is read by any Python from 3.6 on, which later modules are not."""
+until `run_script` does. The first line of each command holds Ctrl-C back while Python starts, which would answer it in
+many lines. It is read by any Python from 3.6 on, which later modules are not."""
 
 import os
 import sys
@@ -24,3 +25,4 @@ if missing():
     sys.exit("%s: %s" % (os.path.basename(sys.argv[0]), missing()))
 if signal.getsignal(signal.SIGINT) == signal.default_int_handler:
     signal.signal(signal.SIGINT, signal.SIG_DFL)
+signal.pthread_sigmask(signal.SIG_UNBLOCK, [signal.SIGINT])
