@@ -82,10 +82,24 @@ def random_png(chance: random.Random) -> bytes:
     return made
 
 
+def random_words(chance: random.Random) -> bytes:
+    """Words that are numbers, almost numbers, at the ends of what 64 bits hold, or any bytes."""
+    words = []
+    for _ in range(chance.randrange(12)):
+        number = chance.choice((0, 7, 2**63 - 1, 2**63, 2**64 - 1, 2**64, chance.getrandbits(70), chance.getrandbits(9)))
+        digits = format(number, chance.choice("xXob")) if chance.random() < 0.7 else str(number)
+        start = chance.choice(("", "", "-", "+", "--", "0x", "-0X", "0"))
+        words.append(f"{start}{digits[:40]}{chance.choice(('', '', 'z', '.5'))}".encode())
+    words += [bytes(chance.choices(range(1, 256), k=chance.randrange(9))) for _ in range(chance.randrange(4))]
+    chance.shuffle(words)
+    return b" ".join(words)[:599]
+
+
 REQUESTS: dict[str, Callable[[random.Random], bytes]] = {
     "sha256": random_bytes,
     "crc": random_bytes,
     "sort": random_elements,
+    "words": random_words,
     "json": random_json,
     "inflate": random_png,
 }

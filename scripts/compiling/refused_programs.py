@@ -45,6 +45,18 @@ CASES = [
     Case(
         "missing.c", "int f(void);\nint main(void) {\n  return f();\n}\n", FIVE, r"missing\.c:3: in main: f: no file"
     ),
+    Case(
+        "scans.c",
+        "#include <math.h>\n#include <string.h>\nint main(void) {\n  return 0;\n}\n",
+        1,
+        r"the library of guests has no math\.h \(guests/c/include",
+    ),
+    Case(
+        "undeclared.c",
+        "int main(void) {\n  int n;\n  strlen(0);\n  return sscanf(\"5\", \"%d\", &n);\n}\n",
+        1,
+        r"the library of guests has no sscanf \(guests/c/include",
+    ),
     Case("large.c", "char all[70 << 20];\nint main(void) {\n  return all[5];\n}\n", FIVE, r"64 MB: \d+ too many"),
     Case(
         "long.c",

@@ -1,4 +1,4 @@
-/* The functions of <string.h> that guests have: guests/c/rt/memory.c. */
+/* The functions of <string.h> that guests have: guests/c/rt/memory.c and words.c. */
 #ifndef LWC_STRING_H
 #define LWC_STRING_H
 #include <stddef.h>
@@ -22,6 +22,13 @@ char *strcat(char *restrict to, const char *restrict from);
 char *strchr(const char *text, int byte);
 char *strrchr(const char *text, int byte);
 char *strstr(const char *text, const char *part);
+size_t strspn(const char *text, const char *bytes);
+size_t strcspn(const char *text, const char *bytes);
+char *strpbrk(const char *text, const char *bytes);
+char *strtok(char *restrict text, const char *restrict bytes);
+char *strtok_r(char *restrict text, const char *restrict bytes, char **restrict rest);
+char *strncat(char *restrict to, const char *restrict from, size_t most);
+char *strdup(const char *text);
 #ifdef __cplusplus
 #undef restrict
 }

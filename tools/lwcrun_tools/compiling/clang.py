@@ -6,6 +6,7 @@ import argparse
 import concurrent.futures
 import hashlib
 import os
+import pathlib
 import re
 import shutil
 import subprocess
@@ -21,9 +22,8 @@ from lwcrun_tools.toolchain import sum_of
 VERSION = "19"
 PACKAGES = {"clang": f"clang-{VERSION}", "ld.lld": f"lld-{VERSION}"}
 LIBRARY = os.path.join(GUESTS, "c")
-RUNTIME = [
-    os.path.join(LIBRARY, "rt", f"{name}.c") for name in ("context", "memory", "numbers", "heap", "print", "wide")
-]
+PARTS = ("context", "memory", "words", "numbers", "heap", "print", "wide")
+RUNTIME = [os.path.join(LIBRARY, "rt", f"{name}.c") for name in PARTS]
 TARGET = ["--target=riscv64-unknown-elf", "-march=rv64em", "-mabi=lp64e", "-mno-relax", "-mcmodel=medlow", "-fno-pic"]
 # Sections for each function, so that what is not called takes no place; no tables, since a load is a step.
 CODE = ["-ffunction-sections", "-fdata-sections", "-fno-jump-tables", "-fno-asynchronous-unwind-tables"]
@@ -33,6 +33,7 @@ IN_LIBRARY = ["-O2", "-ffreestanding", "-fno-builtin"]
 IN_CPP = ["-fno-exceptions", "-fno-rtti", "-fno-threadsafe-statics", "-fno-use-cxa-atexit"]
 KINDS = (".c", ".cc", ".cpp", ".S", ".o", ".a")
 UNDEFINED = re.compile(r"undefined symbol: (.*)\n>>> referenced by (.*)\n(?:>>> +(.*)\n)?")
+UNDECLARED = re.compile(r"undeclared library function '(\w+)'|error: '([\w/.]+)' file not found")
 FLOATING = re.compile(r"__\w*(?:[sdt]f2?|[sdt]f[23]|f[sdt][idt]\w*|[sdt]f[sdt]\w*|[sdt]i)\d?$")
 ATOMIC = re.compile(r"__(atomic|sync)_")
 
@@ -138,11 +139,21 @@ def run_side_by_side(lines: list[list[str]]) -> None:
 
     with concurrent.futures.ThreadPoolExecutor(len(os.sched_getaffinity(0))) as pool:
         done = list(pool.map(run, lines))
-    for ran in done:
-        sys.stderr.write(ran.stderr.decode(errors="replace"))
+    said = "".join(ran.stderr.decode(errors="replace") for ran in done)
+    sys.stderr.write(said)
     failed = [ran.returncode for ran in done if ran.returncode != 0]
     if failed:
-        raise Refused("no image was made", failed[0] if failed[0] > 0 else 1)
+        raise Refused("; ".join([*missing_of_library(said), "no image was made"]), failed[0] if failed[0] > 0 else 1)
+
+
+def missing_of_library(said: str) -> list[str]:
+    """A line about functions and headers of a usual C library which clang names and which guests do not have."""
+    folder = os.path.join(LIBRARY, "include")
+    headers = os.listdir(folder)
+    there = "".join(pathlib.Path(folder, name).read_text(encoding="utf-8") for name in headers)
+    names = {first or second for first, second in UNDECLARED.findall(said)}
+    gone = sorted(name for name in names if name not in headers and not re.search(rf"\b{re.escape(name)}\(", there))
+    return [f"the library of guests has no {', '.join(gone)} (guests/c/include has all that is there)"] if gone else []
 
 
 def sum_of_library(clang: str) -> str:
