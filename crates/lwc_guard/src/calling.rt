@@ -136,7 +136,7 @@ fn taken_up<W: World>(
     requires number { thread_number < MOST_THREADS }
     requires live { IsLive (W.seen world.now) context }
     requires named { HasItsContexts (W.seen world.now) }
-    ensures { result ≡ spec.taken_up traps.now guards.now thread_number (W.seen world.now) context regs.now }
+    ensures found { result ≡ spec.taken_up traps.now guards.now thread_number (W.seen world.now) context regs.now }
     ensures live { IfSome result (IsLive (W.seen world.now)) }
 {
     let Ok((target, _)) = context_for(world, context, regs.r[1]) else {
