@@ -4,6 +4,7 @@ pub use Rattle.kernel_core.specs.Start
 pub use Rattle.lwc_text.specs.Report
 pub mod Guards
 pub mod Calls
+pub mod Rulings
 pub mod GivingBack
 pub mod Steps
 pub mod Reports

@@ -1,10 +1,17 @@
 //! The two calls that a guard adds: fuel, and a switch that takes up a thread again.
 
-ghost use Rattle.std.specs.Prelude.{◌≡◌, ◌<◌, ◌≤◌, None, Some, IfErr, IfOk, IfSome};
+ghost use Rattle.std.specs.Prelude.{◌≡◌, ◌<◌, ◌≤◌, ℕ, None, Some, IfErr, IfOk, IfSome, slice_index};
+ghost use Rattle.kernel_core.specs.Step.{beside, next_outcome, unchanged, with_regs};
+ghost use Rattle.kernel_core.specs.declared.thread.Thread as threads;
+ghost use Rattle.lwc_base.specs.Channels.{Channels};
 ghost use Rattle.lwc_base.specs.Life.{HasItsContexts};
 ghost use Rattle.lwc_base.specs.Refusals.{first_refusal};
 ghost use Rattle.lwc_guard.specs.Calls as spec;
+ghost use Rattle.lwc_guard.specs.Guards as specs;
 ghost use Rattle.lwc_guard.specs.Rulings as rulings;
+ghost use Rattle.lwc_guard.specs.declared.numbers.TheConstants.{MOST_FUEL};
+ghost use Rattle.lwc_monitor.specs.Calls.{traps_after_call, trapping};
+ghost use Rattle.lwc_monitor.specs.Steps.{call_next};
 ghost use Rattle.lwc_overlay.specs.Named.{link};
 ghost use Rattle.lwc_types.specs.declared.limits.TheConstants.{MOST_THREADS};
 ghost use Rattle.world_face.specs.Calls.{IsLive};
@@ -14,7 +21,7 @@ use crate::numbers::{LW_FUEL, MOST_FUEL};
 use guest_call::context_for;
 use guest_isa::Op;
 use guest_machine::{Advance, Next};
-use kernel_core::LW_SWITCH;
+use kernel_core::{LW_SWITCH, Thread};
 use lwc_base::{Name, Refusal, Regs};
 use lwc_monitor::ruling::{number_of, refused_by};
 use lwc_monitor::trapping::TrapRefusal;
@@ -32,47 +39,80 @@ pub enum Ruling {
     TakeUp(Name),
 }
 
-/// The ruling on what comes next for a running thread of a number, in a context that is not guarded; `None` if it
-/// is as under traps.
+/// The ruling on what comes next for a running thread of a number, in a context that is not guarded, once it has
+/// advanced; `None` if it is as under traps.
+#[tactic(auto, unfolding(kernel_core::specs::Step::next_outcome))]
 pub fn rule_on_next<W: World>(
     traps: &Traps,
     guards: &Guards,
     world: &W,
     thread_number: u32,
-    context: Name,
+    thread: &Thread,
     advance: &Advance,
 ) -> Option<Ruling>
     requires number { thread_number < MOST_THREADS }
-    requires live { IsLive (W.seen world.now) context }
+    requires live { IsLive (W.seen world.now) thread.now.context }
     requires named { HasItsContexts (W.seen world.now) }
+    ensures outcome { (io : Channels) →
+        next_outcome (spec.calls_guarded traps.now guards.now) thread_number (beside (W.seen world.now) io)
+        (with_regs thread.now advance.now.after) advance.now.next
+        ≡ rulings.next_ruled traps.now result thread_number (beside (W.seen world.now) io)
+        (with_regs thread.now advance.now.after) advance.now.next }
+    ensures guards { spec.guards_after_call traps.now guards.now thread_number (W.seen world.now)
+        (with_regs thread.now advance.now.after) (call_next advance.now.next)
+        ≡ rulings.guards_by_or_not guards.now thread_number result }
+    ensures traps { IfSome result (λ ruling. traps_after_call traps.now (W.seen world.now)
+        (with_regs thread.now advance.now.after) (call_next advance.now.next) ≡ traps.now) }
+    ensures ruling { IfSome result (rulings.IsRuling (W.seen world.now)) }
 {
-    match number_of_call(&advance.next) {
-        Some(LW_FUEL) if traps.monitor_of(context).is_none() => {
-            Some(fuelling(traps, world, context, &advance.after))
-        }
-        Some(LW_SWITCH) => {
-            match taken_up(
-                traps,
-                guards,
-                world,
-                thread_number,
-                context,
-                &advance.after,
-            ) {
-                Some(target) => Some(Ruling::TakeUp(target)),
-                None => None,
-            }
-        }
+    match &advance.next {
+        Next::Shared(i) if i.op == Op::Sys => rule_on(
+            traps,
+            guards,
+            world,
+            thread_number,
+            thread.context,
+            &advance.after,
+            i.imm,
+        ),
         _ => None,
     }
 }
 
-/// The number of the call that comes next, if one does.
-fn number_of_call(next: &Next) -> Option<u32>
+/// The ruling on the call of a number that a thread makes in a context with these registers; `None` if it is as under
+/// traps.
+#[tactic(auto, unfolding(crate::specs::Calls::calls_guarded))]
+fn rule_on<W: World>(
+    traps: &Traps,
+    guards: &Guards,
+    world: &W,
+    thread_number: u32,
+    context: Name,
+    regs: &Regs,
+    number: u32,
+) -> Option<Ruling>
+    requires number { thread_number < MOST_THREADS }
+    requires live { IsLive (W.seen world.now) context }
+    requires named { HasItsContexts (W.seen world.now) }
+    ensures outcome { (io : Channels) (x : threads.Thread) → x.context ≡ context → x.regs ≡ regs.now →
+        spec.calls_guarded traps.now guards.now number thread_number (beside (W.seen world.now) io) x
+        ≡ rulings.ruled_or_not traps.now result number thread_number (beside (W.seen world.now) io) x }
+    ensures guards { (x : threads.Thread) → x.context ≡ context → x.regs ≡ regs.now →
+        spec.guards_after_call traps.now guards.now thread_number (W.seen world.now) x (Some number)
+        ≡ rulings.guards_by_or_not guards.now thread_number result }
+    ensures traps { (x : threads.Thread) → IfSome result (λ ruling.
+        traps_after_call traps.now (W.seen world.now) x (Some number) ≡ traps.now) }
+    ensures ruling { IfSome result (rulings.IsRuling (W.seen world.now)) }
 {
-    match next {
-        Next::Shared(i) if i.op == Op::Sys => Some(i.imm),
-        _ => None,
+    if number == LW_FUEL && traps.monitor_of(context).is_none() {
+        Some(fuelling(traps, world, context, regs))
+    } else if number == LW_SWITCH {
+        match taken_up(traps, guards, world, thread_number, context, regs) {
+            Some(target) => Some(Ruling::TakeUp(target)),
+            None => None,
+        }
+    } else {
+        None
     }
 }
 
@@ -80,6 +120,15 @@ fn number_of_call(next: &Next) -> Option<u32>
 fn fuelling<W: World>(traps: &Traps, world: &W, context: Name, regs: &Regs) -> Ruling
     requires live { IsLive (W.seen world.now) context }
     requires named { HasItsContexts (W.seen world.now) }
+    ensures outcome { (t : ℕ) (io : Channels) (x : threads.Thread) →
+        unchanged (beside (W.seen world.now) io) (trapping x (first_refusal
+        (spec.fuel_rows traps.now (W.seen world.now) context regs.now)))
+        ≡ rulings.ruled result t (beside (W.seen world.now) io) x }
+    ensures guards { (guards : specs.Guards) (t : ℕ) →
+        spec.fuelled_by guards (link (W.seen world.now) context regs.now).0 (slice_index regs.now.r 2)
+        (first_refusal (spec.fuel_rows traps.now (W.seen world.now) context regs.now))
+        ≡ rulings.guards_by guards t result }
+    ensures ruling { rulings.IsRuling (W.seen world.now) result }
 {
     match fuel_target(traps, world, context, regs) {
         Ok(target) => Ruling::Fuel {
@@ -109,6 +158,7 @@ fn fuel_target<W: World>(
     ensures passed { IfOk result (λ d.
         first_refusal (spec.fuel_rows traps.now (W.seen world.now) context regs.now) ≡ None) }
     ensures target { IfOk result (λ d. d ≡ (link (W.seen world.now) context regs.now).0) }
+    ensures fuel { IfOk result (λ d. slice_index regs.now.r 2 ≤ MOST_FUEL) }
 {
     let target = match context_for(world, context, regs.r[1]) {
         Ok((target, _)) => target,

@@ -1,6 +1,6 @@
-ghost use Rattle.std.specs.Prelude.{◌≡◌, ◌<◌, ◌==◌, ◌&&◌, IfOk};
-ghost use Rattle.std.specs.List.{find, position, position_or_len};
-ghost use Rattle.std.specs.Ordering.{is_gt};
+ghost use Rattle.std.specs.Prelude.{◌≡◌, ◌<◌, ◌==◌, ◌&&◌, IfOk, not};
+ghost use Rattle.std.specs.List.{find, position_or_len};
+ghost use Rattle.std.specs.Ordering.{is_lt};
 ghost use Rattle.std.specs.FinMap as fm;
 ghost use Rattle.lwc_base.specs.World as worlds;
 ghost use Rattle.lwc_types.specs.Names.{name_cmp};
@@ -61,12 +61,11 @@ impl Guards {
         requires room { fm.len self.old < MOST_CONTEXTS }
         ensures { self.new ≡ fm.insert self.old context guard }
     {
-        match place_of(self.rows.as_slice(), context) {
-            Some(place) => self.rows[place] = (context, guard),
-            None => {
-                let place = place_for(self.rows.as_slice(), context);
-                self.rows.insert(place, (context, guard)).unwrap();
-            }
+        let place = place_for(self.rows.as_slice(), context);
+        if place < self.rows.len() && self.rows[place].0 == context {
+            self.rows[place] = (context, guard);
+        } else {
+            self.rows.insert(place, (context, guard)).unwrap();
         }
     }
 
@@ -85,18 +84,11 @@ fn row_of(rows: &[(Name, Guard)], context: Name) -> Option<(Name, Guard)>
     rows.iter().copied().find(|row| row.0 == context)
 }
 
-/// Where the first of some rows is that begins with this name.
-fn place_of(rows: &[(Name, Guard)], context: Name) -> Option<usize>
-    ensures { result ≡ position (λ row. row.0.job == context.job && row.0.k == context.k) rows.now }
-{
-    rows.iter().position(|row| row.0 == context)
-}
-
-/// Where a row goes that begins with this name: before the first one that begins with a higher name.
+/// Where the row of a name is, or goes: the first place of a row that does not begin with a lower name.
 fn place_for(rows: &[(Name, Guard)], context: Name) -> usize
-    ensures { result ≡ position_or_len (λ row. is_gt (name_cmp row.0 context)) rows.now }
+    ensures { result ≡ position_or_len (λ row. not (is_lt (name_cmp row.0 context))) rows.now }
 {
     rows.iter()
-        .position(|row| row.0 > context)
+        .position(|row| row.0 >= context)
         .unwrap_or(rows.len())
 }

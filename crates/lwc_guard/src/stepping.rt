@@ -1,5 +1,28 @@
 //! A step of a thread under guards.
 
+ghost use Rattle.std.specs.Prelude.{◌≡◌, ◌<◌, ◌-◌, None, Some, IfOk, IsOk, OnErr, OnOk, true};
+ghost use Rattle.std.specs.FinMap as fm;
+ghost use Rattle.guest_isa.specs.Instructions.{IsText};
+ghost use Rattle.guest_machine.specs.Advances.{advanced};
+ghost use Rattle.kernel_core.specs.Changes.{Keeps, KeepsAll, Makes, made};
+ghost use Rattle.kernel_core.specs.Ready.{CanAct, WhileRunning};
+ghost use Rattle.kernel_core.specs.Step as steps;
+ghost use Rattle.lwc_base.specs.Channels.{Channels, HasItsFiles};
+ghost use Rattle.lwc_base.specs.Saved.{entered};
+ghost use Rattle.lwc_base.specs.World.{context};
+ghost use Rattle.lwc_guard.specs.Calls.{guards_after_call};
+ghost use Rattle.lwc_guard.specs.GivingBack.{guarded_course, unfuelled};
+ghost use Rattle.lwc_guard.specs.Guards.{guard_or_new};
+ghost use Rattle.lwc_guard.specs.Rulings.{IsRuling, guards_by, ruled};
+ghost use Rattle.lwc_guard.specs.Steps as spec;
+ghost use Rattle.lwc_monitor.specs.Calls.{traps_after_call};
+ghost use Rattle.lwc_monitor.specs.Steps.{call_by};
+ghost use Rattle.lwc_monitor.specs.Traps.{is_trapped};
+ghost use Rattle.lwc_switch.specs.Switch.{left};
+ghost use Rattle.lwc_types.specs.declared.name.Name as names;
+ghost use Rattle.lwc_types.specs.declared.limits.TheConstants.{MOST_CONTEXTS, MOST_THREADS};
+ghost use Rattle.world_face.specs.Calls.{IsLive};
+
 use crate::calling::{Ruling, rule_on_next};
 use crate::giving::{cause_of, detail_of, entered, give_back, way_back};
 use crate::guard::Guard;
@@ -31,6 +54,28 @@ pub fn step_guarded<W: World>(
     thread_number: u32,
     thread: &mut Thread,
 ) -> Result<Option<Effect>, OutOfMemory>
+    requires number { thread_number < MOST_THREADS }
+    requires ready { WhileRunning thread.old.status (CanAct (W.seen world.old) thread.old) }
+    requires files { HasItsFiles io.old (W.seen world.old) }
+    requires steps { WhileRunning thread.old.status (0 < thread.old.budget) }
+    requires text { IsText text.now }
+    requires room { fm.len traps.old < MOST_CONTEXTS }
+    requires few { fm.len guards.old < MOST_CONTEXTS }
+    requires trapped { (d : names.Name) → fm.contains_key guards.old d ≡ true → is_trapped traps.old d ≡ true }
+    ensures outcome { IfOk result (λ effect.
+        spec.left_of traps.old guards.old thread_number (steps.beside (W.seen world.old) io.old) None text.now
+        thread.old thread.old.status
+        ≡ (made effect (steps.beside (W.seen world.new) io.new) None thread.new, guards.new)) }
+    ensures traps { OnOk result (traps.new ≡ traps_after_call traps.old (W.seen world.old)
+        (steps.with_regs thread.old (advanced text.now thread.old.regs).after)
+        (call_by text.now thread.old thread.old.status)) }
+    ensures kept { IfOk result (λ effect. KeepsAll effect
+        (W.seen world.old) io.old None thread.old (W.seen world.new) io.new None thread.new) }
+    ensures err { OnErr result (W.seen world.new ≡ W.seen world.old) }
+    ensures err_io { OnErr result (io.new ≡ io.old) }
+    ensures err_traps { OnErr result (traps.new ≡ traps.old) }
+    ensures err_guards { OnErr result (guards.new ≡ guards.old) }
+    ensures ample { W.roomy ≡ true → IsOk result }
 {
     if thread.status != ThreadStatus::Running {
         return step_thread(world, io, &mut None, text, thread_number, thread, None);
@@ -65,6 +110,29 @@ fn run_free<W: World>(
     thread_number: u32,
     thread: &mut Thread,
 ) -> Result<Option<Effect>, OutOfMemory>
+    requires number { thread_number < MOST_THREADS }
+    requires ready { CanAct (W.seen world.old) thread.old }
+    requires files { HasItsFiles io.old (W.seen world.old) }
+    requires steps { 0 < thread.old.budget }
+    requires text { IsText text.now }
+    requires room { fm.len traps.old < MOST_CONTEXTS }
+    requires running { thread.old.status ≡ ThreadStatus.Running }
+    requires few { fm.len guards.old < MOST_CONTEXTS }
+    requires unguarded { fm.get guards.old thread.old.context ≡ None }
+    ensures outcome { IfOk result (λ effect.
+        spec.left_of traps.old guards.old thread_number (steps.beside (W.seen world.old) io.old) None text.now
+        thread.old thread.old.status
+        ≡ (made effect (steps.beside (W.seen world.new) io.new) None thread.new, guards.new)) }
+    ensures traps { OnOk result (traps.new ≡ traps_after_call traps.old (W.seen world.old)
+        (steps.with_regs thread.old (advanced text.now thread.old.regs).after)
+        (call_by text.now thread.old thread.old.status)) }
+    ensures kept { IfOk result (λ effect. KeepsAll effect
+        (W.seen world.old) io.old None thread.old (W.seen world.new) io.new None thread.new) }
+    ensures err { OnErr result (W.seen world.new ≡ W.seen world.old) }
+    ensures err_io { OnErr result (io.new ≡ io.old) }
+    ensures err_traps { OnErr result (traps.new ≡ traps.old) }
+    ensures err_guards { OnErr result (guards.new ≡ guards.old) }
+    ensures ample { W.roomy ≡ true → IsOk result }
 {
     let advance = advance(text, &thread.regs);
     match rule_on_next(
@@ -72,7 +140,7 @@ fn run_free<W: World>(
         guards,
         world,
         thread_number,
-        thread.context,
+        thread,
         &advance,
     ) {
         None => run_under(traps, world, io, text, thread_number, thread, &advance),
@@ -96,6 +164,14 @@ fn carry_out<W: World>(
     thread: &mut Thread,
     ruling: Ruling,
 ) -> Change
+    requires number { thread_number < MOST_THREADS }
+    requires ready { IsLive (W.seen world.old) thread.old.context }
+    requires ruling { IsRuling (W.seen world.old) ruling }
+    requires few { fm.len guards.old < MOST_CONTEXTS }
+    ensures outcome { Makes (λ e x. ruled ruling thread_number e x)
+        (W.seen world.old) thread.old (W.seen world.new) thread.new }
+    ensures guards { guards.new ≡ guards_by guards.old thread_number ruling }
+    ensures kept { Keeps result (W.seen world.old) thread.old (W.seen world.new) thread.new }
 {
     match ruling {
         Ruling::Answer(value) => {
@@ -121,6 +197,7 @@ fn carry_out<W: World>(
 
 /// The guard of a context, or a new one.
 fn guard_or_new(guards: &Guards, context: Name) -> Guard
+    ensures { result ≡ guard_or_new (fm.get guards.now context) }
 {
     match guards.guard_of(context) {
         Some(guard) => guard,
@@ -131,6 +208,15 @@ fn guard_or_new(guards: &Guards, context: Name) -> Guard
 /// Takes a thread up in a context, which gets no descriptor: the registers are kept where the thread was, and it goes
 /// on with those that the context has for it.
 fn take_up<W: World>(world: &mut W, thread_number: u32, thread: &mut Thread, target: Name)
+    requires number { thread_number < MOST_THREADS }
+    requires here { IsLive (W.seen world.old) thread.old.context }
+    requires live { IsLive (W.seen world.old) target }
+    ensures world { W.seen world.new
+        ≡ left (W.seen world.old) thread.old.context thread_number thread.old.regs }
+    ensures thread { thread.new ≡ record thread.old {
+      context = target;
+      regs = entered (context (W.seen world.old) target) thread_number;
+    } }
 {
     let arrived = entered(world, target, thread_number);
     let mut left = thread.regs;
@@ -151,6 +237,29 @@ fn run_guarded<W: World>(
     thread_number: u32,
     thread: &mut Thread,
 ) -> Result<Option<Effect>, OutOfMemory>
+    requires number { thread_number < MOST_THREADS }
+    requires ready { CanAct (W.seen world.old) thread.old }
+    requires files { HasItsFiles io.old (W.seen world.old) }
+    requires steps { 0 < thread.old.budget }
+    requires text { IsText text.now }
+    requires room { fm.len traps.old < MOST_CONTEXTS }
+    requires running { thread.old.status ≡ ThreadStatus.Running }
+    requires trapped { is_trapped traps.old thread.old.context ≡ true }
+    ensures outcome { IfOk result (λ effect.
+        let course = guarded_course traps.old thread_number (steps.beside (W.seen world.old) io.old) thread.old
+            (advanced text.now thread.old.regs) guard.old in
+        ((Some (steps.only None (steps.counted (thread.old.budget - 1) course.outcome))), course.guard)
+        ≡ (made effect (steps.beside (W.seen world.new) io.new) None thread.new, guard.new)) }
+    ensures traps { OnOk result (traps.new ≡ traps_after_call traps.old (W.seen world.old)
+        (steps.with_regs thread.old (advanced text.now thread.old.regs).after)
+        (call_by text.now thread.old thread.old.status)) }
+    ensures kept { IfOk result (λ effect. KeepsAll effect
+        (W.seen world.old) io.old None thread.old (W.seen world.new) io.new None thread.new) }
+    ensures err { OnErr result (W.seen world.new ≡ W.seen world.old) }
+    ensures err_io { OnErr result (io.new ≡ io.old) }
+    ensures err_traps { OnErr result (traps.new ≡ traps.old) }
+    ensures err_guard { OnErr result (guard.new ≡ guard.old) }
+    ensures ample { W.roomy ≡ true → IsOk result }
 {
     if guard.fuel == 0 {
         return Ok(Some(run_unfuelled(traps, guard, world, thread_number, thread)));
@@ -180,6 +289,15 @@ fn run_unfuelled<W: World>(
     thread_number: u32,
     thread: &mut Thread,
 ) -> Effect
+    requires number { thread_number < MOST_THREADS }
+    requires here { IsLive (W.seen world.old) thread.old.context }
+    requires steps { 0 < thread.old.budget }
+    ensures outcome { (io : Channels) →
+        let course = unfuelled traps.now thread_number (steps.beside (W.seen world.old) io) thread.old guard.old in
+        ((steps.counted (thread.old.budget - 1) course.outcome), course.guard)
+        ≡ (steps.unchanged (steps.beside (W.seen world.new) io) thread.new, guard.new) }
+    ensures finished { result.finished ≡ None }
+    ensures kept { Keeps result.change (W.seen world.old) thread.old (W.seen world.new) thread.new }
 {
     let effect = match way_back(traps, world, thread.context) {
         Some(way) => {
