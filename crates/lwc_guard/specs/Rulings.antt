@@ -1,5 +1,5 @@
 -- What becomes of a call under guards that is not one under traps.
-use Rattle.std.specs.Prelude.{ℕ, Option, None, Some}
+use Rattle.std.specs.Prelude.{ℕ, Option, None, Some, false}
 use Rattle.guest_machine.specs.declared.progress.Next.{Next}
 use Rattle.kernel_core.specs.Machine.{Environment}
 use Rattle.kernel_core.specs.Step.{Calls, Outcome, next_outcome, unchanged}

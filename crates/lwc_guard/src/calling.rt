@@ -164,13 +164,23 @@ fn fuel_target<W: World>(
         Ok((target, _)) => target,
         Err(refusal) => return Err(TrapRefusal::Plain(refusal)),
     };
-    if traps.monitor_of(target) != Some(context) {
+    if !is_trapped_by(traps, context, target) {
         return Err(TrapRefusal::Trapped);
     }
     if regs.r[2] > u64::from(MOST_FUEL) {
         return Err(TrapRefusal::Plain(Refusal::BadRange));
     }
     Ok(target)
+}
+
+/// Whether a context is trapped by this one.
+fn is_trapped_by(traps: &Traps, context: Name, target: Name) -> bool
+    ensures { result ≡ spec.is_trapped_by traps.now context target }
+{
+    match traps.monitor_of(target) {
+        Some(monitor) => monitor == context,
+        None => false,
+    }
 }
 
 /// The context that the slot in r1 names, if the caller has trapped it and it holds the thread of a number.
@@ -193,9 +203,13 @@ fn taken_up<W: World>(
         return None;
     };
     match guards.guard_of(target) {
-        Some(guard) if guard.holds(thread_number) && traps.monitor_of(target) == Some(context) => {
-            Some(target)
+        Some(guard) => {
+            if is_trapped_by(traps, context, target) && guard.holds(thread_number) {
+                Some(target)
+            } else {
+                None
+            }
         }
-        _ => None,
+        None => None,
     }
 }

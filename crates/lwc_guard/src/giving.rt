@@ -65,6 +65,7 @@ pub fn detail_of(regs: &Regs, next: &Next) -> Option<u64>
 }
 
 /// What is told beside the cause where this instruction would end the thread.
+#[tactic(auto, using(guest_isa::proofs::Fields::in_range))]
 fn detail_in(regs: &Regs, instruction: &Instr) -> Option<u64>
     requires { IsInstruction instruction.now }
     ensures { result ≡ spec.detail_in regs.now instruction.now instruction.now.op }
@@ -94,6 +95,7 @@ pub fn way_back<W: World>(traps: &Traps, world: &W, context: Name) -> Option<(Na
 }
 
 /// Gives a thread back to a slot of the monitor of its context, with the cause and what is told beside it.
+#[tactic(auto, using(lwc_switch::proofs::Saving::live_after_save))]
 pub fn give_back<W: World>(
     world: &mut W,
     thread_number: u32,

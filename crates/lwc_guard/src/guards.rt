@@ -1,4 +1,5 @@
-ghost use Rattle.std.specs.Prelude.{◌≡◌, ◌<◌, ◌==◌, ◌&&◌, IfOk, not};
+ghost use Rattle.std.specs.Prelude.{◌≡◌, ◌<◌, ◌==◌, ◌&&◌, IfOk, false, not, slice_get};
+ghost use Rattle.std.specs.Option.{option_map_or};
 ghost use Rattle.std.specs.List.{find, position_or_len};
 ghost use Rattle.std.specs.Ordering.{is_lt};
 ghost use Rattle.std.specs.FinMap as fm;
@@ -62,7 +63,7 @@ impl Guards {
         ensures { self.new ≡ fm.insert self.old context guard }
     {
         let place = place_for(self.rows.as_slice(), context);
-        if place < self.rows.len() && self.rows[place].0 == context {
+        if is_there(self.rows.as_slice(), place, context) {
             self.rows[place] = (context, guard);
         } else {
             self.rows.insert(place, (context, guard)).unwrap();
@@ -82,6 +83,17 @@ fn row_of(rows: &[(Name, Guard)], context: Name) -> Option<(Name, Guard)>
     ensures { result ≡ find (λ row. row.0.job == context.job && row.0.k == context.k) rows.now }
 {
     rows.iter().copied().find(|row| row.0 == context)
+}
+
+/// Whether a place has a row that begins with this name.
+fn is_there(rows: &[(Name, Guard)], place: usize, context: Name) -> bool
+    ensures { result
+        ≡ option_map_or (λ row. row.0.job == context.job && row.0.k == context.k) (slice_get rows.now place) false }
+{
+    match rows.get(place) {
+        Some(row) => row.0 == context,
+        None => false,
+    }
 }
 
 /// Where the row of a name is, or goes: the first place of a row that does not begin with a lower name.

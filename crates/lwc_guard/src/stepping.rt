@@ -63,9 +63,12 @@ pub fn step_guarded<W: World>(
     requires few { fm.len guards.old < MOST_CONTEXTS }
     requires trapped { (d : names.Name) → fm.contains_key guards.old d ≡ true → is_trapped traps.old d ≡ true }
     ensures outcome { IfOk result (λ effect.
-        spec.left_of traps.old guards.old thread_number (steps.beside (W.seen world.old) io.old) None text.now
-        thread.old thread.old.status
-        ≡ (made effect (steps.beside (W.seen world.new) io.new) None thread.new, guards.new)) }
+        (spec.left_of traps.old guards.old thread_number (steps.beside (W.seen world.old) io.old) None text.now
+        thread.old thread.old.status).0
+        ≡ made effect (steps.beside (W.seen world.new) io.new) None thread.new) }
+    ensures guards { OnOk result (guards.new ≡
+        (spec.left_of traps.old guards.old thread_number (steps.beside (W.seen world.old) io.old) None text.now
+        thread.old thread.old.status).1) }
     ensures traps { OnOk result (traps.new ≡ traps_after_call traps.old (W.seen world.old)
         (steps.with_regs thread.old (advanced text.now thread.old.regs).after)
         (call_by text.now thread.old thread.old.status)) }
@@ -120,9 +123,12 @@ fn run_free<W: World>(
     requires few { fm.len guards.old < MOST_CONTEXTS }
     requires unguarded { fm.get guards.old thread.old.context ≡ None }
     ensures outcome { IfOk result (λ effect.
-        spec.left_of traps.old guards.old thread_number (steps.beside (W.seen world.old) io.old) None text.now
-        thread.old thread.old.status
-        ≡ (made effect (steps.beside (W.seen world.new) io.new) None thread.new, guards.new)) }
+        (spec.left_of traps.old guards.old thread_number (steps.beside (W.seen world.old) io.old) None text.now
+        thread.old thread.old.status).0
+        ≡ made effect (steps.beside (W.seen world.new) io.new) None thread.new) }
+    ensures guards { OnOk result (guards.new ≡
+        (spec.left_of traps.old guards.old thread_number (steps.beside (W.seen world.old) io.old) None text.now
+        thread.old thread.old.status).1) }
     ensures traps { OnOk result (traps.new ≡ traps_after_call traps.old (W.seen world.old)
         (steps.with_regs thread.old (advanced text.now thread.old.regs).after)
         (call_by text.now thread.old thread.old.status)) }
@@ -145,9 +151,10 @@ fn run_free<W: World>(
     ) {
         None => run_under(traps, world, io, text, thread_number, thread, &advance),
         Some(ruling) => {
+            let left = thread.budget - 1;
             thread.regs = advance.after;
             let change = carry_out(guards, world, thread_number, thread, ruling);
-            thread.set_steps(thread.budget - 1);
+            thread.set_steps(left);
             Ok(Some(Effect {
                 change,
                 finished: None,
@@ -246,10 +253,13 @@ fn run_guarded<W: World>(
     requires running { thread.old.status ≡ ThreadStatus.Running }
     requires trapped { is_trapped traps.old thread.old.context ≡ true }
     ensures outcome { IfOk result (λ effect.
-        let course = guarded_course traps.old thread_number (steps.beside (W.seen world.old) io.old) thread.old
-            (advanced text.now thread.old.regs) guard.old in
-        ((Some (steps.only None (steps.counted (thread.old.budget - 1) course.outcome))), course.guard)
-        ≡ (made effect (steps.beside (W.seen world.new) io.new) None thread.new, guard.new)) }
+        Some (steps.only None (steps.counted (thread.old.budget - 1)
+        (guarded_course traps.old thread_number (steps.beside (W.seen world.old) io.old) thread.old
+        (advanced text.now thread.old.regs) guard.old).outcome))
+        ≡ made effect (steps.beside (W.seen world.new) io.new) None thread.new) }
+    ensures guard { OnOk result (guard.new ≡
+        (guarded_course traps.old thread_number (steps.beside (W.seen world.old) io.old) thread.old
+        (advanced text.now thread.old.regs) guard.old).guard) }
     ensures traps { OnOk result (traps.new ≡ traps_after_call traps.old (W.seen world.old)
         (steps.with_regs thread.old (advanced text.now thread.old.regs).after)
         (call_by text.now thread.old thread.old.status)) }
@@ -293,9 +303,11 @@ fn run_unfuelled<W: World>(
     requires here { IsLive (W.seen world.old) thread.old.context }
     requires steps { 0 < thread.old.budget }
     ensures outcome { (io : Channels) →
-        let course = unfuelled traps.now thread_number (steps.beside (W.seen world.old) io) thread.old guard.old in
-        ((steps.counted (thread.old.budget - 1) course.outcome), course.guard)
-        ≡ (steps.unchanged (steps.beside (W.seen world.new) io) thread.new, guard.new) }
+        steps.counted (thread.old.budget - 1)
+        (unfuelled traps.now thread_number (steps.beside (W.seen world.old) io) thread.old guard.old).outcome
+        ≡ steps.unchanged (steps.beside (W.seen world.new) io) thread.new }
+    ensures guard { (io : Channels) → guard.new ≡
+        (unfuelled traps.now thread_number (steps.beside (W.seen world.old) io) thread.old guard.old).guard }
     ensures finished { result.finished ≡ None }
     ensures kept { Keeps result.change (W.seen world.old) thread.old (W.seen world.new) thread.new }
 {

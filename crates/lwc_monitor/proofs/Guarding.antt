@@ -138,7 +138,7 @@ module _ (traps : Traps) (t : ℕ) (e : Environment) (x : Thread) (guarded : Are
   other-safe v leaves = safe-left v leaves
 
 -- the contexts that are trapped after a call live before it
-module _ (traps : Traps) (w : World) (guarded : AreGuarded traps w) (c : Name) (regs : Regs) (whole : HasItsContexts w) (here : is_live w c ≡ true) where
+module _ (traps : Traps) (w : World) (lives : (d m : Name) → fm.get traps d ≡ Some m → is_live w d ≡ true) (c : Name) (regs : Regs) (whole : HasItsContexts w) (here : is_live w c ≡ true) where
   link-lives : first_refusal (trap_rows traps w c regs) ≡ None → is_live w (link w c regs).0 ≡ true
   unfolding trap_rows link
   link-lives none =
@@ -149,18 +149,18 @@ module _ (traps : Traps) (w : World) (guarded : AreGuarded traps w) (c : Name) (
       by (Some l) is = whole.live c l.0 here (target_links w c (slice_index regs.r 1) l is)
 
   trapping-live : (first : Option TrapRefusal) → first_refusal (trap_rows traps w c regs) ≡ first → (d m : Name) → fm.get (trapped_by traps w c regs first) d ≡ Some m → is_live w d ≡ true
-  trapping-live (Some refusal) is d m found = guarded.live d m found
+  trapping-live (Some refusal) is d m found = lives d m found
   trapping-live None is d m found = cases_name d (link w c regs).0
       (λ same. subst (λ (n : Name). is_live w n ≡ true) (sym same) (link-lives is))
-      (λ other. guarded.live d m (sym (inserted-get traps (link w c regs).0 c d ∙ ap (λ b. cond b (Some c) (fm.get traps d)) (other_name d (link w c regs).0 other)) ∙ found))
+      (λ other. lives d m (sym (inserted-get traps (link w c regs).0 c d ∙ ap (λ b. cond b (Some c) (fm.get traps d)) (other_name d (link w c regs).0 other)) ∙ found))
 
   by_test : (b : Bool) (d m : Name) → fm.get (cond b (trapped_by traps w c regs (first_refusal (trap_rows traps w c regs))) traps) d ≡ Some m → is_live w d ≡ true
   by_test true d m found = trapping-live _ refl d m found
-  by_test false d m found = guarded.live d m found
+  by_test false d m found = lives d m found
 
-pub trapped-live : (traps : Traps) (w : World) (x : Thread) (o : Option ℕ) → AreGuarded traps w → HasItsContexts w → is_live w x.context ≡ true → (d m : Name) → fm.get (traps_after_call traps w x o) d ≡ Some m → is_live w d ≡ true
-trapped-live traps w x None guarded whole here d m found = guarded.live d m found
-trapped-live traps w x (Some number) guarded whole here d m found = by_test traps w guarded x.context x.regs whole here _ d m found
+pub trapped-live : (traps : Traps) (w : World) (x : Thread) (o : Option ℕ) → ((d m : Name) → fm.get traps d ≡ Some m → is_live w d ≡ true) → HasItsContexts w → is_live w x.context ≡ true → (d m : Name) → fm.get (traps_after_call traps w x o) d ≡ Some m → is_live w d ≡ true
+trapped-live traps w x None lives whole here d m found = lives d m found
+trapped-live traps w x (Some number) lives whole here d m found = by_test traps w lives x.context x.regs whole here _ d m found
 
 alike-here : (keep : Name → Bool) (q y : Name) → name_cmp q y ≡ Equal → keep y ≡ keep q
 alike-here keep q y same = ap keep (sym (name_cmp-IsAntisymmetric q y same))

@@ -53,7 +53,7 @@ pub any_second : (c : Name) (rows : List (Name × Name)) → list_any (λ p. sam
 any_second c [] = refl
 any_second c (e ∷ es) = ap (λ b. b || list_any (λ p. same p.1 c) es) (alike c e.1) ∙ ap (λ b. eq_by_cmp name_cmp c e.1 || b) (any_second c es)
 
-turned : (a b : Name) (r : Ordering) → name_cmp a b ≡ r → name_cmp b a ≡ ordering_reverse r
+pub turned : (a b : Name) (r : Ordering) → name_cmp a b ≡ r → name_cmp b a ≡ ordering_reverse r
 turned a b r is = name_cmp-total.antisymm b a ∙ ap ordering_reverse is
 
 -- where the pair of a new name goes
