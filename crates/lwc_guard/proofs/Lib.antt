@@ -1,3 +1,5 @@
+pub mod Courses
+pub mod Ended
 pub mod Ready
 pub mod Rows
 pub mod Ruled

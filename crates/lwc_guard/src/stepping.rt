@@ -1,6 +1,6 @@
 //! A step of a thread under guards.
 
-ghost use Rattle.std.specs.Prelude.{◌≡◌, ◌<◌, ◌-◌, None, Some, IfOk, IsOk, OnErr, OnOk, true};
+ghost use Rattle.std.specs.Prelude.{◌≡◌, ◌<◌, ◌≤◌, ◌-◌, ◌⊎◌, None, Some, IfNone, IfOk, IfSome, IsOk, OnErr, OnOk, true};
 ghost use Rattle.std.specs.FinMap as fm;
 ghost use Rattle.guest_isa.specs.Instructions.{IsText};
 ghost use Rattle.guest_machine.specs.Advances.{advanced};
@@ -11,14 +11,16 @@ ghost use Rattle.lwc_base.specs.Channels.{Channels, HasItsFiles};
 ghost use Rattle.lwc_base.specs.Saved.{entered};
 ghost use Rattle.lwc_base.specs.World.{context};
 ghost use Rattle.lwc_guard.specs.Calls.{guards_after_call};
-ghost use Rattle.lwc_guard.specs.GivingBack.{guarded_course, unfuelled};
+ghost use Rattle.lwc_guard.specs.GivingBack.{cause_of, guarded_course, unfuelled, way_back};
 ghost use Rattle.lwc_guard.specs.Guards.{guard_or_new};
 ghost use Rattle.lwc_guard.specs.Rulings.{IsRuling, guards_by, ruled};
 ghost use Rattle.lwc_guard.specs.Steps as spec;
+ghost use Rattle.lwc_guard.specs.declared.numbers.TheConstants.{EXITED};
 ghost use Rattle.lwc_monitor.specs.Calls.{traps_after_call};
 ghost use Rattle.lwc_monitor.specs.Steps.{call_by};
 ghost use Rattle.lwc_monitor.specs.Traps.{is_trapped};
 ghost use Rattle.lwc_switch.specs.Switch.{left};
+ghost use Rattle.lwc_types.specs.declared.key.TheConstants.{SLOTS};
 ghost use Rattle.lwc_types.specs.declared.name.Name as names;
 ghost use Rattle.lwc_types.specs.declared.limits.TheConstants.{MOST_CONTEXTS, MOST_THREADS};
 ghost use Rattle.world_face.specs.Calls.{IsLive};
@@ -29,9 +31,9 @@ use crate::guard::Guard;
 use crate::guards::Guards;
 use crate::numbers::NO_FUEL;
 use guest_isa::Text;
-use guest_machine::advance;
+use guest_machine::{Next, advance};
 use kernel_core::{Change, Effect, Thread, step_thread};
-use lwc_base::{Channels, Fault, Name, OutOfMemory, ThreadStatus};
+use lwc_base::{Channels, Fault, Name, OutOfMemory, SlotNumber, ThreadStatus};
 use lwc_monitor::stepping::run_under;
 use lwc_monitor::traps::Traps;
 use world_face::World;
@@ -235,6 +237,7 @@ fn take_up<W: World>(world: &mut W, thread_number: u32, thread: &mut Thread, tar
 }
 
 /// Makes a step of a running thread in a context of this guard.
+#[tactic(auto, unfolding(crate::specs::GivingBack::guarded_course))]
 fn run_guarded<W: World>(
     traps: &mut Traps,
     guard: &mut Guard,
@@ -274,21 +277,41 @@ fn run_guarded<W: World>(
     if guard.fuel == 0 {
         return Ok(Some(run_unfuelled(traps, guard, world, thread_number, thread)));
     }
+    let left = thread.budget - 1;
     let advance = advance(text, &thread.regs);
     let effect = run_under(traps, world, io, text, thread_number, thread, &advance)?;
     guard.fuel -= 1;
-    let Some(cause) = cause_of(&advance.next, thread.status) else {
-        return Ok(effect);
-    };
-    let Some(way) = way_back(traps, world, thread.context) else {
-        return Ok(effect);
-    };
-    guard.hold(thread_number, true);
-    let detail = detail_of(&thread.regs, &advance.next);
-    thread.status = ThreadStatus::Running;
-    give_back(world, thread_number, thread, cause, detail, way);
-    thread.set_steps(thread.budget);
-    Ok(Some(LINKS))
+    match way_out(traps, world, thread, &advance.next) {
+        None => Ok(effect),
+        Some((cause, way)) => {
+            guard.hold(thread_number, true);
+            thread.status = ThreadStatus::Running;
+            let detail = detail_of(&thread.regs, &advance.next);
+            give_back(world, thread_number, thread, cause, detail, way);
+            thread.set_steps(left);
+            Ok(Some(LINKS))
+        }
+    }
+}
+
+/// Why and where to a thread is given back that a step has left so, if it is.
+fn way_out<W: World>(
+    traps: &Traps,
+    world: &W,
+    thread: &Thread,
+    next: &Next,
+) -> Option<(u64, (Name, SlotNumber))>
+    ensures none { IfNone result ((cause_of next.now thread.now.status ≡ None) ⊎
+        (way_back traps.now (W.seen world.now) thread.now.context ≡ None)) }
+    ensures cause { IfSome result (λ out. cause_of next.now thread.now.status ≡ Some out.0) }
+    ensures way { IfSome result (λ out. way_back traps.now (W.seen world.now) thread.now.context ≡ Some out.1) }
+    ensures few { IfSome result (λ out. out.0 ≤ EXITED) }
+    ensures live { IfSome result (λ out. IsLive (W.seen world.now) out.1.0) }
+    ensures within { IfSome result (λ out. out.1.1 < SLOTS) }
+{
+    let cause = cause_of(next, thread.status)?;
+    let way = way_back(traps, world, thread.context)?;
+    Some((cause, way))
 }
 
 /// Makes a step for which there is no fuel: the thread is given back, or ends as if its budget were used up.
@@ -311,22 +334,23 @@ fn run_unfuelled<W: World>(
     ensures finished { result.finished ≡ None }
     ensures kept { Keeps result.change (W.seen world.old) thread.old (W.seen world.new) thread.new }
 {
-    let effect = match way_back(traps, world, thread.context) {
+    let left = thread.budget - 1;
+    match way_back(traps, world, thread.context) {
         Some(way) => {
             guard.hold(thread_number, true);
             give_back(world, thread_number, thread, NO_FUEL, None, way);
+            thread.set_steps(left);
             LINKS
         }
         None => {
             thread.status = ThreadStatus::Faulted {
                 fault: Fault::Budget,
             };
+            thread.set_steps(left);
             Effect {
                 change: Change::Thread,
                 finished: None,
             }
         }
-    };
-    thread.set_steps(thread.budget - 1);
-    effect
+    }
 }

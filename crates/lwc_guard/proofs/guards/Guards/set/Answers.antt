@@ -29,3 +29,17 @@ returns-then-is_there c =
     let at = rw c.as_slice.ensures.value at c.place_for-place.ensures in
     let test = rw c.as_slice-2.ensures.value at (sym c.is_there.ensures ∙ c.if-is_there.true) in
     rw (← c.self.view_is, set-there c.args.context c.args.guard c.self.inside.rows.items _ at test) (put-map c.args.context c.args.guard c.self.inside.rows.items c.self.invariant.0)
+
+pub invariant_of-self-else-is_there : goal.invariant_of-self-else-is_there
+invariant_of-self-else-is_there c =
+    let at = rw c.as_slice.ensures.value at c.place_for-place.ensures in
+    let test = rw c.as_slice-2.ensures.value at (sym c.is_there.ensures ∙ c.if-is_there.false) in (
+      rw (c.insert.ensures.items, c.unwrap.ensures, set-new c.args.context c.args.guard c.self.inside.rows.items _ at test) (put-sorted c.args.context c.args.guard c.self.inside.rows.items c.self.invariant.0),
+      omega (arith, c.insert.ensures.capacity, c.self.invariant.1),
+    )
+
+pub returns-else-is_there : goal.returns-else-is_there
+returns-else-is_there c =
+    let at = rw c.as_slice.ensures.value at c.place_for-place.ensures in
+    let test = rw c.as_slice-2.ensures.value at (sym c.is_there.ensures ∙ c.if-is_there.false) in
+    rw (← c.self.view_is, c.insert.ensures.items, c.unwrap.ensures, set-new c.args.context c.args.guard c.self.inside.rows.items _ at test) (put-map c.args.context c.args.guard c.self.inside.rows.items c.self.invariant.0)
