@@ -165,16 +165,30 @@ trapped-live traps w x (Some number) lives whole here d m found = by_test traps 
 alike-here : (keep : Name → Bool) (q y : Name) → name_cmp q y ≡ Equal → keep y ≡ keep q
 alike-here keep q y same = ap keep (sym (name_cmp-IsAntisymmetric q y same))
 
-pub retained-get : (traps : Traps) (keep : Name → Bool) (q : Name) → fm.get (fm.retain_keys traps keep) q ≡ cond (keep q) (fm.get traps q) None
-retained-get traps keep q = fm.get-retain_keys traps keep q (alike-here keep q)
+-- rows of some names, by what is kept of them
+module _ {X : Type 0} where
+  pub retained-get : (traps : fm.FinMap name_cmp X) (keep : Name → Bool) (q : Name) → fm.get (fm.retain_keys traps keep) q ≡ cond (keep q) (fm.get traps q) None
+  retained-get traps keep q = fm.get-retain_keys traps keep q (alike-here keep q)
 
--- the traps that are kept
-pub kept-trap : (traps : Traps) (keep : Name → Bool) (d m : Name) → fm.get (fm.retain_keys traps keep) d ≡ Some m → (keep d ≡ true) × (fm.get traps d ≡ Some m)
-kept-trap traps keep d m is = by (keep d) (sym (retained-get traps keep d) ∙ is)
-  where
-    by : (b : Bool) → cond b (fm.get traps d) None ≡ Some m → (b ≡ true) × (fm.get traps d ≡ Some m)
-    by true got = (refl, got)
-    by false got = cc
+  -- the traps that are kept
+  pub kept-trap : (traps : fm.FinMap name_cmp X) (keep : Name → Bool) (d : Name) (m : X) → fm.get (fm.retain_keys traps keep) d ≡ Some m → (keep d ≡ true) × (fm.get traps d ≡ Some m)
+  kept-trap traps keep d m is = by (keep d) (sym (retained-get traps keep d) ∙ is)
+    where
+      by : (b : Bool) → cond b (fm.get traps d) None ≡ Some m → (b ≡ true) × (fm.get traps d ≡ Some m)
+      by true got = (refl, got)
+      by false got = cc
+
+  cond-none : (b : Bool) → ◌≡◌ {A = Option X} (cond b None None) None
+  cond-none true = refl
+  cond-none false = refl
+
+  -- where all are kept nothing changes
+  pub all-kept : (traps : fm.FinMap name_cmp X) (keep : Name → Bool) → ((d : Name) (m : X) → fm.get traps d ≡ Some m → keep d ≡ true) → fm.retain_keys traps keep ≡ traps
+  all-kept traps keep all = fm.same_map name_cmp-total name_cmp-IsAntisymmetric _ _ (λ q. retained-get traps keep q ∙ by q (fm.get traps q) refl)
+    where
+      by : (q : Name) (o : Option X) → fm.get traps q ≡ o → cond (keep q) o None ≡ o
+      by q None is = cond-none (keep q)
+      by q (Some m) is = ap (λ b. cond b (Some m) None) (all q m is)
 
 -- fewer are trapped
 pub kept-untrapped : (traps : Traps) (keep : Name → Bool) (d : Name) → is_trapped traps d ≡ false → is_trapped (fm.retain_keys traps keep) d ≡ false
@@ -183,15 +197,3 @@ kept-untrapped traps keep d free = by (keep d) (retained-get traps keep d)
     by : (b : Bool) → fm.get (fm.retain_keys traps keep) d ≡ cond b (fm.get traps d) None → is_trapped (fm.retain_keys traps keep) d ≡ false
     by true got = ap is_some got ∙ free
     by false got = ap is_some got
-
-cond-none : (b : Bool) → ◌≡◌ {A = Option Name} (cond b None None) None
-cond-none true = refl
-cond-none false = refl
-
--- where all are kept nothing changes
-pub all-kept : (traps : Traps) (keep : Name → Bool) → ((d m : Name) → fm.get traps d ≡ Some m → keep d ≡ true) → fm.retain_keys traps keep ≡ traps
-all-kept traps keep all = fm.same_map name_cmp-total name_cmp-IsAntisymmetric _ _ (λ q. retained-get traps keep q ∙ by q (fm.get traps q) refl)
-  where
-    by : (q : Name) (o : Option Name) → fm.get traps q ≡ o → cond (keep q) o None ≡ o
-    by q None is = cond-none (keep q)
-    by q (Some m) is = ap (λ b. cond b (Some m) None) (all q m is)
