@@ -1,6 +1,6 @@
 -- What steps under guards leave, as the code makes them.
-use Rattle.std.proofs.Common.{◌≡◌, ◌⊎◌, inl, inr, ◌-◌, ℕ, refl, sym, ap, subst, ◌∙◌, Bool, true, false, cond, eqb, Option, Some, None, List}
-use Rattle.std.specs.Prelude.{Result, Ok, Err, IfOk, OnOk, is_some}
+use Rattle.std.proofs.Common.{◌≡◌, ◌⊎◌, inl, inr, ◌-◌, ℕ, refl, sym, ap, subst, ◌∙◌, Bool, true, false, cond, eqb, ◌&&◌, Option, Some, None, List}
+use Rattle.std.specs.Prelude.{Result, Ok, Err, IfOk, OnOk, is_some, not}
 use Rattle.std.specs.FinMap as fm
 use Rattle.guest_isa.specs.declared.instr.Instr.{Instr}
 use Rattle.guest_machine.specs.Advances.{advanced}
@@ -18,9 +18,13 @@ use Rattle.lwc_guard.specs.GivingBack.{Course, cause_of, detail_of, fuelled_step
 use Rattle.lwc_guard.specs.Guards.{Guards, holding, lowered}
 use Rattle.lwc_guard.specs.Steps.{Left, left_by, left_of, left_running}
 use Rattle.lwc_guard.specs.declared.guard.Guard.{Guard}
-use Rattle.lwc_monitor.specs.Calls.{calls_under}
+use Rattle.lwc_base.specs.Refusals.{first_refusal}
+use Rattle.lwc_base.specs.World.{World}
+use Rattle.lwc_monitor.specs.Calls.{calls_under, trapped_by, traps_after_call}
+use Rattle.lwc_monitor.specs.declared.numbers.TheConstants.{LW_TRAP}
 use Rattle.lwc_monitor.specs.Steps.{call_next}
-use Rattle.lwc_monitor.specs.Traps.{Traps, is_trapped}
+use Rattle.lwc_monitor.specs.Traps.{Traps, is_trapped, trap_rows}
+use Rattle.lwc_types.specs.declared.fault.Fault.TheVariants as fault
 use Rattle.lwc_types.specs.declared.fault.ThreadStatus.{ThreadStatus}
 use Rattle.lwc_types.specs.declared.fault.ThreadStatus.TheVariants as status
 use Rattle.lwc_types.specs.declared.name.Name.{Name}
@@ -33,12 +37,31 @@ on_ok (Err e) is = tt
 pub cause-counted : (n : Next) (left : ℕ) (st : ThreadStatus) → cause_of n (status_with left st) ≡ cause_of n st
 cause-counted n left status.Running = by (eqb left 0)
   where
-    by : (b : Bool) → cause_of n (cond b _ status.Running) ≡ None
+    by : (b : Bool) → cause_of n (cond b (status.Faulted fault.Budget) status.Running) ≡ None
     by true = refl
     by false = refl
 cause-counted n left status.Idle = refl
 cause-counted n left (status.Done code) = refl
 cause-counted n left (status.Faulted f) = refl
+
+-- a call of a trapped context traps none
+pub traps-stay : (traps : Traps) (w : World) (x : Thread) (o : Option ℕ) → is_trapped traps x.context ≡ true → traps_after_call traps w x o ≡ traps
+traps-stay traps w x None trapped = refl
+traps-stay traps w x (Some number) trapped =
+    ap (λ (b : Bool). cond (eqb number LW_TRAP && not b) (trapped_by traps w x.context x.regs (first_refusal (trap_rows traps w x.context x.regs))) traps) trapped ∙ by (eqb number LW_TRAP)
+  where
+    by : (b : Bool) → cond (b && false) (trapped_by traps w x.context x.regs (first_refusal (trap_rows traps w x.context x.regs))) traps ≡ traps
+    by true = refl
+    by false = refl
+
+-- a step in a guarded context
+pub guarded-left : (traps : Traps) (guards : Guards) (t : ℕ) (e : Environment) (text : List Instr) (x : Thread) (g : Guard) → fm.get guards x.context ≡ Some g → x.status ≡ status.Running →
+    left_of traps guards t e None text x x.status
+    ≡ (Some (only None (counted (x.budget - 1) (guarded_course traps t e x (advanced text x.regs) g).outcome)), fm.insert guards x.context (guarded_course traps t e x (advanced text x.regs) g).guard)
+unfolding left_running
+guarded-left traps guards t e text x g found running =
+    ap (left_of traps guards t e None text x) running
+    ∙ ap (λ (o : Option Guard). let l = left_by o traps guards t e x (advanced text x.regs) in (Some (only None (counted (x.budget - 1) l.outcome)), l.guards)) found
 
 module _ (traps : Traps) (t : ℕ) (e : Environment) (text : List Instr) (x : Thread) (a : Advance) (is : a ≡ advanced text x.regs) where
   abbrev caller : Thread

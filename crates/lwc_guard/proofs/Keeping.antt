@@ -1,6 +1,6 @@
 -- What each step under guards keeps: the machine is ready, each trapped context lives, and each guarded one is trapped.
 use Rattle.std.proofs.Common.{◌≡◌, ◌⊎◌, inl, inr, ℕ, suc, ◌+◌, ◌-◌, ◌≤◌, refl, sym, ap, subst, ◌∙◌, Bool, true, false, cond, eqb, ◌&&◌, Option, Some, None, List, [], ◌∷◌, length, arith}
-use Rattle.std.specs.Prelude.{is_some, not, slice_get, slice_index}
+use Rattle.std.specs.Prelude.{is_none, is_some, nat_lt, not, slice_get, slice_index}
 use Rattle.std.specs.FinMap as fm
 use Rattle.std.specs.Option.{option_map_or}
 use Rattle.std.specs.Ordering.{eq_by_cmp}
@@ -29,7 +29,7 @@ use Rattle.lwc_guard.specs.Guards.{Guards}
 use Rattle.lwc_guard.specs.Reports.{begun}
 use Rattle.lwc_guard.specs.Steps.{Guarded, guarded_step, left_by, left_found, left_of, left_running, run_guarded}
 use Rattle.lwc_guard.specs.declared.guard.Guard.{Guard}
-use Rattle.lwc_guard.specs.declared.numbers.TheConstants.{LW_FUEL}
+use Rattle.lwc_guard.specs.declared.numbers.TheConstants.{LW_FUEL, MOST_FUEL}
 use Rattle.lwc_monitor.proofs.Few.{few_traps}
 use Rattle.lwc_monitor.proofs.Guarding.{all-kept, kept-trap, retained-get, trapped-live}
 use Rattle.lwc_monitor.specs.Calls.{trapped_by, traps_after_call}
@@ -37,6 +37,9 @@ use Rattle.lwc_monitor.specs.Steps.{call_by, call_next, traps_after}
 use Rattle.lwc_monitor.specs.Traps.{Traps, is_trapped, trap_rows}
 use Rattle.lwc_monitor.specs.declared.numbers.TheConstants.{LW_TRAP}
 use Rattle.lwc_monitor.specs.declared.trapping.TrapRefusal.{TrapRefusal}
+use Rattle.lwc_monitor.specs.declared.trapping.TrapRefusal.TheVariants.{Plain, Trapped}
+use Rattle.lwc_base.specs.Summaries.{is_empty}
+use Rattle.lwc_types.specs.declared.refusal.Refusal.TheVariants.{BadFd, BadRange, WrongKind}
 use Rattle.lwc_overlay.specs.Named.{link}
 use Rattle.lwc_types.proofs.Orders.{cases_name, name-itself, name_cmp-total, other_name, same_name}
 use Rattle.lwc_types.specs.Names.{name_cmp}
@@ -105,7 +108,9 @@ third-none false false false q i j k l none = cc
 
 fuelled-trapped : (traps : Traps) (w : World) (c : Name) (regs : Regs) → first_refusal (fuel_rows traps w c regs) ≡ None → is_trapped_by traps c (link w c regs).0 ≡ true
 unfolding fuel_rows
-fuelled-trapped traps w c regs none = third-none _ _ (is_trapped_by traps c (link w c regs).0) _ _ _ _ _ none
+fuelled-trapped traps w c regs none =
+    let d = descriptor_for w c (slice_index regs.r 1) in
+    third-none (is_empty d) (is_none (link_of d)) (is_trapped_by traps c (link w c regs).0) (nat_lt MOST_FUEL (slice_index regs.r 2)) (Plain BadFd) (Plain WrongKind) Trapped (Plain BadRange) none
 
 module _ (traps : Traps) (guards : Guards) (t : ℕ) (trapped : AreTrapped traps guards) where
   put-trapped : (k : Name) (v : Guard) → is_trapped traps k ≡ true → AreTrapped traps (fm.insert guards k v)
@@ -148,7 +153,7 @@ module _ (traps : Traps) (guards : Guards) (t : ℕ) (trapped : AreTrapped traps
 pub guards-within : (traps : Traps) (guards later : Guards) (t : ℕ) (e : Environment) (text : List Instr) (x : Thread) → AreTrapped traps guards → (made : Option AfterStep) → left_of traps guards t e None text x x.status ≡ (made, later) →
     AreTrapped (traps_after_call traps e.world (with_regs x (advanced text x.regs).after) (call_by text x x.status)) later
 guards-within traps guards later t e text x trapped made is d has =
-    still-trapped traps e.world _ (call_by text x x.status) d
+    still-trapped traps e.world (with_regs x (advanced text x.regs).after) (call_by text x x.status) d
     (after-status traps guards t trapped e text x x.status d (ap (λ (p : Option AfterStep × Guards). fm.contains_key p.1 d) is ∙ has))
 
 -- guards of trapped contexts are kept with these

@@ -1,6 +1,7 @@
 -- A step under guards keeps a machine ready.
-use Rattle.std.proofs.Common.{◌≡◌, ℕ, ◌+◌, ◌-◌, ◌≤◌, ◌<◌, refl, sym, ap, subst, ◌∙◌, Bool, true, false, cond, eqb, Option, Some, None, List, [], ◌∷◌, length, get_or, arith}
-use Rattle.std.specs.Prelude.{All, IfSome, slice_get, slice_set}
+use Rattle.std.proofs.Common.{◌≡◌, ℕ, ◌+◌, ◌-◌, ◌≤◌, ◌<◌, refl, sym, ap, subst, ◌∙◌, Bool, true, false, cond, eqb, ◌&&◌, Option, Some, None, List, [], ◌∷◌, length, get_or, arith}
+use Rattle.std.specs.Prelude.{All, IfSome, slice_get, slice_index, slice_set}
+use Rattle.std.specs.Option.{option_and_then, option_map}
 use Rattle.std.specs.FinMap as fm
 use Rattle.std.proofs.lemmas.List.{length-set}
 use Rattle.std.proofs.lemmas.List.Elements.{All-append, All-nil, All-set, All-weaker}
@@ -78,23 +79,23 @@ grows_saved job w c t regs =
 
 -- a context that a slot names lives
 named-lives : (w : World) (c d : Name) (regs : Regs) → HasItsContexts w → is_live w c ≡ true → named w c regs ≡ Some d → is_live w d ≡ true
-named-lives w c d regs whole here is = by (link_of (descriptor_for w c _)) refl is
+named-lives w c d regs whole here is = by (link_of (descriptor_for w c (slice_index regs.r 1))) refl is
   where
-    by : (o : Option (Name × Cap)) → link_of (descriptor_for w c _) ≡ o → _ → is_live w d ≡ true
+    by : (o : Option (Name × Cap)) → link_of (descriptor_for w c (slice_index regs.r 1)) ≡ o → option_map (λ (l : Name × Cap). l.0) o ≡ Some d → is_live w d ≡ true
     by None found got = cc
-    by (Some l) found got = let one : l.0 ≡ d = cc in subst (λ (n : Name). is_live w n ≡ true) one (whole.live c l.0 here (target_links w c _ l found))
+    by (Some l) found got = let one : l.0 ≡ d = cc in subst (λ (n : Name). is_live w n ≡ true) one (whole.live c l.0 here (target_links w c (slice_index regs.r 1) l found))
 
 -- the context where a thread is taken up is the one that the slot names
-taken-named : (traps : Traps) (guards : Guards) (t : ℕ) (w : World) (c d : Name) (regs : Regs) → taken_up traps guards t w c regs ≡ Some d → (named w c regs ≡ Some d) × (is_trapped_by traps c d ≡ true)
+pub taken-named : (traps : Traps) (guards : Guards) (t : ℕ) (w : World) (c d : Name) (regs : Regs) → taken_up traps guards t w c regs ≡ Some d → (named w c regs ≡ Some d) × (is_trapped_by traps c d ≡ true)
 unfolding taken_up
 taken-named traps guards t w c d regs is = by (named w c regs) is
   where
-    by_held : (e : Name) (a b : Bool) → is_trapped_by traps c e ≡ a → cond (cond a b false) (Some e) None ≡ Some d → (Some e ≡ Some d) × (is_trapped_by traps c d ≡ true)
+    by_held : (e : Name) (a b : Bool) → is_trapped_by traps c e ≡ a → cond (a && b) (Some e) None ≡ Some d → (Some e ≡ Some d) × (is_trapped_by traps c d ≡ true)
     by_held e true true trapped got = let one : e ≡ d = cc in (got, subst (λ (n : Name). is_trapped_by traps c n ≡ true) one trapped)
     by_held e true false trapped got = cc
     by_held e false b trapped got = cc
 
-    by : (o : Option Name) → _ → (o ≡ Some d) × (is_trapped_by traps c d ≡ true)
+    by : (o : Option Name) → option_and_then (held_by traps guards t c) o ≡ Some d → (o ≡ Some d) × (is_trapped_by traps c d ≡ true)
     by None got = cc
     by (Some e) got = by_held e (is_trapped_by traps c e) (holds guards e t) refl got
 
@@ -103,13 +104,18 @@ pub way-leads : (traps : Traps) (w : World) (c m : Name) (slot : ℕ) → way_ba
 unfolding way_back
 way-leads traps w c m slot is = by (fm.get traps c) is
   where
-    by_slot : (n : Name) (o : Option ℕ) → _ → (Some n ≡ Some m) × (o ≡ Some slot)
-    by_slot n None got = cc
-    by_slot n (Some k) got = cc
+    by_live : (n : Name) (b : Bool) → is_live w n ≡ b → (o : Option ℕ) → lowest_empty w n ≡ o → cond b (option_map {U = Name × ℕ} (λ (k : ℕ). (n, k)) o) None ≡ Some (m, slot) →
+        (is_live w m ≡ true) × (lowest_empty w m ≡ Some slot) × (Some n ≡ Some m)
+    by_live n false dead o lowest got = cc
+    by_live n true live None lowest got = cc
+    by_live n true live (Some k) lowest got =
+        let pair : (n, k) ≡ (m, slot) = cc in
+        let one : n ≡ m = ap (λ (p : Name × ℕ). p.0) pair in
+        (subst (λ (z : Name). is_live w z ≡ true) one live, ap (lowest_empty w) (sym one) ∙ lowest ∙ ap (λ (p : Name × ℕ). Some p.1) pair, ap Some one)
 
-    by : (o : Option Name) → _ → (is_live w m ≡ true) × (lowest_empty w m ≡ Some slot) × (o ≡ Some m)
+    by : (o : Option Name) → option_and_then (λ (n : Name). cond (is_live w n) (option_map {U = Name × ℕ} (λ (k : ℕ). (n, k)) (lowest_empty w n)) None) o ≡ Some (m, slot) → (is_live w m ≡ true) × (lowest_empty w m ≡ Some slot) × (o ≡ Some m)
     by None got = cc
-    by (Some n) got = cc
+    by (Some n) got = by_live n (is_live w n) refl (lowest_empty w n) refl got
 
 -- an act that gives a thread back, or ends it
 abbrev returning : Traps → ℕ → Option ℕ → Calls

@@ -23,7 +23,7 @@ step_guarded-requires-clause-steps g c κs bounds = has_steps _ _ _ _ _ _ _ _ (a
 
 pub step_guarded-requires-clause-text : goal.step_guarded-requires-clause-text
 step_guarded-requires-clause-text g c κs bounds =
-    let steady = (as_seen _ _ _ _ c.self.view_is c.self.invariant.1) in subst IsText (sym (kept _ _ _ _ _ _ _ steady).ready.text) steady.inputs.image.text
+    let steady = (as_seen _ _ _ _ c.self.view_is c.self.invariant.1) in subst IsText (sym (kept _ _ _ _ _ _ _ _ steady).ready.text) steady.inputs.image.text
 
 pub step_guarded-requires-clause-room : goal.step_guarded-requires-clause-room
 step_guarded-requires-clause-room g c κs bounds = few_trapped _ _ _ _ _ _ _ _ (as_seen _ _ _ _ c.self.view_is c.self.invariant.1)
