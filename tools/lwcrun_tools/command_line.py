@@ -45,6 +45,7 @@ MODES = {
     "stream": Mode(["IMAGE", "REQUESTS"], SERVES, "the same, each reply as soon as it and all earlier ones are there"),
     "replay": Mode(["IMAGE", "SCHEDULE", "REQUESTS"], SERVES, "makes the steps of a schedule, in a run or a serve", 2),
     "monitor": Mode(["IMAGE", "SCHEDULE"], RUNS, "the same of a run, in which a context may trap another's calls"),
+    "guard": Mode(["IMAGE", "SCHEDULE"], RUNS, "the same under a monitor that may give fuel and gets threads back"),
     "vault": Mode(["IMAGE", "VAULT", "SCHEDULE"], RUNS, "the same of a run, beside a context that is only entered"),
     "debug": Mode(["IMAGE", "SCHEDULE", "SCRIPT"], RUNS, "answers a script's questions about moments of a run"),
     "asm": Mode(["SOURCE"], [], "writes the image that a source makes"),

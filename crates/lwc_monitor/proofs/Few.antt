@@ -9,7 +9,6 @@ use Rattle.lwc_base.specs.World.{World, is_live}
 use Rattle.lwc_types.specs.Names.{name_cmp}
 use Rattle.lwc_types.specs.declared.name.Name.{Name}
 use Rattle.lwc_types.proofs.Orders.{name-itself, name_cmp-IsAntisymmetric, name_cmp-total, same_name}
-use Rattle.lwc_monitor.specs.Traps.{Traps}
 
 -- a key below all others is not found among them
 absent : {X : Type 0} (k : Name) (es : List (Name × X)) → T (below_all name_cmp k es) → find name_cmp k es ≡ None
@@ -50,16 +49,17 @@ module _ {X Y : Type 0} where
           ap is_some (find-where_key name_cmp other q (λ x tie. ap other (sym (name_cmp-IsAntisymmetric q x tie))) fs ∙ ap (λ b. cond b (find name_cmp q fs) None) (kept q (eq_by_cmp name_cmp e.0 q) refl there))
           ∙ each q (later q (eq_by_cmp name_cmp q e.0) refl there)
 
-pub few_traps : (traps : Traps) (w : World) → ((d m : Name) → fm.get traps d ≡ Some m → is_live w d ≡ true) → fm.len traps ≤ fm.len w.contexts
-few_traps traps w live =
-    let few = fewer (fm.entries traps) (fm.entries w.contexts) (fm.entries_sorted traps) (fm.entries_sorted w.contexts) each in
-    omega (arith, few, fm.len-entries traps, fm.len-entries w.contexts)
-  where
-    of_found : (q : Name) (found : Option Name) → fm.get traps q ≡ found → is_some found ≡ true → is_live w q ≡ true
-    of_found q None is there = absurd (false≢true there)
-    of_found q (Some m) is there = live q m is
+module _ {X : Type 0} where
+  pub few_traps : (traps : fm.FinMap name_cmp X) (w : World) → ((d : Name) (m : X) → fm.get traps d ≡ Some m → is_live w d ≡ true) → fm.len traps ≤ fm.len w.contexts
+  few_traps traps w live =
+      let few = fewer (fm.entries traps) (fm.entries w.contexts) (fm.entries_sorted traps) (fm.entries_sorted w.contexts) each in
+      omega (arith, few, fm.len-entries traps, fm.len-entries w.contexts)
+    where
+      of_found : (q : Name) (found : Option X) → fm.get traps q ≡ found → is_some found ≡ true → is_live w q ≡ true
+      of_found q None is there = absurd (false≢true there)
+      of_found q (Some m) is there = live q m is
 
-    each : (q : Name) → is_some (find name_cmp q (fm.entries traps)) ≡ true → is_some (find name_cmp q (fm.entries w.contexts)) ≡ true
-    each q there =
-        ap is_some (sym (fm.get-entries w.contexts q))
-        ∙ of_found q (fm.get traps q) refl (ap is_some (fm.get-entries traps q) ∙ there)
+      each : (q : Name) → is_some (find name_cmp q (fm.entries traps)) ≡ true → is_some (find name_cmp q (fm.entries w.contexts)) ≡ true
+      each q there =
+          ap is_some (sym (fm.get-entries w.contexts q))
+          ∙ of_found q (fm.get traps q) refl (ap is_some (fm.get-entries traps q) ∙ there)

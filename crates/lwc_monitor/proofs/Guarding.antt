@@ -138,7 +138,7 @@ module _ (traps : Traps) (t : ℕ) (e : Environment) (x : Thread) (guarded : Are
   other-safe v leaves = safe-left v leaves
 
 -- the contexts that are trapped after a call live before it
-module _ (traps : Traps) (w : World) (guarded : AreGuarded traps w) (c : Name) (regs : Regs) (whole : HasItsContexts w) (here : is_live w c ≡ true) where
+module _ (traps : Traps) (w : World) (lives : (d m : Name) → fm.get traps d ≡ Some m → is_live w d ≡ true) (c : Name) (regs : Regs) (whole : HasItsContexts w) (here : is_live w c ≡ true) where
   link-lives : first_refusal (trap_rows traps w c regs) ≡ None → is_live w (link w c regs).0 ≡ true
   unfolding trap_rows link
   link-lives none =
@@ -149,32 +149,46 @@ module _ (traps : Traps) (w : World) (guarded : AreGuarded traps w) (c : Name) (
       by (Some l) is = whole.live c l.0 here (target_links w c (slice_index regs.r 1) l is)
 
   trapping-live : (first : Option TrapRefusal) → first_refusal (trap_rows traps w c regs) ≡ first → (d m : Name) → fm.get (trapped_by traps w c regs first) d ≡ Some m → is_live w d ≡ true
-  trapping-live (Some refusal) is d m found = guarded.live d m found
+  trapping-live (Some refusal) is d m found = lives d m found
   trapping-live None is d m found = cases_name d (link w c regs).0
       (λ same. subst (λ (n : Name). is_live w n ≡ true) (sym same) (link-lives is))
-      (λ other. guarded.live d m (sym (inserted-get traps (link w c regs).0 c d ∙ ap (λ b. cond b (Some c) (fm.get traps d)) (other_name d (link w c regs).0 other)) ∙ found))
+      (λ other. lives d m (sym (inserted-get traps (link w c regs).0 c d ∙ ap (λ b. cond b (Some c) (fm.get traps d)) (other_name d (link w c regs).0 other)) ∙ found))
 
   by_test : (b : Bool) (d m : Name) → fm.get (cond b (trapped_by traps w c regs (first_refusal (trap_rows traps w c regs))) traps) d ≡ Some m → is_live w d ≡ true
   by_test true d m found = trapping-live _ refl d m found
-  by_test false d m found = guarded.live d m found
+  by_test false d m found = lives d m found
 
-pub trapped-live : (traps : Traps) (w : World) (x : Thread) (o : Option ℕ) → AreGuarded traps w → HasItsContexts w → is_live w x.context ≡ true → (d m : Name) → fm.get (traps_after_call traps w x o) d ≡ Some m → is_live w d ≡ true
-trapped-live traps w x None guarded whole here d m found = guarded.live d m found
-trapped-live traps w x (Some number) guarded whole here d m found = by_test traps w guarded x.context x.regs whole here _ d m found
+pub trapped-live : (traps : Traps) (w : World) (x : Thread) (o : Option ℕ) → ((d m : Name) → fm.get traps d ≡ Some m → is_live w d ≡ true) → HasItsContexts w → is_live w x.context ≡ true → (d m : Name) → fm.get (traps_after_call traps w x o) d ≡ Some m → is_live w d ≡ true
+trapped-live traps w x None lives whole here d m found = lives d m found
+trapped-live traps w x (Some number) lives whole here d m found = by_test traps w lives x.context x.regs whole here _ d m found
 
 alike-here : (keep : Name → Bool) (q y : Name) → name_cmp q y ≡ Equal → keep y ≡ keep q
 alike-here keep q y same = ap keep (sym (name_cmp-IsAntisymmetric q y same))
 
-pub retained-get : (traps : Traps) (keep : Name → Bool) (q : Name) → fm.get (fm.retain_keys traps keep) q ≡ cond (keep q) (fm.get traps q) None
-retained-get traps keep q = fm.get-retain_keys traps keep q (alike-here keep q)
+-- rows of some names, by what is kept of them
+module _ {X : Type 0} where
+  pub retained-get : (traps : fm.FinMap name_cmp X) (keep : Name → Bool) (q : Name) → fm.get (fm.retain_keys traps keep) q ≡ cond (keep q) (fm.get traps q) None
+  retained-get traps keep q = fm.get-retain_keys traps keep q (alike-here keep q)
 
--- the traps that are kept
-pub kept-trap : (traps : Traps) (keep : Name → Bool) (d m : Name) → fm.get (fm.retain_keys traps keep) d ≡ Some m → (keep d ≡ true) × (fm.get traps d ≡ Some m)
-kept-trap traps keep d m is = by (keep d) (sym (retained-get traps keep d) ∙ is)
-  where
-    by : (b : Bool) → cond b (fm.get traps d) None ≡ Some m → (b ≡ true) × (fm.get traps d ≡ Some m)
-    by true got = (refl, got)
-    by false got = cc
+  -- the traps that are kept
+  pub kept-trap : (traps : fm.FinMap name_cmp X) (keep : Name → Bool) (d : Name) (m : X) → fm.get (fm.retain_keys traps keep) d ≡ Some m → (keep d ≡ true) × (fm.get traps d ≡ Some m)
+  kept-trap traps keep d m is = by (keep d) (sym (retained-get traps keep d) ∙ is)
+    where
+      by : (b : Bool) → cond b (fm.get traps d) None ≡ Some m → (b ≡ true) × (fm.get traps d ≡ Some m)
+      by true got = (refl, got)
+      by false got = cc
+
+  cond-none : (b : Bool) → ◌≡◌ {A = Option X} (cond b None None) None
+  cond-none true = refl
+  cond-none false = refl
+
+  -- where all are kept nothing changes
+  pub all-kept : (traps : fm.FinMap name_cmp X) (keep : Name → Bool) → ((d : Name) (m : X) → fm.get traps d ≡ Some m → keep d ≡ true) → fm.retain_keys traps keep ≡ traps
+  all-kept traps keep all = fm.same_map name_cmp-total name_cmp-IsAntisymmetric _ _ (λ q. retained-get traps keep q ∙ by q (fm.get traps q) refl)
+    where
+      by : (q : Name) (o : Option X) → fm.get traps q ≡ o → cond (keep q) o None ≡ o
+      by q None is = cond-none (keep q)
+      by q (Some m) is = ap (λ b. cond b (Some m) None) (all q m is)
 
 -- fewer are trapped
 pub kept-untrapped : (traps : Traps) (keep : Name → Bool) (d : Name) → is_trapped traps d ≡ false → is_trapped (fm.retain_keys traps keep) d ≡ false
@@ -183,15 +197,3 @@ kept-untrapped traps keep d free = by (keep d) (retained-get traps keep d)
     by : (b : Bool) → fm.get (fm.retain_keys traps keep) d ≡ cond b (fm.get traps d) None → is_trapped (fm.retain_keys traps keep) d ≡ false
     by true got = ap is_some got ∙ free
     by false got = ap is_some got
-
-cond-none : (b : Bool) → ◌≡◌ {A = Option Name} (cond b None None) None
-cond-none true = refl
-cond-none false = refl
-
--- where all are kept nothing changes
-pub all-kept : (traps : Traps) (keep : Name → Bool) → ((d m : Name) → fm.get traps d ≡ Some m → keep d ≡ true) → fm.retain_keys traps keep ≡ traps
-all-kept traps keep all = fm.same_map name_cmp-total name_cmp-IsAntisymmetric _ _ (λ q. retained-get traps keep q ∙ by q (fm.get traps q) refl)
-  where
-    by : (q : Name) (o : Option Name) → fm.get traps q ≡ o → cond (keep q) o None ≡ o
-    by q None is = cond-none (keep q)
-    by q (Some m) is = ap (λ b. cond b (Some m) None) (all q m is)

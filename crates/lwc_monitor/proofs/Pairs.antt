@@ -39,7 +39,7 @@ alike a b = cases_name a b
     (λ two. not_true (same b a) (λ is. two (sym (same-one b a is))) ∙ sym (other_name a b two))
 
 -- the first pair of a name has its monitor
-pub found_first : (c : Name) (rows : List (Name × Name)) → option_map (λ p. p.1) (find (λ p. same p.0 c) rows) ≡ fm.find name_cmp c rows
+pub found_first : {X : Type 0} (c : Name) (rows : List (Name × X)) → option_map (λ p. p.1) (find (λ p. same p.0 c) rows) ≡ fm.find name_cmp c rows
 found_first c [] = refl
 found_first c (e ∷ es) = by (same e.0 c) (found_first c es) ∙ ap (λ b. cond b (Some e.1) (fm.find name_cmp c es)) (alike c e.0)
   where
@@ -53,21 +53,21 @@ pub any_second : (c : Name) (rows : List (Name × Name)) → list_any (λ p. sam
 any_second c [] = refl
 any_second c (e ∷ es) = ap (λ b. b || list_any (λ p. same p.1 c) es) (alike c e.1) ∙ ap (λ b. eq_by_cmp name_cmp c e.1 || b) (any_second c es)
 
-turned : (a b : Name) (r : Ordering) → name_cmp a b ≡ r → name_cmp b a ≡ ordering_reverse r
+pub turned : (a b : Name) (r : Ordering) → name_cmp a b ≡ r → name_cmp b a ≡ ordering_reverse r
 turned a b r is = name_cmp-total.antisymm b a ∙ ap ordering_reverse is
 
 -- where the pair of a new name goes
-abbrev pub place : Name → List (Name × Name) → ℕ
+abbrev pub place : {X : Type 0} → Name → List (Name × X) → ℕ
 place c rows = position_or_len (λ p. is_gt (name_cmp p.0 c)) rows
 
-pub place-within : (c : Name) (rows : List (Name × Name)) → place c rows ≤ length rows
+pub place-within : {X : Type 0} (c : Name) (rows : List (Name × X)) → place c rows ≤ length rows
 place-within c rows = prefix_len-le-length _ rows
 
 -- the place that a search answers, or the length
-pub place-is : (c : Name) (rows : List (Name × Name)) (o : Option ℕ) → o ≡ position (λ p. is_gt (name_cmp p.0 c)) rows → unwrap_or o (length rows) ≡ place c rows
+pub place-is : {X : Type 0} (c : Name) (rows : List (Name × X)) (o : Option ℕ) → o ≡ position (λ p. is_gt (name_cmp p.0 c)) rows → unwrap_or o (length rows) ≡ place c rows
 place-is c rows o is = let le = place-within c rows in grind arith
 
-pub put_there : (c m : Name) (rows : List (Name × Name)) → fm.find name_cmp c rows ≡ None → insert rows (place c rows) (c, m) ≡ fm.put name_cmp c m rows
+pub put_there : {X : Type 0} (c : Name) (m : X) (rows : List (Name × X)) → fm.find name_cmp c rows ≡ None → insert rows (place c rows) (c, m) ≡ fm.put name_cmp c m rows
 put_there c m [] none = refl
 put_there c m (e ∷ es) none = by (name_cmp c e.0) refl (put_there c m es) none
   where
@@ -84,8 +84,8 @@ put_there c m (e ∷ es) none = by (name_cmp c e.0) refl (put_there c m es) none
         ∙ ap (λ (n : ℕ). insert (e ∷ es) n (c, m)) next
         ∙ ap (λ l. e ∷ l) (later none)
 
-module _ (rows : List (Name × Name)) (sorted : T (fm.is_sorted name_cmp rows)) where
-  abbrev m : fm.FinMap name_cmp Name
+module _ {X : Type 0} (rows : List (Name × X)) (sorted : T (fm.is_sorted name_cmp rows)) where
+  abbrev m : fm.FinMap name_cmp X
   m = fm.from_sorted rows
 
   pub entries-are : fm.entries m ≡ rows
@@ -94,14 +94,11 @@ module _ (rows : List (Name × Name)) (sorted : T (fm.is_sorted name_cmp rows)) 
   pub get-is : (c : Name) → option_map (λ p. p.1) (find (λ p. same p.0 c) rows) ≡ fm.get m c
   get-is c = found_first c rows ∙ sym (fm.get-from_sorted name_cmp rows c sorted)
 
-  pub monitor-is : (c : Name) → list_any (λ p. same p.1 c) rows ≡ is_monitor m c
-  monitor-is c = any_second c rows ∙ ap (λ l. list_any (eq_by_cmp name_cmp c) (map (λ (e : Name × Name). e.1) l)) (sym entries-are)
-
-  module _ (c d : Name) (new : fm.contains_key m c ≡ false) where
+  module _ (c : Name) (d : X) (new : fm.contains_key m c ≡ false) where
     none-found : fm.find name_cmp c rows ≡ None
     none-found = sym (fm.get-from_sorted name_cmp rows c sorted) ∙ by (fm.get m c) new
       where
-        by : (o : Option Name) → is_some o ≡ false → o ≡ None
+        by : (o : Option X) → is_some o ≡ false → o ≡ None
         by None is = refl
         by (Some x) is = cc
 
@@ -109,11 +106,11 @@ module _ (rows : List (Name × Name)) (sorted : T (fm.is_sorted name_cmp rows)) 
     put-sorted = is_sorted-put name_cmp name_cmp-total c d rows sorted
 
     pub inserted-sorted : T (fm.is_sorted name_cmp (insert rows (place c rows) (c, d)))
-    inserted-sorted = subst (λ (l : List (Name × Name)). T (fm.is_sorted name_cmp l)) (sym (put_there c d rows none-found)) put-sorted
+    inserted-sorted = subst (λ (l : List (Name × X)). T (fm.is_sorted name_cmp l)) (sym (put_there c d rows none-found)) put-sorted
 
     pub inserted : fm.from_sorted {R = name_cmp} (insert rows (place c rows) (c, d)) ≡ fm.insert m c d
     inserted =
-        ap (λ (l : List (Name × Name)). fm.from_sorted {R = name_cmp} l) (put_there c d rows none-found)
+        ap (λ (l : List (Name × X)). fm.from_sorted {R = name_cmp} l) (put_there c d rows none-found)
         ∙ fm.same_entries_map _ _ (fm.entries-from_sorted name_cmp (fm.put name_cmp c d rows) put-sorted ∙ ap (fm.put name_cmp c d) (sym entries-are) ∙ sym (fm.entries-insert name_cmp-total m c d))
 
   module _ (keep : Name → Bool) where
@@ -125,8 +122,12 @@ module _ (rows : List (Name × Name)) (sorted : T (fm.is_sorted name_cmp rows)) 
         let alike_here : (x : Name) → name_cmp q x ≡ Equal → keep x ≡ keep q = λ x same. ap keep (sym (name_cmp-IsAntisymmetric q x same)) in
         fm.get-from_sorted name_cmp (where_key name_cmp keep rows) q kept-sorted
         ∙ find-where_key name_cmp keep q alike_here rows
-        ∙ ap (λ (o : Option Name). cond (keep q) o None) (sym (fm.get-from_sorted name_cmp rows q sorted))
+        ∙ ap (λ (o : Option X). cond (keep q) o None) (sym (fm.get-from_sorted name_cmp rows q sorted))
         ∙ sym (fm.get-retain_keys m keep q alike_here))
 
-pub no_rows : fm.from_sorted {K = Name} {X = Name} {R = name_cmp} [] ≡ fm.empty
+-- whether a name stands second
+pub monitor-is : (rows : List (Name × Name)) → T (fm.is_sorted name_cmp rows) → (c : Name) → list_any (λ p. same p.1 c) rows ≡ is_monitor (fm.from_sorted rows) c
+monitor-is rows sorted c = any_second c rows ∙ ap (λ l. list_any (eq_by_cmp name_cmp c) (map (λ (e : Name × Name). e.1) l)) (sym (entries-are rows sorted))
+
+pub no_rows : {X : Type 0} → fm.from_sorted {K = Name} {X = X} {R = name_cmp} [] ≡ fm.empty
 no_rows = fm.empty_of_len _ (fm.len-entries _ ∙ ap length (fm.entries-from_sorted name_cmp [] tt))

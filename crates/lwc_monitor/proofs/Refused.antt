@@ -38,7 +38,7 @@ unnamed w c regs r some = by (descriptor_for w c (slice_index regs.r 1)) some
     by (Reply q) some = refl
 
 -- it is refused to what traps for the same reason
-plainly : (w : World) (c : Name) (n : ℕ) (r : Refusal) (rest : List (Bool × TrapRefusal)) → first_refusal (slot_refusals w c n ++ []) ≡ Some r →
+pub plainly : (w : World) (c : Name) (n : ℕ) (r : Refusal) (rest : List (Bool × TrapRefusal)) → first_refusal (slot_refusals w c n ++ []) ≡ Some r →
     first_refusal ((is_empty (descriptor_for w c n), Plain BadFd) ∷ (is_none (link_of (descriptor_for w c n)), Plain WrongKind) ∷ rest) ≡ Some (Plain r)
 unfolding slot_refusals
 plainly w c n r rest some = by (descriptor_for w c n) some

@@ -260,7 +260,7 @@ module _ (w : World) (io : Channels) (threads : List Thread) (text : List Instr)
                 let same : u ≡ v = reaped ∙ reap-reaped v names (nothing_left other) in
                 sym (all-kept later (is_live u) (λ d c got.
                 ap (λ (z : World). is_live z d) same
-                ∙ stays d (trapped-live traps w adv (call_by text x x.status) kept.guarded kept.ready.named here.live d c (ap (λ (z : Traps). fm.get z d) (sym trapped) ∙ got))))
+                ∙ stays d (trapped-live traps w adv (call_by text x x.status) kept.guarded.live kept.ready.named here.live d c (ap (λ (z : Traps). fm.get z d) (sym trapped) ∙ got))))
 
             module _ (z : Traps) (those : z ≡ fm.retain_keys later (is_live u)) where
               abbrev now : Monitored

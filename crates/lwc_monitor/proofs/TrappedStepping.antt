@@ -113,7 +113,7 @@ module _ (inputs : Inputs) (steps : ℕ) (s : Monitored) (t : ℕ) (kept : IsKep
     kept_traps : (call : Option ℕ) (k : Machine) → k.environment ≡ m.environment → fm.retain_keys (after_call call) (is_live (world_of k)) ≡ after_call call
     kept_traps call k same =
         all-kept (after_call call) (is_live (world_of k))
-        (λ d n found. ap (λ (e : Environment). is_live e.world d) same ∙ trapped-live s.traps w (advanced_thread m x) call kept.guarded kept.ready.named x_lives d n found)
+        (λ d n found. ap (λ (e : Environment). is_live e.world d) same ∙ trapped-live s.traps w (advanced_thread m x) call kept.guarded.live kept.ready.named x_lives d n found)
 
     -- the thread arrives in a monitor
     went : (o : Outcome) (d : Name) (slot : ℕ) → is_live w d ≡ true → lowest_empty w d ≡ Some slot → o.environment ≡ with_world m.environment (switched w x.context t (regs_at m x) d slot) → o.thread.context ≡ d →

@@ -3,12 +3,12 @@
 
 mod forbidding;
 pub mod laws;
-mod live;
+pub mod live;
 pub mod monitored;
 pub mod numbers;
 pub mod replaying;
-mod ruling;
-mod stepping;
+pub mod ruling;
+pub mod stepping;
 pub mod trapping;
 pub mod traps;
 

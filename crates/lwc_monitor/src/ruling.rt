@@ -174,7 +174,7 @@ fn is_forbidden<W: World>(traps: &Traps, world: &W, thread: &Thread, number: u32
 }
 
 /// What r0 says of a refusal of this number, 1 or more.
-fn refused_by(number: u64) -> u64
+pub fn refused_by(number: u64) -> u64
     requires { 1 ≤ number }
     ensures { result ≡ 2 ^ 64 - number }
 {
@@ -182,7 +182,7 @@ fn refused_by(number: u64) -> u64
 }
 
 /// The number of why a context is not trapped.
-fn number_of(refusal: TrapRefusal) -> u64
+pub fn number_of(refusal: TrapRefusal) -> u64
     ensures number { result ≡ calls.trap_number refusal }
     ensures some { 1 ≤ result }
 {

@@ -19,7 +19,7 @@ ghost use Rattle.world_face.specs.Calls.{IsLive};
 use crate::ruling::{Ruling, rule_on_next};
 use crate::traps::Traps;
 use guest_isa::Text;
-use guest_machine::advance;
+use guest_machine::{Advance, advance};
 use kernel_core::{Change, Effect, Thread, step_thread};
 use lwc_base::{Channels, Name, OutOfMemory, Regs, SlotNumber, ThreadStatus};
 use lwc_switch::enter;
@@ -58,25 +58,31 @@ pub fn step_under<W: World>(
     ensures ample { W.roomy ≡ true → IsOk result }
 {
     match thread.status {
-        ThreadStatus::Running => run_under(traps, world, io, text, thread_number, thread),
+        ThreadStatus::Running => {
+            let advance = advance(text, &thread.regs);
+            run_under(traps, world, io, text, thread_number, thread, &advance)
+        }
         _ => step_thread(world, io, &mut None, text, thread_number, thread, None),
     }
 }
 
-/// Makes a step of a running thread under traps in place.
-fn run_under<W: World>(
+/// Makes a step of a running thread under traps in place, by how far it advances. The only error is out of memory:
+/// then the world, the channels and the traps are as before, and the thread may have changed.
+pub fn run_under<W: World>(
     traps: &mut Traps,
     world: &mut W,
     io: &mut Channels,
     text: &Text,
     thread_number: u32,
     thread: &mut Thread,
+    advance: &Advance,
 ) -> Result<Option<Effect>, OutOfMemory>
     requires number { thread_number < MOST_THREADS }
     requires running { thread.old.status ≡ ThreadStatus.Running }
     requires ready { CanAct (W.seen world.old) thread.old }
     requires files { HasItsFiles io.old (W.seen world.old) }
     requires steps { 0 < thread.old.budget }
+    requires advance { advance.now ≡ advanced text.now thread.old.regs }
     requires text { IsText text.now }
     requires room { fm.len traps.old < MOST_CONTEXTS }
     ensures outcome { IfOk result (λ effect.
@@ -94,7 +100,6 @@ fn run_under<W: World>(
     ensures err_traps { OnErr result (traps.new ≡ traps.old) }
     ensures ample { W.roomy ≡ true → IsOk result }
 {
-    let advance = advance(text, &thread.regs);
     let mut caller = *thread;
     caller.regs = advance.after;
     match rule_on_next(traps, world, &caller, &advance.next) {
@@ -105,7 +110,7 @@ fn run_under<W: World>(
             text,
             thread_number,
             thread,
-            Some(&advance),
+            Some(advance),
         ),
         Some((ruling, number)) => {
             let change = carry_out(traps, world, thread_number, &mut caller, ruling, number);

@@ -106,6 +106,9 @@ raised image = plans.Write (works.Spelling (lifted image))
 abbrev monitored : Settings → Image → List ℕ → Plan Rejection Work
 monitored settings image steps = plans.Write (works.Monitoring (inputs_of image [] settings) steps)
 
+abbrev guarded : Settings → Image → List ℕ → Plan Rejection Work
+guarded settings image steps = plans.Write (works.Guarding (inputs_of image [] settings) steps)
+
 abbrev kept_beside : Settings → Image → Vault → List ℕ → Plan Rejection Work
 kept_beside settings image v steps = plans.Write (works.Replaying (beside (inputs_of image [] settings) v) steps)
 
@@ -125,6 +128,10 @@ after_replay_image schedule requests settings image =
 abbrev after_monitor_image : List ℕ → Settings → Image → Plan Rejection Work
 after_monitor_image schedule settings image =
     read_by (schedule_of (threads_for image settings.job) MOST_STEPS) MOST_SCHEDULE_BYTES schedule (monitored settings image)
+
+abbrev after_guard_image : List ℕ → Settings → Image → Plan Rejection Work
+after_guard_image schedule settings image =
+    read_by (schedule_of (threads_for image settings.job) MOST_STEPS) MOST_SCHEDULE_BYTES schedule (guarded settings image)
 
 abbrev after_server : (Inputs → Work) → List ℕ → Settings → Image → Plan Rejection Work
 after_server work requests settings image =
@@ -373,6 +380,11 @@ runs bytes (commands.Monitor image schedule settings) (x, steps, h) = (
   works.Monitoring (inputs_of x [] settings) steps,
   over bytes _ x (after_monitor_image schedule settings) (fitting_accepted settings (bytes image) x h.guest)
       ∙ over bytes _ steps (monitored settings x) (schedule_accepted _ _ (bytes schedule) steps h.scheduled),
+)
+runs bytes (commands.Guard image schedule settings) (x, steps, h) = (
+  works.Guarding (inputs_of x [] settings) steps,
+  over bytes _ x (after_guard_image schedule settings) (fitting_accepted settings (bytes image) x h.guest)
+      ∙ over bytes _ steps (guarded settings x) (schedule_accepted _ _ (bytes schedule) steps h.scheduled),
 )
 runs bytes (commands.Vault image vault schedule settings) (x, v, steps, h) = (
   works.Replaying (beside (inputs_of x [] settings) v) steps,
@@ -629,6 +641,17 @@ headline_of o (commands.Monitor image schedule settings) bytes work text within 
       steps = steps.0;
       accepted = record { guest = guest; scheduled = schedule_found _ _ (bytes schedule) steps.0 steps.1; requested = refl };
       monitored = monitored_run inputs steps.0 can within.job;
+      text = taken ∙ ap (appended o.out.taken) (let P : Work → Type 0 = λ w. IsText w text in subst P (work_is work _ steps.3) is);
+    }
+headline_of o (commands.Guard image schedule settings) bytes work text within known leads is taken =
+    let files = o.files.contents in
+    let read = leads_by files (fitting_image_of settings.frames) MOST_IMAGE_BYTES image (after_guard_image schedule settings) work (bytes image) (known image (inl refl)) leads in
+    let steps = leads_by files (schedule_of (threads_for read.0 settings.job) MOST_STEPS) MOST_SCHEDULE_BYTES schedule (guarded settings read.0) work (bytes schedule) (known schedule (inr (inl refl))) read.3 in
+    let guest = fitting_found settings (bytes image) read.0 read.2 read.1 in
+    record {
+      guest = read.0;
+      steps = steps.0;
+      accepted = record { guest = guest; scheduled = schedule_found _ _ (bytes schedule) steps.0 steps.1; requested = refl };
       text = taken ∙ ap (appended o.out.taken) (let P : Work → Type 0 = λ w. IsText w text in subst P (work_is work _ steps.3) is);
     }
 headline_of o (commands.Vault image vault schedule settings) bytes work text within known leads is taken =

@@ -21,6 +21,7 @@ use Rattle.lwc_debug.specs.declared.debugging.TheConstants.{MOST_DEBUGGED_STEPS}
 use Rattle.lwc_gen.specs.Generated.{generated}
 use Rattle.lwc_gen.specs.Summary.{summary_after}
 use Rattle.lwc_io.specs.Outside.{appended}
+use Rattle.lwc_guard.specs.Reports.{guarded_text}
 use Rattle.lwc_monitor.specs.Promises.{IsMonitoredRun}
 use Rattle.lwc_monitor.specs.Reports.{monitored_text}
 use Rattle.lwc_text.specs.Lines.{steps_text}
@@ -200,6 +201,14 @@ pub record WroteMonitored
   pub monitored : IsMonitoredRun (inputs_of guest [] settings) steps
   pub text : Wrote o (monitored_text (inputs_of guest [] settings) steps)
 
+-- `guard`: the files are accepted, and the report of the steps that are kept under guards was written
+pub record WroteGuarded
+    (o : Outside) (bytes : List ℕ → List ℕ) (image schedule : List ℕ) (settings : Settings) : Type 0 where
+  pub guest : Image
+  pub steps : List ℕ
+  pub accepted : IsReplay bytes image schedule None settings guest steps []
+  pub text : Wrote o (guarded_text (inputs_of guest [] settings) steps)
+
 -- `vault`: the files are accepted, and the report of the steps that are kept beside the vault was written; it tells
 -- no more of the vault than this hands out, and each step is confined
 pub record WroteBeside
@@ -236,6 +245,7 @@ Headline o (commands.Dis image) bytes = WroteSource o (bytes image)
 Headline o (commands.Gen number) bytes = WroteSummary o number
 Headline o (commands.Lift image) bytes = WroteLifted o (bytes image)
 Headline o (commands.Monitor image schedule settings) bytes = WroteMonitored o bytes image schedule settings
+Headline o (commands.Guard image schedule settings) bytes = WroteGuarded o bytes image schedule settings
 Headline o (commands.Vault image vault schedule settings) bytes = WroteBeside o bytes image vault schedule settings
 Headline o (commands.Debug image schedule script settings) bytes = WroteAnswers o bytes image schedule script settings
 Headline o (commands.Stream image requests settings) bytes =
@@ -254,6 +264,8 @@ IsRunnable (commands.Dis image) bytes = (x : Image) × IsImage x × (bytes image
 IsRunnable (commands.Gen number) bytes = Unit {0}
 IsRunnable (commands.Lift image) bytes = (x : Image) × IsImage x × (bytes image ≡ spelling x)
 IsRunnable (commands.Monitor image schedule settings) bytes =
+    (x : Image) × (steps : List ℕ) × IsReplay bytes image schedule None settings x steps []
+IsRunnable (commands.Guard image schedule settings) bytes =
     (x : Image) × (steps : List ℕ) × IsReplay bytes image schedule None settings x steps []
 IsRunnable (commands.Vault image vault schedule settings) bytes =
     (x : Image) × (v : Vault) × (steps : List ℕ) × IsVaultReplay bytes image vault schedule settings x v steps

@@ -17,6 +17,7 @@ use Rattle.lwc_debug.specs.Transcript.{transcript_of_schedule}
 use Rattle.lwc_debug.specs.declared.command.Command as debug
 use Rattle.lwc_debug.specs.declared.debugging.TheConstants.{MOST_DEBUGGED_STEPS}
 use Rattle.lwc_debug.specs.declared.script.TheConstants.{MOST_SCRIPT_BYTES}
+use Rattle.lwc_guard.specs.Reports.{guarded_text}
 use Rattle.lwc_monitor.specs.Reports.{monitored_text}
 use Rattle.lwc_text.specs.Report.{report_of_schedule, stream_text}
 use Rattle.lwc_text.specs.declared.vault.TheConstants.{MOST_VAULT_BYTES}
@@ -30,7 +31,7 @@ use Rattle.lwcrun_inputs.specs.Plans.{Plan, Read, Write, accepted}
 
 -- what is done when all inputs are accepted: the steps of a schedule, beside a vault if there is one; all steps of
 -- threads that go on by themselves; the bytes of an image, or its source; all steps of a generated serve; the steps
--- of a schedule, in which contexts may be trapped; the answers to a script in the steps of a schedule; all steps of
+-- of a schedule, in which contexts may be trapped, or trapped and guarded; the answers to a script in the steps of a schedule; all steps of
 -- a serve, whose replies are written first
 pub data Work : Type 0 where
   Replaying : Inputs → List ℕ → Work
@@ -39,6 +40,7 @@ pub data Work : Type 0 where
   Disassembling : Image → Work
   Generating : ℕ → Work
   Monitoring : Inputs → List ℕ → Work
+  Guarding : Inputs → List ℕ → Work
   Debugging : Inputs → List ℕ → List debug.Command → Work
   Streaming : Inputs → Work
 
@@ -53,6 +55,7 @@ IsText (Generating number) text =
     (steps : List ℕ) × IsComplete (start (generated number)) steps
     × (text ≡ summary_after (generated number) number steps)
 IsText (Monitoring inputs schedule) text = text ≡ monitored_text inputs schedule
+IsText (Guarding inputs schedule) text = text ≡ guarded_text inputs schedule
 IsText (Debugging inputs schedule script) text = text ≡ transcript_of_schedule inputs schedule script
 IsText (Streaming inputs) text =
     (steps : List ℕ) × IsComplete (start inputs) steps × (text ≡ stream_text inputs steps)
@@ -144,7 +147,7 @@ pub record Task : Type 0 where
 abbrev pub new_task : FileList → Settings → (Gathered → Work) → Task
 new_task files settings work = record { files = files; settings = settings; work = work }
 
--- the steps of a schedule, plain or under traps
+-- the steps of a schedule, plain, under traps or under guards
 abbrev pub replay_task : (Inputs → List ℕ → Work) → List ℕ → List ℕ → Option (List ℕ) → Settings → Task
 replay_task work image schedule requests settings =
     new_task ((FittingImage, image) ∷ (Schedule MOST_STEPS, schedule) ∷ requests_named requests) settings
@@ -167,6 +170,7 @@ task_of (commands.Dis image) = new_task ((AnyImage, image) ∷ []) default_setti
 task_of (commands.Gen number) = new_task [] default_settings (λ p. Generating number)
 task_of (commands.Lift image) = new_task ((AnyImage, image) ∷ []) default_settings (λ p. Spelling (lifted p.image))
 task_of (commands.Monitor image schedule settings) = replay_task Monitoring image schedule None settings
+task_of (commands.Guard image schedule settings) = replay_task Guarding image schedule None settings
 task_of (commands.Vault image vault schedule settings) =
     new_task ((AnyImage, image) ∷ (VaultFile, vault) ∷ (Schedule MOST_STEPS, schedule) ∷ []) settings
     (λ p. Replaying (record (inputs_of p.image [] settings) { vault = p.vault }) p.steps)

@@ -181,6 +181,7 @@ fn carry_out<'a, R: Threads + Wait + Sync, F: Files, O: Sink, G: Gate>(
         | Line::Dis { .. }
         | Line::Lift { .. }
         | Line::Monitor { .. }
+        | Line::Guard { .. }
         | Line::Vault { .. }
         | Line::Debug { .. } => match carry_out_without_threads(alloc, line, files, out) {
             Some(ending) => ending,

@@ -7,6 +7,7 @@ ghost use Rattle.lwcrun_inputs.specs.Views.{end_of, outside};
 ghost use Rattle.lwcrun_core.specs.Works.{IsText, plan_of};
 
 use crate::debugging::debug_run;
+use crate::guarding::guard;
 use crate::monitoring::monitor;
 use crate::replaying::replay;
 use crate::sources::{asm, dis, lift};
@@ -61,6 +62,11 @@ pub fn carry_out_without_threads<'a, F: Files, O: Sink>(
             schedule,
             settings,
         } => Some(monitor(alloc, files, out, image, schedule, settings)),
+        Line::Guard {
+            image,
+            schedule,
+            settings,
+        } => Some(guard(alloc, files, out, image, schedule, settings)),
         Line::Vault {
             image,
             vault,

@@ -10,6 +10,7 @@ mod debugging;
 mod gathering;
 mod in_memory;
 mod limits;
+mod guarding;
 mod monitoring;
 mod replaying;
 mod running;

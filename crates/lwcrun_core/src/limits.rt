@@ -23,6 +23,7 @@ ghost use Rattle.lwc_types.specs.declared.page.TheConstants.{PAGE_BYTES};
 ghost use Rattle.lwc_debug.specs.declared.command.TheConstants.{MOST_COMMANDS};
 ghost use Rattle.lwc_debug.specs.declared.debugging.TheConstants.{MOST_DEBUGGED_STEPS};
 ghost use Rattle.lwc_debug.specs.declared.script.TheConstants.{MOST_SCRIPT_BYTES};
+ghost use Rattle.lwc_guard.specs.declared.numbers.TheConstants.{EXITED, HALTED, LW_FUEL, MOST_FUEL, NO_FUEL};
 ghost use Rattle.lwc_monitor.specs.declared.numbers.TheConstants.{EXIT, LW_TRAP, NOT_FRESH, TRAPPED};
 ghost use Rattle.lwc_text.specs.declared.vault.TheConstants.{MOST_VAULT_BYTES};
 ghost use Rattle.res_spec.specs.declared.items.TheConstants.{ITEM_BYTES};
@@ -75,6 +76,11 @@ pub fn limits_are_as_documented()
     ensures syscall { LW_SYSCALL ≡ 20 }
     ensures trap { LW_TRAP ≡ 21 }
     ensures exit { EXIT ≡ 10 }
+    ensures fuel { LW_FUEL ≡ 24 }
+    ensures most_fuel { MOST_FUEL ≡ 100000 }
+    ensures no_fuel { NO_FUEL ≡ 0 }
+    ensures halted { HALTED ≡ 7 }
+    ensures exited { EXITED ≡ 8 }
     ensures trapped { TRAPPED ≡ 22 }
     ensures not_fresh { NOT_FRESH ≡ 23 }
     ensures vault_pages { MOST_VAULT_PAGES ≡ 64 }

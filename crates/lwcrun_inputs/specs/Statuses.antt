@@ -47,7 +47,7 @@ abbrev pub usage_words : List ℕ
 usage_words =
     codes "usage: lwcrun replay IMAGE SCHEDULE [REQUESTS], run IMAGE, serve IMAGE REQUESTS, "
     ++ codes "asm SOURCE, dis IMAGE, gen NUMBER, lift IMAGE, monitor IMAGE SCHEDULE, vault IMAGE VAULT SCHEDULE, "
-    ++ codes "debug IMAGE SCHEDULE SCRIPT, stream IMAGE REQUESTS; "
+    ++ codes "debug IMAGE SCHEDULE SCRIPT, stream IMAGE REQUESTS, guard IMAGE SCHEDULE; "
     ++ codes "--frames F --budget B --workers W"
 
 -- why an input was refused, in words

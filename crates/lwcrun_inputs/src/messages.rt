@@ -15,7 +15,7 @@ use std::alloc::Global;
 const USAGE: &str =
     "lwcrun: usage: lwcrun replay IMAGE SCHEDULE [REQUESTS], run IMAGE, serve IMAGE REQUESTS, \
      asm SOURCE, dis IMAGE, gen NUMBER, lift IMAGE, monitor IMAGE SCHEDULE, vault IMAGE VAULT SCHEDULE, \
-     debug IMAGE SCHEDULE SCRIPT, stream IMAGE REQUESTS; \
+     debug IMAGE SCHEDULE SCRIPT, stream IMAGE REQUESTS, guard IMAGE SCHEDULE; \
      --frames F --budget B --workers W\n";
 
 /// The message of a call that ran out of memory.

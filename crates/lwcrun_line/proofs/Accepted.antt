@@ -108,6 +108,7 @@ within_with modes.Dis first second third settings number given said = tt
 within_with modes.Gen first second third settings number given said = said
 within_with modes.Lift first second third settings number given said = tt
 within_with modes.Monitor first second third settings number given said = given
+within_with modes.Guard first second third settings number given said = given
 within_with modes.Vault first second third settings number given said = given
 within_with modes.Debug first second third settings number given said = given
 within_with modes.Stream first second third settings number given said = given

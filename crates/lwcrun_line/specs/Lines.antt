@@ -21,8 +21,8 @@ use Rattle.lwcrun_line.specs.Numbers.{number_within}
 -- what is asked for, each file by its name: an image under a schedule, a serve where there are requests; the
 -- run of an image; the serve of requests by an image; the image of a source; the source of an image; the
 -- serve that is generated from a number; the lifted image of an image; an image under a schedule, in whose run
--- contexts may be trapped; an image beside a vault under a schedule; an image under a schedule, of whose run a script
--- is answered; the serve of requests by an image, each of whose replies is written as soon as it can be
+-- contexts may be trapped, or trapped and guarded; an image beside a vault under a schedule; an image under a schedule,
+-- of whose run a script is answered; the serve of requests by an image, each of whose replies is written as soon as it can be
 pub data Command : Type 0 where
   Replay : List ℕ → List ℕ → Option (List ℕ) → Settings → Command
   Run : List ℕ → Settings → Command
@@ -32,6 +32,7 @@ pub data Command : Type 0 where
   Gen : ℕ → Command
   Lift : List ℕ → Command
   Monitor : List ℕ → List ℕ → Settings → Command
+  Guard : List ℕ → List ℕ → Settings → Command
   Vault : List ℕ → List ℕ → List ℕ → Settings → Command
   Debug : List ℕ → List ℕ → List ℕ → Settings → Command
   Stream : List ℕ → List ℕ → Settings → Command
@@ -118,6 +119,7 @@ command_with modes.Dis first second third settings number = Dis first
 command_with modes.Gen first second third settings number = Gen number
 command_with modes.Lift first second third settings number = Lift first
 command_with modes.Monitor first second third settings number = Monitor first second settings
+command_with modes.Guard first second third settings number = Guard first second settings
 command_with modes.Vault first second third settings number = Vault first second third settings
 command_with modes.Debug first second third settings number = Debug first second third settings
 command_with modes.Stream first second third settings number = Stream first second settings
@@ -167,6 +169,7 @@ asked_by (lines.Dis image) = Dis (string_bytes image)
 asked_by (lines.Gen number) = Gen number
 asked_by (lines.Lift image) = Lift (string_bytes image)
 asked_by (lines.Monitor image schedule settings) = Monitor (string_bytes image) (string_bytes schedule) settings
+asked_by (lines.Guard image schedule settings) = Guard (string_bytes image) (string_bytes schedule) settings
 asked_by (lines.Vault image vault schedule settings) =
     Vault (string_bytes image) (string_bytes vault) (string_bytes schedule) settings
 asked_by (lines.Debug image schedule script settings) =
@@ -188,6 +191,7 @@ IsWithinLimits (Dis image) = Unit {0}
 IsWithinLimits (Gen number) = (1 ≤ number) × (number ≤ 100)
 IsWithinLimits (Lift image) = Unit {0}
 IsWithinLimits (Monitor image schedule settings) = AreRunSettings settings
+IsWithinLimits (Guard image schedule settings) = AreRunSettings settings
 IsWithinLimits (Vault image vault schedule settings) = AreRunSettings settings
 IsWithinLimits (Debug image schedule script settings) = AreRunSettings settings
 IsWithinLimits (Stream image requests settings) = AreServeSettings settings

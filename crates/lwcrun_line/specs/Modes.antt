@@ -27,6 +27,7 @@ row_of modes.Dis = new_row (codes "dis") 1 options.Nothing
 row_of modes.Gen = new_row (codes "gen") 1 options.Number
 row_of modes.Lift = new_row (codes "lift") 1 options.Nothing
 row_of modes.Monitor = new_row (codes "monitor") 2 options.Run
+row_of modes.Guard = new_row (codes "guard") 2 options.Run
 row_of modes.Vault = new_row (codes "vault") 3 options.Run
 row_of modes.Debug = new_row (codes "debug") 3 options.Run
 row_of modes.Stream = new_row (codes "stream") 2 options.Serve
@@ -35,7 +36,7 @@ row_of modes.Stream = new_row (codes "stream") 2 options.Serve
 abbrev pub all_modes : List Mode
 all_modes =
     modes.Replay ∷ modes.ReplayServe ∷ modes.Run ∷ modes.Serve ∷ modes.Asm ∷ modes.Dis ∷ modes.Gen ∷ modes.Lift
-    ∷ modes.Monitor ∷ modes.Vault ∷ modes.Debug ∷ modes.Stream ∷ []
+    ∷ modes.Monitor ∷ modes.Guard ∷ modes.Vault ∷ modes.Debug ∷ modes.Stream ∷ []
 
 -- a mode has this word and this number of words behind it
 abbrev pub is_called : List ℕ → ℕ → Mode → Bool

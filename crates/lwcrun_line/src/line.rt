@@ -59,6 +59,12 @@ pub enum Line {
         schedule: String,
         settings: Settings,
     },
+    /// An image under a schedule, each a file by its name; its contexts may be trapped and guarded.
+    Guard {
+        image: String,
+        schedule: String,
+        settings: Settings,
+    },
     /// An image beside a vault under a schedule, each a file by its name.
     Vault {
         image: String,
@@ -181,6 +187,11 @@ fn line_with(chosen: Choice, first: String, second: String, third: String) -> Li
         Mode::Gen => Line::Gen { number },
         Mode::Lift => Line::Lift { image: first },
         Mode::Monitor => Line::Monitor {
+            image: first,
+            schedule: second,
+            settings,
+        },
+        Mode::Guard => Line::Guard {
             image: first,
             schedule: second,
             settings,

@@ -15,6 +15,7 @@ pub enum Mode {
     Gen,
     Lift,
     Monitor,
+    Guard,
     Vault,
     Debug,
     Stream,
@@ -42,7 +43,7 @@ pub(crate) struct Row<'a> {
 }
 
 /// All modes.
-const MODES: [Mode; 12] = [
+const MODES: [Mode; 13] = [
     Mode::Replay,
     Mode::ReplayServe,
     Mode::Run,
@@ -52,6 +53,7 @@ const MODES: [Mode; 12] = [
     Mode::Gen,
     Mode::Lift,
     Mode::Monitor,
+    Mode::Guard,
     Mode::Vault,
     Mode::Debug,
     Mode::Stream,
@@ -73,6 +75,7 @@ pub(crate) fn row_of<'a>(mode: Mode) -> Row<'a>
         Mode::Gen => new_row("gen", 1, Options::Number),
         Mode::Lift => new_row("lift", 1, Options::Nothing),
         Mode::Monitor => new_row("monitor", 2, Options::Run),
+        Mode::Guard => new_row("guard", 2, Options::Run),
         Mode::Vault => new_row("vault", 3, Options::Run),
         Mode::Debug => new_row("debug", 3, Options::Run),
         Mode::Stream => new_row("stream", 2, Options::Serve),

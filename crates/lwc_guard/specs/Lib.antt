@@ -1,0 +1,11 @@
+pub use Rattle.kernel_core.specs.Kernel
+pub use Rattle.kernel_core.specs.Runs
+pub use Rattle.kernel_core.specs.Start
+pub use Rattle.lwc_text.specs.Report
+pub mod Guards
+pub mod Calls
+pub mod Rulings
+pub mod GivingBack
+pub mod Steps
+pub mod Reports
+pub mod Steady

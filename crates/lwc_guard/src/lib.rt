@@ -1,0 +1,17 @@
+//! Runs under a monitor that is also a guard: a step that would end its thread is given back to the monitor.
+#![tactic(auto)]
+
+mod calling;
+pub mod guard;
+pub mod guarded;
+mod giving;
+mod guards;
+mod lines;
+pub mod numbers;
+pub mod replaying;
+mod stepping;
+
+pub use guard::Guard;
+pub use guarded::Guarded;
+pub use numbers::{EXITED, HALTED, LW_FUEL, MOST_FUEL, NO_FUEL};
+pub use replaying::guard_replay;
