@@ -88,5 +88,5 @@ guards_after_call traps guards t w x None = guards
 guards_after_call traps guards t w x (Some number) =
     if number == LW_FUEL && not (is_trapped traps x.context)
     then fuelled_by guards (link w x.context x.regs).0 (slice_index x.regs.r 2)
-        (first_refusal (fuel_rows traps w x.context x.regs))
+    (first_refusal (fuel_rows traps w x.context x.regs))
     else (if number == LW_SWITCH then released guards t (taken_up traps guards t w x.context x.regs) else guards)

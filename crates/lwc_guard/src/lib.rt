@@ -2,9 +2,9 @@
 #![tactic(auto)]
 
 mod calling;
+mod giving;
 pub mod guard;
 pub mod guarded;
-mod giving;
 mod guards;
 mod lines;
 pub mod numbers;

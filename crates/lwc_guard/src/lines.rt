@@ -18,7 +18,12 @@ pub fn guard_lines(out: &mut Vec<u8>, traps: &Traps, guards: &Guards) -> Result<
 }
 
 /// Appends the line of a trapped context, with its fuel if it has some. The only error is out of memory.
-fn guard_line(out: &mut Vec<u8>, guards: &Guards, trapped: Name, monitor: Name) -> Result<(), OutOfMemory>
+fn guard_line(
+    out: &mut Vec<u8>,
+    guards: &Guards,
+    trapped: Name,
+    monitor: Name,
+) -> Result<(), OutOfMemory>
     ensures { OnOk result
         (out.new.items ≡ out.old.items ++ guard_line (fuel_of guards.now trapped) trapped monitor) }
 {

@@ -90,15 +90,7 @@ pub fn step_guarded<W: World>(
         None => run_free(traps, guards, world, io, text, thread_number, thread),
         Some(found) => {
             let mut guard = found;
-            let effect = run_guarded(
-                traps,
-                &mut guard,
-                world,
-                io,
-                text,
-                thread_number,
-                thread,
-            )?;
+            let effect = run_guarded(traps, &mut guard, world, io, text, thread_number, thread)?;
             guards.set(context, guard);
             Ok(effect)
         }
@@ -143,14 +135,7 @@ fn run_free<W: World>(
     ensures ample { W.roomy ≡ true → IsOk result }
 {
     let advance = advance(text, &thread.regs);
-    match rule_on_next(
-        traps,
-        guards,
-        world,
-        thread_number,
-        thread,
-        &advance,
-    ) {
+    match rule_on_next(traps, guards, world, thread_number, thread, &advance) {
         None => run_under(traps, world, io, text, thread_number, thread, &advance),
         Some(ruling) => {
             let left = thread.budget - 1;

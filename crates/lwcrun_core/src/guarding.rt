@@ -11,8 +11,8 @@ use crate::gathering::replay_files;
 use crate::writing::write_work;
 use kernel_core::Settings;
 use lazy_world::LazyWorld;
-use lwc_io::{Files, Sink};
 use lwc_guard::guard_replay;
+use lwc_io::{Files, Sink};
 use lwcrun_inputs::Ending;
 use std::alloc::Global;
 
