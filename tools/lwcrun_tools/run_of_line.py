@@ -118,6 +118,8 @@ def kinds_to_try(given: argparse.Namespace, image: Image, report: Report | None)
         raise Refused(f"{given.schedule} is the report of {KINDS[told]}, and not of {KINDS[said]}", 1)
     if told and told in NEEDED and not said:
         raise Refused(f"{given.schedule} is the report of {KINDS[told]}: {NEEDED[told]}", 1)
+    if report and report.fuel:
+        raise Refused(f"{given.schedule} is the report of a run under a guard, and no such run is shown yet", 1)
     if said or told:
         return [said or told or PLAIN]
     if image.has_call(TRAP) and not report:
