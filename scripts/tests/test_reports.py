@@ -109,7 +109,14 @@ def test_json_of_a_serve() -> None:
 
 def test_json_of_a_monitored_run() -> None:
     found = json.loads(in_json(MONITORED).stdout)
-    assert found["traps"] == [{"context": "1.0", "monitor": "0.0"}]
+    assert found["traps"] == [{"context": "1.0", "monitor": "0.0", "fuel": None}]
+
+
+def test_json_of_a_guarded_run() -> None:
+    guarded = MONITORED.replace("trap 1.0 by 0.0\n", "trap 1.0 by 0.0 fuel 7\n")
+    assert guarded != MONITORED
+    found = json.loads(in_json(guarded).stdout)
+    assert found["traps"] == [{"context": "1.0", "monitor": "0.0", "fuel": 7}]
     assert found["threads"][0]["code"] == found["threads"][1]["pc"] == "18446744073709551615"
     assert found["threads"][1]["registers"][14:] == ["18446744073709551615", "7"]
     assert found["threads"][1]["fault"] == 1 and found["schedule"] == "011"

@@ -31,11 +31,12 @@ class Context:
 
 @dataclass
 class Report:
-    """A report. The keys of contexts and traps are names of contexts; a reply is as `done 0 01` or `none`."""
+    """A report. The keys of contexts, traps and fuel are names of contexts; a reply is as `done 0 01` or `none`."""
 
     threads: list[Thread] = field(default_factory=list)
     contexts: dict[str, Context] = field(default_factory=dict)
     traps: dict[str, str] = field(default_factory=dict)
+    fuel: dict[str, int] = field(default_factory=dict)
     groups: int = 0
     replies: list[str] = field(default_factory=list)
     console: str = ""
@@ -53,7 +54,7 @@ LINES = {
         "thread": rf"(\d+) ({STATUS}) ctx ({CTX}) pc (\d+)",
         "regs": r"(\d+)((?: \d+){16})",
         "context": rf"({CTX}) pages (\d+) slots (\d+) uid (\d+)",
-        "trap": rf"({CTX}) by ({CTX})",
+        "trap": rf"({CTX}) by ({CTX})(?: fuel (\d+))?",
         "groups": r"(\d+)",
         "reply": rf"(\d+) (none|(?:{STATUS}) (?:[0-9a-f]+|-))",
         "console": r"([0-9a-f]+|-)",
@@ -96,6 +97,8 @@ def take_line(report: Report, kind: str, found: re.Match[str]) -> bool:
         report.contexts[first] = Context(int(found[2]), int(found[3]), int(found[4]))
     elif kind == "trap":
         report.traps[first] = found[2]
+        if found[3]:
+            report.fuel[first] = int(found[3])
     elif kind == "reply":
         report.replies.append(found[2])
         return int(first) == len(report.replies) - 1

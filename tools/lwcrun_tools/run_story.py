@@ -13,10 +13,12 @@ from lwcrun_tools.known_slots import CONTEXT, NOT_KNOWN, NO_KEYS, Slots, Value
 from lwcrun_tools.machine import (
     BEHALF,
     CALLS,
+    CAUSES,
     CLOSE,
     CREATE,
     DUP,
     EXIT,
+    GIVEN_BACK,
     MAP,
     OPEN,
     OVERLAY,
@@ -29,7 +31,7 @@ from lwcrun_tools.machine import (
     VAULT_SLOT,
 )
 from lwcrun_tools.machine_words import ITEMS, WORD, answer, arguments, name_of, number, refusal_of, status
-from lwcrun_tools.replayed_run import SERVE, VAULT, VAULT_CONTEXT, Run
+from lwcrun_tools.replayed_run import GUARD, SERVE, VAULT, VAULT_CONTEXT, Run
 from lwcrun_tools.run_report import Context, Report
 from lwcrun_tools.step_states import Turn
 
@@ -64,6 +66,8 @@ class Story:
     def __init__(self, run: Run, first: Report) -> None:
         self.run, self.image, self.memory = run, run.image, Memory(run, first)
         self.slots, self.doubts, self.made = Slots(run.image.most_pages), 0, dict[int, int]()
+        # The threads that guarded contexts hold, which no report says.
+        self.held: set[tuple[str, int]] = set()
         files = {slot: Value(f"file {file}") for slot, file in run.image.slots.items()}
         console = {} if run.kind == SERVE else {0: Value("console"), 1: Value("console")}
         for name in first.contexts:
@@ -136,6 +140,8 @@ class Story:
 
     def instruction(self, turn: Turn) -> Step:
         """The step of a running thread: a pause, or the shared instruction that ended it."""
+        if (cause := self.cause_given_back(turn)) is not None:
+            return self.given_back(turn, cause)
         stop = turn.stop
         if stop is None:
             self.slots.forget(*list(self.slots.tables))
@@ -154,6 +160,26 @@ class Story:
             step = self.access(turn, name, operands, stop.regs)
         step.place = stop.place
         return step
+
+    def cause_given_back(self, turn: Turn) -> int | None:
+        """Why the step was given back to the monitor of its context, if it was."""
+        if self.run.kind != GUARD or not turn.before or turn.was.ctx not in turn.before.fuel:
+            return None
+        cause = turn.now.regs[2] - GIVEN_BACK
+        return cause if turn.now.ctx == turn.before.traps[turn.was.ctx] and cause in CAUSES else None
+
+    def given_back(self, turn: Turn, cause: int) -> Step:
+        """The step was given back."""
+        name, monitor, slot = turn.was.ctx, turn.now.ctx, turn.now.regs[1]
+        self.held.add((name, turn.thread))
+        self.slots.put(monitor, slot, Value(CONTEXT + name, NO_KEYS))
+        return Step(
+            f"is given back to its monitor {monitor} with cause {cause}, {CAUSES[cause]}: slot {slot} there gets a"
+            f" descriptor of {name}",
+            f"given back {cause} {CAUSES[cause]} -> its monitor {monitor}, slot {slot} there",
+            kind="call",
+            place=turn.now.regs[3],
+        )
 
     def access(self, turn: Turn, name: str, operands: list[str], regs: list[int]) -> Step:
         """A load or a store."""
@@ -226,7 +252,10 @@ class Story:
     def accepted(self, step: Step, turn: Turn, call: int, regs: list[int], words: str) -> None:
         """Says what an accepted call did, and notes what it changed."""
         name, answered = turn.was.ctx, turn.now.regs[0]
-        if call == SWITCH:
+        if call == SWITCH and self.is_taken_up(turn):
+            step.said += f", and is taken up again in {turn.now.ctx}, as it was"
+            step.line += f" -> taken up in {turn.now.ctx}"
+        elif call == SWITCH:
             there = f"slot {turn.now.regs[1]} there"
             step.said += f", from {name} to {turn.now.ctx} with the argument {number(regs[2])}: "
             step.said += f"{there} gets a descriptor of {name}"
@@ -246,6 +275,14 @@ class Story:
             step.said += f"{f' ({words})' if words else ''}, which answers {number(answered)}"
             step.line += f" = {number(answered)}"
             self.note(name, turn, call, regs)
+
+    def is_taken_up(self, turn: Turn) -> bool:
+        """Whether a switch took its thread up again; from then on it is not held."""
+        held = (turn.now.ctx, turn.thread)
+        if held not in self.held or not turn.before or turn.before.traps.get(turn.now.ctx) != turn.was.ctx:
+            return False
+        self.held.discard(held)
+        return True
 
     def new_context(self, turn: Turn) -> str:
         """The name of the context that the step made."""
