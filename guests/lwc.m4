@@ -24,7 +24,7 @@ define(`lwc_known', `ifdef(`lwc_$1_$2', `indir(`lwc_$1_$2')', `errprint(__file__
 define(`lwc_names', `ifelse(`$2', `', `', `define(`lwc_$1_$2', `$3')lwc_names(`$1', shift(shift(shift($@))))')')
 
 lwc_names(`call', open, 1, close, 2, dup, 3, read, 4, write, 5, map, 6, unmap, 7, getuid, 8, setuid, 9, exit, 10,
-    create, 16, switch, 17, restrict, 18, overlay, 19, on_behalf, 20, trap, 21)
+    create, 16, switch, 17, restrict, 18, overlay, 19, on_behalf, 20, trap, 21, fuel, 24)
 lwc_names(`refusal', BadCall, -2, BadFd, -3, WrongKind, -4, BadAddress, -5, BadRange, -6, BadMode, -7, Overlap, -8,
     TooManyItems, -9, NotCovered, -10, TooManyContexts, -11, NoSlot, -12, NoSlotThere, -13, NoFrame, -14,
     NotPermitted, -15, NoFile, -16, TooManyGroups, -17, TooManyRanges, -18, ReplyFull, -19, TooLong, -20,

@@ -110,6 +110,13 @@ def test_json_of_a_serve() -> None:
 def test_json_of_a_monitored_run() -> None:
     found = json.loads(in_json(MONITORED).stdout)
     assert found["traps"] == [{"context": "1.0", "monitor": "0.0", "fuel": None}]
+
+
+def test_json_of_a_guarded_run() -> None:
+    guarded = MONITORED.replace("trap 1.0 by 0.0\n", "trap 1.0 by 0.0 fuel 7\n")
+    assert guarded != MONITORED
+    found = json.loads(in_json(guarded).stdout)
+    assert found["traps"] == [{"context": "1.0", "monitor": "0.0", "fuel": 7}]
     assert found["threads"][0]["code"] == found["threads"][1]["pc"] == "18446744073709551615"
     assert found["threads"][1]["registers"][14:] == ["18446744073709551615", "7"]
     assert found["threads"][1]["fault"] == 1 and found["schedule"] == "011"
@@ -119,11 +126,3 @@ def test_json_of_no_report() -> None:
     done = in_json("at 1\n")
     assert (done.returncode, done.stdout) == (1, "")
     assert done.stderr == "report-json: -: line 1 is no line of a report there: at 1\n"
-
-
-def test_the_fuel_of_a_trap() -> None:
-    lines = "thread 0 running ctx 0.0 pc 1\nregs 0" + " 0" * 16 + "\ncontext 0.0 pages 1 slots 2 uid 0\n"
-    lines += "trap 1.0 by 0.0 fuel 7\ntrap 1.1 by 0.0\n"
-    lines += "groups 0\nconsole -\nused 1\npeak 1\nsteps 1\nschedule 0\n"
-    report = read_report(lines)
-    assert (report.traps, report.fuel) == ({"1.0": "0.0", "1.1": "0.0"}, {"1.0": 7})

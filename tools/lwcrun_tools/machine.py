@@ -5,6 +5,7 @@ from __future__ import annotations
 
 OPEN, CLOSE, DUP, READ, WRITE, MAP, UNMAP, GETUID, SETUID, EXIT = range(1, 11)
 CREATE, SWITCH, RESTRICT, OVERLAY, BEHALF, TRAP = range(16, 22)
+FUEL = 24
 CALLS = {
     OPEN: "open",
     CLOSE: "close",
@@ -22,6 +23,7 @@ CALLS = {
     OVERLAY: "overlay",
     BEHALF: "on_behalf",
     TRAP: "trap",
+    FUEL: "fuel",
 }
 REFUSALS = {
     2: "BadCall",
@@ -49,6 +51,11 @@ REFUSALS = {
 }
 FAULTS = {1: "BadPc", 2: "BadLoad", 3: "BadStore", 4: "NoFrame", 5: "Budget", 6: "ReadOnly"}
 BUDGET_FAULT = 5
+
+# Under a guard: why a step was given back, beside faults, and what is added to it in r2.
+NO_FUEL, HALTED, EXITED = 0, 7, 8
+CAUSES = {NO_FUEL: "no fuel", **FAULTS, HALTED: "HALT", EXITED: "exit"}
+GIVEN_BACK = 2**32
 
 # What an item names, and how a call takes it.
 PAGE_ITEM, SLOT_ITEM, UID_ITEM = range(3)

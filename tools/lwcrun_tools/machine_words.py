@@ -31,6 +31,7 @@ ARGUMENTS = {
     10: "code {1}",
     17: "slot {1}, argument {2}",
     21: "slot {1}",
+    24: "slot {1}, fuel {2}",
 }
 # The registers of the address and of the number of items.
 ITEMS = {CREATE: (1, 2), RESTRICT: (2, 3), OVERLAY: (2, 3)}

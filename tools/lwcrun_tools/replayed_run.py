@@ -13,8 +13,14 @@ from lwcrun_tools.images import Image
 from lwcrun_tools.refusals import SCRIPT, Input, Refused, call_program
 from lwcrun_tools.run_report import Report, ReportError, read_report
 
-PLAIN, SERVE, MONITOR, VAULT = "plain", "serve", "monitor", "vault"
-KINDS = {PLAIN: "a plain run", SERVE: "a serve", MONITOR: "a run under a monitor", VAULT: "a run beside a vault"}
+PLAIN, SERVE, MONITOR, GUARD, VAULT = "plain", "serve", "monitor", "guard", "vault"
+KINDS = {
+    PLAIN: "a plain run",
+    SERVE: "a serve",
+    MONITOR: "a run under a monitor",
+    GUARD: "a run under a guard",
+    VAULT: "a run beside a vault",
+}
 VAULT_CONTEXT = "0.1"
 
 
@@ -39,7 +45,7 @@ class Run:
 
     def words(self, schedule: str) -> list[str]:
         """The words for the program that make the run with a schedule in a file."""
-        mode = {MONITOR: "monitor", VAULT: "vault"}.get(self.kind, "replay")
+        mode = {MONITOR: "monitor", GUARD: "guard", VAULT: "vault"}.get(self.kind, "replay")
         between, behind = [self.files[VAULT].path] if self.kind == VAULT else [], [
             self.files[SERVE].path
         ] if self.kind == SERVE else []

@@ -32,14 +32,15 @@ from lwcrun_tools.refusals import (
     read_file,
     take,
 )
-from lwcrun_tools.replayed_run import KINDS, MONITOR, PLAIN, SERVE, VAULT, Run, in_order
+from lwcrun_tools.replayed_run import GUARD, KINDS, MONITOR, PLAIN, SERVE, VAULT, Run, in_order
 from lwcrun_tools.report_options import found_options
 from lwcrun_tools.run_report import Report, ReportError, read_report
 
 FILES = """IMAGE is an image, or a source, which is assembled first. SCHEDULE is a schedule, or a report of a run of
 the image: its line `schedule` is taken, and the end of the run is compared with it. A report tells what it is a run
-of. A schedule alone does not: give --monitor, --vault FILE or --requests FILE where it is no plain run. Places have
-the labels of a source; of an image that tools/compile made they have functions and lines, by the file beside it.
+of. A schedule alone does not: give --monitor, --guard, --vault FILE or --requests FILE where it is no plain run.
+Places have the labels of a source; of an image that tools/compile made they have functions and lines, by the file
+beside it.
 
 Status 0: success; 1: the run cannot be shown; 2: the line is not accepted; 3 to 7: as the program's."""
 
@@ -52,6 +53,7 @@ def add_options(parser: argparse.ArgumentParser) -> None:
     kind.add_argument("--requests", metavar="FILE", help="the run is a serve of these requests")
     kind.add_argument("--vault", metavar="FILE", help="the run is one beside this vault")
     kind.add_argument("--monitor", action="store_true", help="the run is one under a monitor")
+    kind.add_argument("--guard", action="store_true", help="the run is one under a guard")
     kind.add_argument("--plain", action="store_true", help="the run is none of these, though the guest makes call 21")
     for name, option in OPTIONS.items():
         default = "as many as the report has, or 4" if name == "--workers" else str(option.default)
@@ -88,6 +90,8 @@ def kind_of(report: Report) -> str | None:
         and ("0.0" not in report.contexts)
     ):
         return SERVE
+    if report.fuel:
+        return GUARD
     if report.traps:
         return MONITOR
     return VAULT if "0.1" in report.contexts else None
@@ -102,6 +106,8 @@ def given_kind(given: argparse.Namespace) -> str | None:
         if given.vault
         else MONITOR
         if given.monitor
+        else GUARD
+        if given.guard
         else PLAIN
         if given.plain
         else None
@@ -114,19 +120,18 @@ NEEDED = {SERVE: "its requests are needed, by --requests FILE", VAULT: "its vaul
 def kinds_to_try(given: argparse.Namespace, image: Image, report: Report | None) -> list[str]:
     """What the run may be of, in the order in which that is tried."""
     said, told = given_kind(given), kind_of(report) if report else None
-    if said and told and said != told:
+    # Under a guard a context may have no fuel.
+    if said and told and said != told and (said, told) != (GUARD, MONITOR):
         raise Refused(f"{given.schedule} is the report of {KINDS[told]}, and not of {KINDS[said]}", 1)
     if told and told in NEEDED and not said:
         raise Refused(f"{given.schedule} is the report of {KINDS[told]}: {NEEDED[told]}", 1)
-    if report and report.fuel:
-        raise Refused(f"{given.schedule} is the report of a run under a guard, and no such run is shown yet", 1)
     if said or told:
         return [said or told or PLAIN]
     if image.has_call(TRAP) and not report:
         raise Refused(
             f"{given.image} makes call {TRAP}, which only a run under a monitor has: give --monitor, or --plain", 1
         )
-    return [PLAIN, MONITOR] if report else [PLAIN]
+    return [PLAIN, MONITOR, GUARD] if report else [PLAIN]
 
 
 def open_image(given: argparse.Namespace, program: str, work: WorkFolder) -> tuple[Input, Source | None]:

@@ -31,8 +31,7 @@ class Context:
 
 @dataclass
 class Report:
-    """A report. The keys of contexts, traps and fuel are names of contexts; a trapped context without fuel is not
-    among those of fuel; a reply is as `done 0 01` or `none`."""
+    """A report. The keys of contexts, traps and fuel are names of contexts; a reply is as `done 0 01` or `none`."""
 
     threads: list[Thread] = field(default_factory=list)
     contexts: dict[str, Context] = field(default_factory=dict)

@@ -8,9 +8,9 @@ from dataclasses import dataclass, field
 
 from lwcrun_tools.known_run import Known
 from lwcrun_tools.known_slots import CONTEXT, NO_KEYS, Value
-from lwcrun_tools.machine import CALLS, CREATE, EXIT, PAGE_BYTES, SWITCH, TRAP
+from lwcrun_tools.machine import CALLS, CAUSES, CREATE, EXIT, GIVEN_BACK, PAGE_BYTES, SWITCH, TRAP
 from lwcrun_tools.machine_words import ITEMS, WORD, answer, arguments, name_of, number, refusal_of, status
-from lwcrun_tools.replayed_run import Run
+from lwcrun_tools.replayed_run import GUARD, Run
 from lwcrun_tools.run_report import Report
 from lwcrun_tools.step_states import Turn
 
@@ -44,6 +44,8 @@ class Story:
 
     def __init__(self, run: Run, first: Report) -> None:
         self.image, self.made, self.known = run.image, dict[int, int](), Known(run, first)
+        # The threads that guarded contexts hold, which no report says.
+        self.held: set[tuple[str, int]] = set()
 
     def follow(self, turn: Turn) -> Step:
         """What a step did; notes what the slots have then."""
@@ -102,6 +104,8 @@ class Story:
 
     def instruction(self, turn: Turn) -> Step:
         """The step of a running thread: a pause, or the shared instruction that ended it."""
+        if (cause := self.cause_given_back(turn)) is not None:
+            return self.given_back(turn, cause)
         stop = turn.stop
         if stop is None:
             self.known.lose()
@@ -119,6 +123,26 @@ class Story:
             step = self.access(turn, name, operands, stop.regs)
         step.place = stop.place
         return step
+
+    def cause_given_back(self, turn: Turn) -> int | None:
+        """Why the step was given back to the monitor of its context, if it was."""
+        if self.known.run.kind != GUARD or not turn.before or turn.was.ctx not in turn.before.fuel:
+            return None
+        cause = turn.now.regs[2] - GIVEN_BACK
+        return cause if turn.now.ctx == turn.before.traps[turn.was.ctx] and cause in CAUSES else None
+
+    def given_back(self, turn: Turn, cause: int) -> Step:
+        """The step was given back."""
+        name, monitor, slot = turn.was.ctx, turn.now.ctx, turn.now.regs[1]
+        self.held.add((name, turn.thread))
+        self.known.slots.put(monitor, slot, Value(CONTEXT + name, NO_KEYS))
+        return Step(
+            f"is given back to its monitor {monitor} with cause {cause}, {CAUSES[cause]}: slot {slot} there gets a"
+            f" descriptor of {name}",
+            f"given back {cause} {CAUSES[cause]} -> its monitor {monitor}, slot {slot} there",
+            kind="call",
+            place=turn.now.regs[3],
+        )
 
     def access(self, turn: Turn, name: str, operands: list[str], regs: list[int]) -> Step:
         """A load or a store."""
@@ -191,7 +215,10 @@ class Story:
     def accepted(self, step: Step, turn: Turn, call: int, regs: list[int], words: str) -> None:
         """Says what an accepted call did, and notes what it changed."""
         name, answered = turn.was.ctx, turn.now.regs[0]
-        if call == SWITCH:
+        if call == SWITCH and self.is_taken_up(turn):
+            step.said += f", and is taken up again in {turn.now.ctx}, as it was"
+            step.line += f" -> taken up in {turn.now.ctx}"
+        elif call == SWITCH:
             there = f"slot {turn.now.regs[1]} there"
             step.said += f", from {name} to {turn.now.ctx} with the argument {number(regs[2])}: "
             step.said += f"{there} gets a descriptor of {name}"
@@ -211,6 +238,14 @@ class Story:
             step.said += f"{f' ({words})' if words else ''}, which answers {number(answered)}"
             step.line += f" = {number(answered)}"
             self.known.note(name, turn, call, regs)
+
+    def is_taken_up(self, turn: Turn) -> bool:
+        """Whether a switch took its thread up again; from then on it is not held."""
+        held = (turn.now.ctx, turn.thread)
+        if held not in self.held or not turn.before or turn.before.traps.get(turn.now.ctx) != turn.was.ctx:
+            return False
+        self.held.discard(held)
+        return True
 
     def new_context(self, turn: Turn) -> str:
         """The name of the context that the step made."""

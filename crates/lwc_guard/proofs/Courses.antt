@@ -113,7 +113,7 @@ module _ (traps : Traps) (t : ℕ) (e : Environment) (text : List Instr) (x : Th
       where
         by : (o : Option Name) → fm.get traps x.context ≡ o → is_some o ≡ true → under ≡ unchanged e (with_status caller under.thread.status)
         by None none there = cc
-        by (Some m) found there = ended traps t e caller running m found a.next cause why
+        by (Some m) found there = ended traps t e caller m running found a.next cause why
 
     module _ (effect : Option Effect) (f : Environment) (y : Thread) (got : thread_outcome (calls_under traps) t e None text x status.Running ≡ made effect f None y) where
       counted-is : counted (x.budget - 1) under ≡ unchanged f y

@@ -26,6 +26,7 @@ use Rattle.lwc_guard.proofs.Ready.{after_left, ready_outcome, taken-named}
 use Rattle.lwc_guard.specs.Calls.{fuel_rows, fuelled_by, guards_after_call, is_trapped_by, released, taken_up}
 use Rattle.lwc_guard.specs.GivingBack.{guarded_course}
 use Rattle.lwc_guard.specs.Guards.{Guards}
+use Rattle.lwc_guard.specs.Promises.{AreTrapped}
 use Rattle.lwc_guard.specs.Reports.{begun}
 use Rattle.lwc_guard.specs.Steps.{Guarded, guarded_step, left_by, left_found, left_of, left_running, run_guarded}
 use Rattle.lwc_guard.specs.declared.guard.Guard.{Guard}
@@ -48,10 +49,6 @@ use Rattle.lwc_types.specs.declared.fault.ThreadStatus.TheVariants as status
 use Rattle.lwc_types.specs.declared.name.Name.{Name}
 use Rattle.lwc_types.specs.declared.regs.Regs.{Regs}
 
--- each guarded context is trapped
-abbrev pub AreTrapped : Traps → Guards → Type 0
-AreTrapped traps guards = (d : Name) → fm.contains_key guards d ≡ true → is_trapped traps d ≡ true
-
 -- what a run under guards keeps
 pub record IsKept (inputs : Inputs) (steps : ℕ) (s : Guarded) : Type 0 where
   pub ready : IsReady inputs steps s.machine
@@ -60,7 +57,7 @@ pub record IsKept (inputs : Inputs) (steps : ℕ) (s : Guarded) : Type 0 where
   pub trapped : AreTrapped s.traps s.guards
 
 module _ {X : Type 0} (m : fm.FinMap name_cmp X) (k : Name) (v : X) where
-  get-put : (q : Name) → fm.get (fm.insert m k v) q ≡ cond (eq_by_cmp name_cmp q k) (Some v) (fm.get m q)
+  pub get-put : (q : Name) → fm.get (fm.insert m k v) q ≡ cond (eq_by_cmp name_cmp q k) (Some v) (fm.get m q)
   get-put q = fm.get-insert name_cmp-total m k v q
 
   -- a key of the map with one more is this one or was there

@@ -1,8 +1,11 @@
 pub mod Courses
 pub mod Ended
 pub mod Keeping
+pub mod Plain
+pub mod Promised
 pub mod Ready
 pub mod Replays
+pub mod Returns
 pub mod Rows
 pub mod Ruled
 pub mod Steadying

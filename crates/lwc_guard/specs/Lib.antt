@@ -9,3 +9,4 @@ pub mod GivingBack
 pub mod Steps
 pub mod Reports
 pub mod Steady
+pub mod Promises

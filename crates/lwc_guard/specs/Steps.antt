@@ -6,7 +6,7 @@ use Rattle.guest_machine.specs.Advances.{advanced}
 use Rattle.guest_machine.specs.declared.progress.Advance.{Advance}
 use Rattle.kernel_core.specs.Machine.{Environment, Machine, Serve, is_ended}
 use Rattle.kernel_core.specs.Runs.{frames_of}
-use Rattle.kernel_core.specs.Step.{AfterStep, Outcome, after_outcome, counted, next_outcome, only, thread_outcome}
+use Rattle.kernel_core.specs.Step.{AfterStep, Outcome, after_outcome, counted, next_outcome, settled, thread_outcome}
 use Rattle.kernel_core.specs.Step.{with_regs}
 use Rattle.kernel_core.specs.declared.thread.Thread.{Thread}
 use Rattle.lwc_base.specs.World.{is_live}
@@ -53,7 +53,7 @@ abbrev pub left_of : Traps → Guards → ℕ → Environment → Option Serve �
     Option AfterStep × Guards
 left_of traps guards t e serve text x status.Running =
     let left = left_running traps guards t e x (advanced text x.regs) in
-    (Some (only serve (counted (x.budget - 1) left.outcome)), left.guards)
+    (Some (settled t serve (counted (x.budget - 1) left.outcome)), left.guards)
 left_of traps guards t e serve text x st = (thread_outcome (calls_guarded traps guards) t e serve text x st, guards)
 
 -- what a step of the thread that was found leaves

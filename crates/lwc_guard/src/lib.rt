@@ -6,6 +6,7 @@ mod giving;
 pub mod guard;
 pub mod guarded;
 mod guards;
+pub mod laws;
 mod lines;
 pub mod numbers;
 pub mod replaying;
@@ -13,5 +14,6 @@ mod stepping;
 
 pub use guard::Guard;
 pub use guarded::Guarded;
+pub use laws::guarded_runs_give_threads_back;
 pub use numbers::{EXITED, HALTED, LW_FUEL, MOST_FUEL, NO_FUEL};
 pub use replaying::guard_replay;

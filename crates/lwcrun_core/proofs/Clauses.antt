@@ -46,6 +46,7 @@ use Rattle.lwc_names.specs.Numbered.{numbered}
 use Rattle.snapshot_host.specs.declared.finishing.Finished.{Finished}
 use Rattle.kernel_core.specs.declared.settings.Settings.{Settings}
 use Rattle.lift_law.proofs.Lifted.{runs_lifted}
+use Rattle.lwc_guard.proofs.Promised.{guarded_run}
 use Rattle.lwc_monitor.proofs.Promised.{monitored_run}
 use Rattle.lwc_debug.proofs.ScriptLines as scripts
 use Rattle.lwc_debug.specs.Scripts.{IsScript, script_at}
@@ -648,10 +649,12 @@ headline_of o (commands.Guard image schedule settings) bytes work text within kn
     let read = leads_by files (fitting_image_of settings.frames) MOST_IMAGE_BYTES image (after_guard_image schedule settings) work (bytes image) (known image (inl refl)) leads in
     let steps = leads_by files (schedule_of (threads_for read.0 settings.job) MOST_STEPS) MOST_SCHEDULE_BYTES schedule (guarded settings read.0) work (bytes schedule) (known schedule (inr (inl refl))) read.3 in
     let guest = fitting_found settings (bytes image) read.0 read.2 read.1 in
-    record {
+    let inputs = inputs_of read.0 [] settings in
+    let can = replay_opens None settings bytes (bytes image) read.0 [] within guest refl in record {
       guest = read.0;
       steps = steps.0;
       accepted = record { guest = guest; scheduled = schedule_found _ _ (bytes schedule) steps.0 steps.1; requested = refl };
+      guarded = guarded_run inputs steps.0 can within.job;
       text = taken ∙ ap (appended o.out.taken) (let P : Work → Type 0 = λ w. IsText w text in subst P (work_is work _ steps.3) is);
     }
 headline_of o (commands.Vault image vault schedule settings) bytes work text within known leads is taken =

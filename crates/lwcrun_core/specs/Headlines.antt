@@ -21,6 +21,7 @@ use Rattle.lwc_debug.specs.declared.debugging.TheConstants.{MOST_DEBUGGED_STEPS}
 use Rattle.lwc_gen.specs.Generated.{generated}
 use Rattle.lwc_gen.specs.Summary.{summary_after}
 use Rattle.lwc_io.specs.Outside.{appended}
+use Rattle.lwc_guard.specs.Promises.{IsGuardedRun}
 use Rattle.lwc_guard.specs.Reports.{guarded_text}
 use Rattle.lwc_monitor.specs.Promises.{IsMonitoredRun}
 use Rattle.lwc_monitor.specs.Reports.{monitored_text}
@@ -201,12 +202,14 @@ pub record WroteMonitored
   pub monitored : IsMonitoredRun (inputs_of guest [] settings) steps
   pub text : Wrote o (monitored_text (inputs_of guest [] settings) steps)
 
--- `guard`: the files are accepted, and the report of the steps that are kept under guards was written
+-- `guard`: the files are accepted, and the report of the steps that are kept under guards was written; these give
+-- threads back to their monitors
 pub record WroteGuarded
     (o : Outside) (bytes : List ℕ → List ℕ) (image schedule : List ℕ) (settings : Settings) : Type 0 where
   pub guest : Image
   pub steps : List ℕ
   pub accepted : IsReplay bytes image schedule None settings guest steps []
+  pub guarded : IsGuardedRun (inputs_of guest [] settings) steps
   pub text : Wrote o (guarded_text (inputs_of guest [] settings) steps)
 
 -- `vault`: the files are accepted, and the report of the steps that are kept beside the vault was written; it tells

@@ -11,6 +11,7 @@ use guest_image::{Image, read_image};
 use kernel_core::{Kernel, OpenFault, Settings};
 use lwc_base::{OutOfMemory, Requests};
 use lwc_debug::{debug, read_script};
+use lwc_guard::guard_replay;
 use lwc_monitor::monitor_replay;
 use lwc_text::{read_requests, read_schedule, read_vault, report};
 use lwc_vault::{takes_vault_slot, vault_replay};
@@ -54,7 +55,10 @@ pub fn text_over_copies(
             steps_over_copies(alloc, &image, requests, &settings, schedule)?
         }
         Ok(Line::Monitor { settings, .. }) => {
-            monitored_over_copies(alloc, &image, &settings, schedule)?
+            monitored_over_copies(alloc, &image, &settings, schedule, false)?
+        }
+        Ok(Line::Guard { settings, .. }) => {
+            monitored_over_copies(alloc, &image, &settings, schedule, true)?
         }
         Ok(Line::Vault { settings, .. }) => {
             vaulted_over_copies(alloc, &image, &case.vault, &settings, schedule)?
@@ -95,23 +99,25 @@ fn steps_over_copies(
     report(alloc, &kernel).or_else(|_| Ok(Vec::new(alloc)))
 }
 
-/// The report of the schedule's steps, in which contexts may be trapped, over a world by whole copies.
+/// The report of the schedule's steps, in which contexts may be trapped, and guarded where that is asked for, over a
+/// world by whole copies.
 fn monitored_over_copies(
     alloc: Global,
     image: &Image,
     settings: &Settings,
     schedule: &[u8],
+    guarded: bool,
 ) -> Result<Vec<u8>, AllocError>
     requires image { IsImage image.now }
     requires settings { AreRunSettings settings.now }
 {
     let fits = image.pages.len() as u32 <= settings.frames;
-    match read_schedule(alloc, schedule, image.entries.len() as u32) {
-        Ok(steps) if fits => monitor_replay::<WholeWorld>(alloc, image, &steps, settings).or_else(
-            |_| Ok(Vec::new(alloc)),
-        ),
-        _ => Ok(Vec::new(alloc)),
-    }
+    let text = match read_schedule(alloc, schedule, image.entries.len() as u32) {
+        Ok(steps) if fits && guarded => guard_replay::<WholeWorld>(alloc, image, &steps, settings),
+        Ok(steps) if fits => monitor_replay::<WholeWorld>(alloc, image, &steps, settings),
+        _ => return Ok(Vec::new(alloc)),
+    };
+    text.or_else(|_| Ok(Vec::new(alloc)))
 }
 
 /// The report of the schedule's steps beside the vault of a file, over a world by whole copies.
