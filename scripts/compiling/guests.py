@@ -3,6 +3,7 @@
 from __future__ import annotations
 
 import os
+import re
 
 from compiling.bench_tools import LIBRARY, Workshop, bytes_of
 from lwcrun_tools.checkout import GUESTS
@@ -24,6 +25,18 @@ SANDBOX = """100 * 3 = 300
 100 * 5 = 500
 refused: -10 -10 -3 -15
 the word is 42, the uid 0
+"""
+
+
+ASSERTS = """#include "lwc.h"
+#include <assert.h>
+int main(void) {
+  char what = 0;
+  lwc_read(LWC_REQUEST, &what, 1);
+  assert(what != 'a');
+  assert(what != 'b');
+  return 0;
+}
 """
 
 
@@ -53,7 +66,7 @@ def check_value(message: int) -> int:
 
 def check(shop: Workshop) -> list[str]:
     """What is wrong of them."""
-    found = [*check_serves(shop), *check_runs(shop), *check_monitor(shop), *check_signer(shop)]
+    found = [*check_serves(shop), *check_runs(shop), *check_traps(shop), *check_monitor(shop), *check_signer(shop)]
     print(f"the guests of guests/c: {len(found)} wrong", flush=True)
     return found
 
@@ -90,6 +103,17 @@ def check_runs(shop: Workshop) -> list[str]:
     if counted != ("done 0", b"count 80, pair 39 39, no store was lost\n"):
         found.append(f"two_threads.c: {counted}")
     return found
+
+
+def check_traps(shop: Workshop) -> list[str]:
+    """A trace names the line of each assert that failed, though all end alike."""
+    file = shop.write(shop.path(".c"), ASSERTS)
+    image, requests = shop.compile([file]), shop.write(shop.path(".requests"), "61\n62\n63\n")
+    report = shop.write(shop.path(".report"), shop.call([shop.program, "serve", image, requests, "--workers", "1"]))
+    words = [os.path.join(shop.tools, "trace"), image, report, "--requests", requests]
+    ends = [line for line in shop.call(words).decode().splitlines() if ": fault 1 BadPc" in line]
+    found = [re.findall(r":(\d+)> +trap, ends request (\d)", line) for line in ends]
+    return [] if found == [[("6", "0")], [("7", "1")]] else [f"traps: {ends}"]
 
 
 def console_of(report: bytes) -> str:

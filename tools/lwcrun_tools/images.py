@@ -30,6 +30,12 @@ class Image:
         """The name and the operands of an instruction; no name behind the last one."""
         return self.listing[place] if place is not None and 0 <= place < len(self.listing) else ("", [])
 
+    def trap_to(self, place: int) -> int | None:
+        """Where the code is by which tools/compile traps, if it is what jumped to this place, which has no instruction."""
+        at = -place % 2**64
+        code = [("LI", ["r0", str(at)]), ("SUB", ["r0", "r15", "r0"]), ("JR", ["r0"])]
+        return at if [self.at(at + i) for i in range(3)] == code else None
+
     def line(self, place: int) -> str:
         """An instruction as `dis` writes it."""
         name, operands = self.at(place)

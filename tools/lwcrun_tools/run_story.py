@@ -114,7 +114,12 @@ class Story:
             return Step("runs 256 private instructions and pauses", kind="pause")
         name, operands = self.image.at(stop.place)
         if not name:
-            return Step(f"finds no instruction {number(stop.place)}", kind="fault")
+            trap = self.image.trap_to(stop.place)
+            return (
+                Step(f"finds no instruction {number(stop.place)}", kind="fault")
+                if trap is None
+                else Step("traps, as a failed assert does", "trap", place=trap, kind="fault")
+            )
         if name == "SYS":
             step = self.call(turn, int(operands[0]), stop.regs)
         elif name == "HALT":

@@ -102,12 +102,19 @@ class Translator:
         elif it.opcode == CUSTOM:
             self._guest_call(it)
         elif it.opcode == SYSTEM or it.word == 0:
-            # EBREAK, ECALL and UNIMP jump to where no instruction is: fault 1.
-            self.text.add_number(SCRATCH, ZERO, -1)
-            self.text.emit("JR", f"r{SCRATCH}")
+            self._trap()
         elif it.opcode != MISC_MEM:
             # A fence takes no instruction: each load and store is one step, in the order of the program.
             self._refuse(it)
+
+    def _trap(self) -> None:
+        """EBREAK, ECALL and UNIMP: a jump to where no instruction is, fault 1. It is to 2^64 less the place of the jump,
+        by which trace names its line (Image.trap_to)."""
+        here = Label()
+        self.text.place(here)
+        self.text.load_low(SCRATCH, here)
+        self.text.three("SUB", SCRATCH, ZERO, SCRATCH)
+        self.text.emit("JR", f"r{SCRATCH}")
 
     def _refuse(self, it: Instruction) -> None:
         why = f"the instruction {it.word:08x}, which no guest has"
