@@ -1,0 +1,10 @@
+pub use Rattle.guest_image.specs.Limits
+pub use Rattle.guest_isa.specs.Instructions
+pub use Rattle.kernel_core.specs.Kernel
+pub use Rattle.kernel_core.specs.Machine
+pub use Rattle.kernel_core.specs.Runs
+pub use Rattle.kernel_core.specs.Start
+pub mod Pages
+pub mod Served
+pub mod Sessions
+pub mod At
